@@ -1,0 +1,94 @@
+-- Numbers in parts of a text, and texts that are made of numbers.
+use Rattle.std.proofs.Common.{◌≡◌, ℕ, zero, suc, ◌+◌, ◌*◌, ◌<◌, ◌≤◌, ◌^◌, List, [], ◌∷◌, ◌++◌, length, map, take, drop, get_or, refl, sym, ap, ◌∙◌, arith, append_assoc, inl, inr}
+use Rattle.std.proofs.lemmas.List.{get_or-drop, get_or-take, get_or_past, get_or_append_left, length-append, length-take, length-drop, drop-drop, drop_at, take-append-drop, take-take, drop-take}
+use Rattle.std.proofs.lemmas.Bool.{cases_lt}
+use Rattle.std.proofs.lemmas.Nat.{le_bytes_4}
+use Rattle.std.specs.List.{range_with_len}
+use Rattle.byteorder.specs.Endian.{little_number}
+use Rattle.byte_fields.specs.Number.{number_at, four_bytes, words, word}
+
+-- ---- a number in a part of a text
+
+-- the first number of what stands from an offset on
+pub number_at-drop : (count : ℕ) (bytes : List ℕ) (offset : ℕ) → number_at count (drop offset bytes) 0 ≡ number_at count bytes offset
+unfolding number_at
+number_at-drop count bytes offset = refl
+
+-- a number of two bytes in a text that is cut off behind it
+pub number_at-take : (bytes : List ℕ) (offset len : ℕ) → 2 ≤ len → number_at 2 (take len (drop offset bytes)) 0 ≡ number_at 2 bytes offset
+unfolding number_at
+number_at-take bytes offset len long =
+    let a : get_or (take len (drop offset bytes)) 0 0 ≡ get_or (drop offset bytes) 0 0 = get_or-take len (drop offset bytes) 0 0 (omega arith) in
+    let b : get_or (take len (drop offset bytes)) 1 0 ≡ get_or (drop offset bytes) 1 0 = get_or-take len (drop offset bytes) 1 0 (omega arith) in
+    rw (a, b) refl
+
+-- what stands behind a number of two bytes doesn't change it
+pub number_at-append : (front back : List ℕ) → 2 ≤ length front → number_at 2 (front ++ back) 0 ≡ number_at 2 front 0
+unfolding number_at
+number_at-append front back long =
+    let a : get_or (front ++ back) 0 0 ≡ get_or front 0 0 = get_or_append_left front back 0 0 (omega arith) in
+    let b : get_or (front ++ back) 1 0 ≡ get_or front 1 0 = get_or_append_left front back 0 1 (omega arith) in
+    rw (a, b) refl
+
+-- ---- texts that are made of numbers of four bytes
+
+-- the bytes of a number are those that it was read from
+pub four_bytes-number_at : (bytes : List ℕ) (offset : ℕ) → ((i : ℕ) → get_or bytes i 0 < 256) → offset + 4 ≤ length bytes → four_bytes (number_at 4 bytes offset) ≡ take 4 (drop offset bytes)
+unfolding number_at four_bytes
+four_bytes-number_at bytes offset each long =
+    let t = take 4 (drop offset bytes) in
+    let fits : (i : ℕ) → get_or t i 0 < 256 = λ i. elim (cases_lt i 4) [
+      | inl lt ↦ rw (get_or-take 4 (drop offset bytes) i 0 lt, get_or-drop offset bytes i 0) (each (offset + i))
+      | inr le ↦ rw (get_or_past t i 0 (omega (arith, length-take 4 (drop offset bytes)))) (omega arith)
+    ] in
+    let b0 = get_or-take 4 (drop offset bytes) 0 0 (omega arith) in
+    let b1 = get_or-take 4 (drop offset bytes) 1 0 (omega arith) in
+    let b2 = get_or-take 4 (drop offset bytes) 2 0 (omega arith) in
+    let b3 = get_or-take 4 (drop offset bytes) 3 0 (omega arith) in
+    le_bytes_4 t _ (omega (arith, length-take 4 (drop offset bytes), length-drop offset bytes)) fits (omega (arith, b0, b1, b2, b3))
+
+take-plus : (text : List ℕ) (m n : ℕ) → take (m + n) text ≡ take m text ++ take n (drop m text)
+take-plus text m n =
+    let a : take m (take (m + n) text) ≡ take m text = take-take m (m + n) text (omega arith) in
+    sym (take-append-drop m (take (m + n) text)) ∙ rw (a, drop-take m n text) refl
+
+-- the numbers of a text from the start-th on, spelled again
+pub words-word : (text : List ℕ) (start count : ℕ) → ((i : ℕ) → get_or text i 0 < 256) → 4 * (start + count) ≤ length text → words (map (word text) (range_with_len start count)) ≡ take (4 * count) (drop (4 * start) text)
+unfolding word
+words-word text start zero bytes long = refl
+words-word text start (suc count) bytes long =
+    let first : four_bytes (number_at 4 text (4 * start)) ≡ take 4 (drop (4 * start) text) = four_bytes-number_at text (4 * start) bytes (omega arith) in
+    let others = words-word text (start + 1) count bytes (omega arith) in
+    let here : drop 4 (drop (4 * start) text) ≡ drop (4 * (start + 1)) text = let e : 4 * start + 4 ≡ 4 * (start + 1) = omega arith in drop-drop 4 (4 * start) text ∙ ap (λ (n : ℕ). drop n text) e in
+    let all : 4 * suc count ≡ 4 + 4 * count = omega arith in
+    rw (first, others, all) (rw (take-plus (drop (4 * start) text) 4 (4 * count), here) refl)
+
+pub length-four_bytes : (n : ℕ) → length (four_bytes n) ≡ 4
+unfolding four_bytes
+length-four_bytes n = refl
+
+pub length-words : (numbers : List ℕ) → length (words numbers) ≡ 4 * length numbers
+length-words [] = omega arith
+length-words (n ∷ numbers) = length-append (four_bytes n) (words numbers) ∙ rw (length-four_bytes n, length-words numbers) (omega arith)
+
+first_number : (n : ℕ) (rest : List ℕ) → n < 2 ^ 32 → little_number 4 (four_bytes n ++ rest) ≡ n
+unfolding four_bytes
+first_number n rest small = omega arith
+
+-- a number that was spelled is read again
+pub word-words : (numbers rest : List ℕ) (k : ℕ) → k < length numbers → get_or numbers k 0 < 2 ^ 32 → word (words numbers ++ rest) k ≡ get_or numbers k 0
+unfolding word number_at
+word-words [] rest k lt small = absurd (omega arith)
+word-words (n ∷ numbers) rest zero lt small = rw (append_assoc (four_bytes n) (words numbers) rest) (first_number n (words numbers ++ rest) small)
+word-words (n ∷ numbers) rest (suc k) lt small =
+    let e : 4 * suc k ≡ 4 + 4 * k = omega arith in
+    let cut : drop (4 + 4 * k) (four_bytes n ++ (words numbers ++ rest)) ≡ drop (4 * k) (words numbers ++ rest) =
+    sym (drop-drop (4 * k) 4 (four_bytes n ++ (words numbers ++ rest))) ∙ ap (drop (4 * k)) (drop_at (four_bytes n) (words numbers ++ rest) 4 (length-four_bytes n)) in
+    rw (append_assoc (four_bytes n) (words numbers) rest, e, cut) (word-words numbers rest k (omega arith) small)
+
+-- a number of four bytes is below 2 ^ 32
+pub number_at-small : (bytes : List ℕ) (offset : ℕ) → ((i : ℕ) → get_or bytes i 0 < 256) → number_at 4 bytes offset < 2 ^ 32
+unfolding number_at
+number_at-small bytes offset each =
+    let small : (i : ℕ) → get_or (drop offset bytes) i 0 < 256 = λ i. rw (get_or-drop offset bytes i 0) (each (offset + i)) in
+    omega (arith, small 0, small 1, small 2, small 3)
