@@ -1,0 +1,115 @@
+-- The numbers of the stream directory, and where they lie in the file.
+use Rattle.std.proofs.Common.{map, add-one, [], ◌∷◌, ◌++◌, ◌≡◌, ℕ, zero, suc, ◌+◌, ◌-◌, ◌*◌, ◌/◌, ◌%◌, ◌<◌, ◌≤◌, true, List, length, get_or, refl, ap, ◌∙◌, arith, inl, inr}
+use Rattle.std.specs.List.{range_with_len}
+use Rattle.std.proofs.lemmas.List.{get_or-drop}
+use Rattle.std.proofs.lemmas.List.FromFn.{map-range_with_len_more, get_or-map-range_with_len, length-map-range_with_len}
+use Rattle.std.proofs.lemmas.Nat.{mul-le}
+use Rattle.std.proofs.lemmas.Bool.Decides.{nat_tests}
+use Rattle.byte_fields.specs.Number.{number_at, word}
+use Rattle.byte_fields.proofs.CheckLaws.{checks_below-each, check_held}
+use Rattle.msf_blocks.specs.BlockNumber.{IsBlockSize, IsOrdinary, is_ordinary, blocks_for}
+use Rattle.msf_blocks.specs.Superblock.{Fields}
+use Rattle.msf_blocks.specs.Directory.{map_number, directory_text, directory_blocks, directory_block_check, directory_block_checks, IsReadable, list_start, stream_blocks}
+use Rattle.msf_blocks.specs.declared.fault.MsfFault.TheVariants.{DirectoryBlock}
+
+-- ---- where a number lies
+
+-- the directory is as long as the superblock says
+pub text_length : (file : List ℕ) (fields : Fields) → length (directory_text file fields) ≡ fields.directory_bytes
+unfolding directory_text
+text_length file fields = length-map-range_with_len _ 0 fields.directory_bytes
+
+-- what holds of a number of the directory at each of the block sizes: its four bytes stand side by side in one block, which the block map names
+record LiesInBlock (b d j : ℕ) : Type 0 where
+  same_block : (i : ℕ) → i < 4 → ((4 * j + i) / b ≡ 4 * j / b) × ((4 * j + i) % b ≡ 4 * j % b + i)
+  below : 4 * j / b < blocks_for b d
+  inside : 4 * j % b + 4 ≤ b
+
+lies_in_block : (b d j : ℕ) → IsBlockSize b → 4 * j + 4 ≤ d → LiesInBlock b d j
+lies_in_block b d j size room = elim size [
+  | inl e ↦ rw e (record { same_block = λ i lt. (omega arith, omega arith); below = omega arith; inside = omega arith })
+  | inr (inl e) ↦ rw e (record { same_block = λ i lt. (omega arith, omega arith); below = omega arith; inside = omega arith })
+  | inr (inr (inl e)) ↦ rw e (record { same_block = λ i lt. (omega arith, omega arith); below = omega arith; inside = omega arith })
+  | inr (inr (inr e)) ↦ rw e (record { same_block = λ i lt. (omega arith, omega arith); below = omega arith; inside = omega arith })
+]
+
+-- the offset in the file of the directory's number at a position
+abbrev pub word_offset : List ℕ → Fields → ℕ → ℕ
+word_offset file fields j = map_number file fields (4 * j / fields.block_size) * fields.block_size + 4 * j % fields.block_size
+
+byte_at : (file : List ℕ) (fields : Fields) (j i : ℕ) → IsBlockSize fields.block_size → i < 4 → 4 * j + 4 ≤ fields.directory_bytes
+    → get_or (directory_text file fields) (4 * j + i) 0 ≡ get_or file (word_offset file fields j + i) 0
+unfolding directory_text
+byte_at file fields j i size lt room =
+    let p = (lies_in_block fields.block_size fields.directory_bytes j size room).same_block i lt in
+    get_or-map-range_with_len _ 0 fields.directory_bytes (4 * j + i) (4 * j + i) 0 (omega arith) (omega arith)
+    ∙ rw (p.0, p.1) (ap (λ (n : ℕ). get_or file n 0) (omega arith))
+
+-- a number of the directory is the number in the file at its offset
+pub word_is : (file : List ℕ) (fields : Fields) (j : ℕ) → IsBlockSize fields.block_size → 4 * j + 4 ≤ length (directory_text file fields)
+    → word (directory_text file fields) j ≡ number_at 4 file (word_offset file fields j)
+unfolding word number_at
+word_is file fields j size room =
+    let fits : 4 * j + 4 ≤ fields.directory_bytes = omega (arith, text_length file fields) in
+    let b0 = byte_at file fields j 0 size (omega arith) fits in
+    let b1 = byte_at file fields j 1 size (omega arith) fits in
+    let b2 = byte_at file fields j 2 size (omega arith) fits in
+    let b3 = byte_at file fields j 3 size (omega arith) fits in
+    simp get_or-drop (rw (b0, b1, b2, b3) refl)
+
+-- the block map names a block for it
+pub word_block : (file : List ℕ) (fields : Fields) (j : ℕ) → IsBlockSize fields.block_size → 4 * j + 4 ≤ length (directory_text file fields) → 4 * j / fields.block_size < directory_blocks fields
+word_block file fields j size room = (lies_in_block fields.block_size fields.directory_bytes j size (omega (arith, text_length file fields))).below
+
+-- the blocks that the block map names are ordinary ones
+pub map_is_ordinary : (file : List ℕ) (fields : Fields) (k : ℕ) → IsReadable file fields → k < directory_blocks fields → IsOrdinary fields.num_blocks (map_number file fields k)
+unfolding directory_block_checks
+map_is_ordinary file fields k readable lt =
+    let block = map_number file fields k in
+    let e : is_ordinary fields.num_blocks block ≡ true = check_held (is_ordinary fields.num_blocks block) (DirectoryBlock k block) (checks_below-each (directory_block_check file fields) (directory_blocks fields) k readable.blocks lt) in
+    (grind (arith, nat_tests), grind (arith, nat_tests))
+
+-- the number's four bytes lie in the file
+pub word_fits : (file : List ℕ) (fields : Fields) (j : ℕ) → IsBlockSize fields.block_size → IsReadable file fields → 4 * j + 4 ≤ length (directory_text file fields)
+    → word_offset file fields j + 4 ≤ length file
+word_fits file fields j size readable room =
+    let b = lies_in_block fields.block_size fields.directory_bytes j size (omega (arith, text_length file fields)) in
+    let o = map_is_ordinary file fields (4 * j / fields.block_size) readable b.below in
+    let m : (map_number file fields (4 * j / fields.block_size) + 1) * fields.block_size ≤ fields.num_blocks * fields.block_size = mul-le _ _ _ _ (omega (arith, o.1)) (omega arith) in
+    omega (arith, b.inside, m, readable.whole)
+
+-- ---- where the lists of the streams stand
+
+list_start-add : (b : ℕ) (text : List ℕ) (t k : ℕ) → list_start b text t ≤ list_start b text (k + t)
+unfolding list_start
+list_start-add b text t zero = let e : 0 + t ≡ t = omega arith in rw e (omega arith)
+list_start-add b text t (suc k) = let e : suc k + t ≡ suc (k + t) = omega arith in rw e (omega (arith, list_start-add b text t k))
+
+-- the first list stands behind the count and the sizes
+pub list_start_zero : (b : ℕ) (text : List ℕ) → list_start b text 0 ≡ 1 + word text 0
+unfolding list_start
+list_start_zero b text = refl
+
+-- the next list stands behind this one
+pub list_start_more : (b : ℕ) (text : List ℕ) (t : ℕ) → list_start b text (t + 1) ≡ list_start b text t + stream_blocks b text t
+unfolding list_start
+list_start_more b text t = rw add-one refl
+
+-- every list stands behind the count and the sizes
+pub list_start_first : (b : ℕ) (text : List ℕ) (n : ℕ) → 1 + word text 0 ≤ list_start b text n
+list_start_first b text n =
+    let f : n ≡ n + 0 = omega arith in
+    rw f (omega (arith, list_start-add b text 0 n, list_start_zero b text))
+
+-- the list of a stream ends before those of later streams begin
+pub list_start_upto : (b : ℕ) (text : List ℕ) (t n : ℕ) → t < n → (list_start b text t + stream_blocks b text t ≤ list_start b text n) × (1 + word text 0 ≤ list_start b text t)
+list_start_upto b text t n lt =
+    let e : n ≡ (n - (t + 1)) + (t + 1) = omega arith in
+    let upto : list_start b text (t + 1) ≤ list_start b text n = rw e (list_start-add b text (t + 1) (n - (t + 1))) in
+    (omega (arith, upto, list_start_more b text t), list_start_first b text t)
+
+-- ---- lists that are made by an index
+
+-- one more
+pub map_range_more : {X : Type 0} (f : ℕ → X) (n : ℕ) → map f (range_with_len 0 (n + 1)) ≡ map f (range_with_len 0 n) ++ f n ∷ []
+map_range_more f n = map-range_with_len_more f 0 n n (omega arith)

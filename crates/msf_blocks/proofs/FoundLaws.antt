@@ -1,0 +1,187 @@
+-- A file that has a layout fails no check.
+use Rattle.std.proofs.Common.{◌≡◌, ℕ, zero, suc, ◌+◌, ◌*◌, ◌/◌, ◌%◌, ◌<◌, ◌≤◌, ◌^◌, true, List, [], ◌∷◌, ◌++◌, None, length, map, take, get_or, refl, sym, ap, ◌∙◌, arith, inl, inr}
+use Rattle.std.specs.Prelude.{nat_le, nat_eq, ◌==◌, ◌&&◌, ◌||◌}
+use Rattle.std.specs.List.{flat_map, starts_with}
+use Rattle.std.proofs.Math.Seq.{take-suc}
+use Rattle.std.proofs.lemmas.Grind.{flat_map-append}
+use Rattle.std.proofs.lemmas.Bool.Decides.{nat_tests}
+use Rattle.std.proofs.lemmas.List.{append-nil, take_all, length-append, length-map, get_or-map, get_or_append_left, get_or-append-add}
+use Rattle.std.proofs.lemmas.List.Concat.{get_or-flat_map}
+use Rattle.std.proofs.lemmas.List.Folds.{length-flat_map-take}
+use Rattle.std.proofs.lemmas.List.Elements.{All-get_or}
+use Rattle.byte_fields.specs.Number.{number_at, word, words}
+use Rattle.byte_fields.specs.Check.{first_failing, checks_below}
+use Rattle.byte_fields.proofs.NumberLaws.{word-words, length-words, number_at-small}
+use Rattle.byte_fields.proofs.CheckLaws.{checks_below-all, check_holds}
+use Rattle.msf_blocks.specs.BlockNumber.{IsBlockSize, is_block_size, IsOrdinary, is_ordinary, blocks_for}
+use Rattle.msf_blocks.specs.Superblock.{Fields, IsSuperblock, fields_of, superblock_checks, magic}
+use Rattle.msf_blocks.specs.Directory.{Listed, IsListed, IsDirectory, ListsStreams, directory_blocks, map_number, directory_block_check, directory_block_checks, length_checks, stream_checks, stream_block_check, stream_blocks, list_start}
+use Rattle.msf_blocks.specs.Layout.{LayoutView, HasLayout, layout_checks}
+use Rattle.msf_blocks.specs.declared.fault.MsfFault.TheVariants.{DirectoryBlock, StreamBlock}
+use Rattle.msf_blocks.proofs.SuperblockLaws.{starts_with_magic}
+use Rattle.msf_blocks.proofs.DirectoryLaws.{text_length, list_start_zero, list_start_more}
+use Rattle.msf_blocks.proofs.LayoutLaws.{stream_answer}
+
+-- what stands for a stream where a list has none
+no_stream : Listed
+no_stream = record { size = 0; blocks = [] }
+
+-- a superblock's fields are the numbers that stand in the file
+pub fields_are : (file : List ℕ) (fields : Fields) → IsSuperblock file fields → fields ≡ fields_of file
+fields_are file fields s =
+    rw (s.block_size_is, s.free_map_block_is, s.num_blocks_is, s.directory_bytes_is, s.unknown_is, s.block_map_addr_is) refl
+
+-- a text with a list of streams
+record IsText (fields : Fields) (text : List ℕ) (streams : List Listed) : Type 0 where
+  lists : ListsStreams fields text streams
+  short : length text < 2 ^ 32
+  few_blocks : fields.num_blocks < 2 ^ 32
+
+section_len : (fields : Fields) (text : List ℕ) (streams : List Listed) (h : ListsStreams fields text streams) → length text ≡ 4 * (1 + (length streams + length (flat_map (λ s. s.blocks) streams))) + length h.rest
+section_len fields text streams h =
+    let numbers = length streams ∷ map (λ s. s.size) streams ++ flat_map (λ s. s.blocks) streams in
+    ap length h.parts ∙ length-append (words numbers) h.rest
+    ∙ rw (length-words numbers) (omega (arith, length-append (map (λ (s : Listed). s.size) streams) (flat_map (λ s. s.blocks) streams), length-map streams (λ (s : Listed). s.size)))
+
+-- the count stands first
+count_is : (fields : Fields) (text : List ℕ) (streams : List Listed) → IsText fields text streams → word text 0 ≡ length streams
+count_is fields text streams h =
+    let numbers = length streams ∷ map (λ s. s.size) streams ++ flat_map (λ s. s.blocks) streams in
+    ap (λ (t : List ℕ). word t 0) h.lists.parts
+    ∙ word-words numbers h.lists.rest 0 (omega arith) (omega (arith, h.short, section_len fields text streams h.lists))
+
+-- then the sizes
+size_is : (fields : Fields) (text : List ℕ) (streams : List Listed) (t : ℕ) → IsText fields text streams → t < length streams → word text (1 + t) ≡ (get_or streams t no_stream).size
+size_is fields text streams t h lt =
+    let sizes = map (λ (s : Listed). s.size) streams in
+    let blocks = flat_map (λ (s : Listed). s.blocks) streams in
+    let numbers = length streams ∷ sizes ++ blocks in
+    let counted : length sizes ≡ length streams = length-map streams (λ (s : Listed). s.size) in
+    let one : 1 + t ≡ suc t = omega arith in
+    let here : get_or numbers (1 + t) 0 ≡ (get_or streams t no_stream).size =
+    rw one (get_or_append_left sizes blocks 0 t (omega (arith, counted)) ∙ get_or-map (λ (s : Listed). s.size) streams t no_stream 0 lt) in
+    let small : (get_or streams t no_stream).size < 2 ^ 32 = (All-get_or (IsListed fields) streams t no_stream lt h.lists.each).short in
+    ap (λ (x : List ℕ). word x (1 + t)) h.lists.parts
+    ∙ word-words numbers h.lists.rest (1 + t) (omega (arith, length-append sizes blocks, counted)) (rw here small) ∙ here
+
+-- then the lists: the k-th number of that of the t-th stream
+list_is : (fields : Fields) (text : List ℕ) (streams : List Listed) (t k : ℕ) → IsText fields text streams → t < length streams → k < length (get_or streams t no_stream).blocks
+    → word text (1 + length streams + length (flat_map (λ s. s.blocks) (take t streams)) + k) ≡ get_or (get_or streams t no_stream).blocks k 0
+list_is fields text streams t k h lt below =
+    let sizes = map (λ (s : Listed). s.size) streams in
+    let blocks_of = λ (s : Listed). s.blocks in
+    let blocks = flat_map blocks_of streams in
+    let numbers = length streams ∷ sizes ++ blocks in
+    let counted : length sizes ≡ length streams = length-map streams (λ (s : Listed). s.size) in
+    let start = length (flat_map blocks_of (take t streams)) in
+    let at = 1 + length streams + start + k in
+    let within : start + length (get_or streams t no_stream).blocks ≤ length blocks = length-flat_map-take blocks_of streams t no_stream lt in
+    let is : at ≡ suc (length sizes + (start + k)) = omega (arith, counted) in
+    let here : get_or numbers at 0 ≡ get_or (get_or streams t no_stream).blocks k 0 =
+    rw is (get_or-append-add sizes blocks (start + k) 0 ∙ get_or-flat_map blocks_of streams t k no_stream 0 lt below) in
+    let o : IsOrdinary fields.num_blocks (get_or (get_or streams t no_stream).blocks k 0) = All-get_or (IsOrdinary fields.num_blocks) (get_or streams t no_stream).blocks k 0 below (All-get_or (IsListed fields) streams t no_stream lt h.lists.each).ordinary in
+    let small : get_or (get_or streams t no_stream).blocks k 0 < 2 ^ 32 = omega (arith, o.1, h.few_blocks) in
+    ap (λ (x : List ℕ). word x at) h.lists.parts
+    ∙ word-words numbers h.lists.rest at (omega (arith, length-append sizes blocks, counted, within)) (rw here small) ∙ here
+
+-- a stream has as many blocks as its list has numbers
+blocks_is : (fields : Fields) (text : List ℕ) (streams : List Listed) (t : ℕ) → IsText fields text streams → t < length streams → stream_blocks fields.block_size text t ≡ length (get_or streams t no_stream).blocks
+unfolding stream_blocks
+blocks_is fields text streams t h lt =
+    rw (size_is fields text streams t h lt) (sym (All-get_or (IsListed fields) streams t no_stream lt h.lists.each).count)
+
+-- a list begins behind the count, the sizes and the lists before it
+start_is : (fields : Fields) (text : List ℕ) (streams : List Listed) (t : ℕ) → IsText fields text streams → t ≤ length streams
+    → list_start fields.block_size text t ≡ 1 + length streams + length (flat_map (λ s. s.blocks) (take t streams))
+start_is fields text streams zero h le = omega (arith, list_start_zero fields.block_size text, count_is fields text streams h)
+start_is fields text streams (suc t) h le =
+    let blocks_of = λ (s : Listed). s.blocks in
+    let this = get_or streams t no_stream in
+    let one : suc t ≡ t + 1 = omega arith in
+    let more : flat_map blocks_of (take (suc t) streams) ≡ flat_map blocks_of (take t streams) ++ this.blocks =
+    ap (flat_map blocks_of) (take-suc streams t no_stream (omega arith)) ∙ flat_map-append blocks_of (take t streams) (this ∷ []) ∙ ap (λ (x : List ℕ). flat_map blocks_of (take t streams) ++ x) (append-nil this.blocks) in
+    let len : length (flat_map blocks_of (take (suc t) streams)) ≡ length (flat_map blocks_of (take t streams)) + length this.blocks =
+    ap length more ∙ length-append (flat_map blocks_of (take t streams)) this.blocks in
+    let next : list_start fields.block_size text (suc t) ≡ list_start fields.block_size text t + stream_blocks fields.block_size text t = rw one (list_start_more fields.block_size text t) in
+    omega (arith, next, start_is fields text streams t h (omega arith), blocks_is fields text streams t h (omega arith), len)
+
+-- the checks of a stream hold
+stream_holds : (fields : Fields) (text : List ℕ) (streams : List Listed) (t : ℕ) → IsText fields text streams → t < length streams → first_failing (stream_checks fields text t) ≡ None
+unfolding stream_checks
+stream_holds fields text streams t h lt =
+    let b = fields.block_size in
+    let this = get_or streams t no_stream in
+    checks_below-all (stream_block_check fields text t) (stream_blocks b text t) (λ k below.
+    let inside : k < length this.blocks = omega (arith, below, blocks_is fields text streams t h lt) in
+    let block = word text (list_start b text t + k) in
+    let is : block ≡ get_or this.blocks k 0 = rw (start_is fields text streams t h (omega arith)) (list_is fields text streams t k h lt inside) in
+    let o : IsOrdinary fields.num_blocks (get_or this.blocks k 0) = All-get_or (IsOrdinary fields.num_blocks) this.blocks k 0 inside (All-get_or (IsListed fields) streams t no_stream lt h.lists.each).ordinary in
+    let ordinary : IsOrdinary fields.num_blocks block = rw is o in
+    check_holds (is_ordinary fields.num_blocks block) (StreamBlock t k block) (grind (arith, nat_tests)))
+
+-- the checks of the directory's length hold
+length_holds : (fields : Fields) (text : List ℕ) (streams : List Listed) → IsText fields text streams → first_failing (length_checks fields.block_size text) ≡ None
+unfolding length_checks
+length_holds fields text streams h =
+    let n = length streams in
+    let long = section_len fields text streams h.lists in
+    let whole : take n streams ≡ streams = take_all n streams (omega arith) in
+    let count = count_is fields text streams h in
+    let end : list_start fields.block_size text n ≡ 1 + n + length (flat_map (λ s. s.blocks) streams) =
+    start_is fields text streams n h (omega arith) ∙ rw whole refl in
+    let a : nat_le 4 (length text) ≡ true = grind (arith, nat_tests) in
+    let b : nat_le (4 + 4 * word text 0) (length text) ≡ true = grind (arith, nat_tests) in
+    let c : nat_le (4 * list_start fields.block_size text (word text 0)) (length text) ≡ true = rw count (grind (arith, nat_tests)) in
+    rw (a, b, c) refl
+
+-- the checks of the directory's blocks hold
+blocks_hold : (file : List ℕ) (fields : Fields) (text : List ℕ) → IsDirectory file fields text → first_failing (directory_block_checks file fields) ≡ None
+unfolding directory_block_checks
+blocks_hold file fields text h =
+    checks_below-all (directory_block_check file fields) (directory_blocks fields) (λ k below.
+    let block = map_number file fields k in
+    let o : IsOrdinary fields.num_blocks block = h.ordinary k below in
+    check_holds (is_ordinary fields.num_blocks block) (DirectoryBlock k block) (grind (arith, nat_tests)))
+
+-- a directory is shorter than 2 ^ 32 bytes, since one block lists its blocks
+directory_short : (b d : ℕ) → IsBlockSize b → blocks_for b d ≤ b / 4 → d < 2 ^ 32
+directory_short b d size fits = elim size [
+  | inl e ↦ let f = rw e at fits in omega (arith, f)
+  | inr (inl e) ↦ let f = rw e at fits in omega (arith, f)
+  | inr (inr (inl e)) ↦ let f = rw e at fits in omega (arith, f)
+  | inr (inr (inr e)) ↦ let f = rw e at fits in omega (arith, f)
+]
+
+-- the checks of a superblock hold
+superblock_holds : (file : List ℕ) (fields : Fields) → IsSuperblock file fields → first_failing (superblock_checks file) ≡ None
+unfolding superblock_checks
+superblock_holds file fields s =
+    let f = s.fit in
+    let m : starts_with nat_eq file magic ≡ true = starts_with_magic file s.magical in
+    let a : nat_le 56 (length file) ≡ true = grind (arith, nat_tests, s.long) in
+    let b : is_block_size (number_at 4 file 32) ≡ true = rw s.block_size_is (grind (arith, nat_tests, f.block_size_fits)) in
+    let c : (number_at 4 file 36 == 1 || number_at 4 file 36 == 2) ≡ true = rw s.free_map_block_is (grind (arith, nat_tests, f.free_map_block_fits)) in
+    let d : nat_le (number_at 4 file 40 * number_at 4 file 32) (length file) ≡ true = rw (s.num_blocks_is, s.block_size_is) (grind (arith, nat_tests, s.whole)) in
+    let e : (number_at 4 file 44 % 4 == 0 && nat_le (blocks_for (number_at 4 file 32) (number_at 4 file 44)) (number_at 4 file 32 / 4)) ≡ true =
+    rw (s.directory_bytes_is, s.block_size_is) (grind (arith, nat_tests, f.directory_words, f.directory_fits)) in
+    let g : is_ordinary (number_at 4 file 40) (number_at 4 file 52) ≡ true = rw (s.num_blocks_is, s.block_map_addr_is) (grind (arith, nat_tests, f.block_map_fits.0, f.block_map_fits.1)) in
+    rw (a, m, b, c, d, e, g) refl
+
+-- a file that has a layout fails no check
+pub layout_holds : (file : List ℕ) (layout : LayoutView) → ((i : ℕ) → get_or file i 0 < 256) → HasLayout file layout → first_failing (layout_checks file) ≡ None
+layout_holds file layout bytes h =
+    let fields = layout.superblock in
+    let is = fields_are file fields h.superblock in
+    let fit = h.superblock.fit in
+    let long : length h.text ≡ fields.directory_bytes = ap length h.directory.text_is ∙ text_length file fields in
+    let t : IsText fields h.text layout.streams = record {
+      lists = h.lists;
+      short = omega (arith, long, directory_short fields.block_size fields.directory_bytes fit.block_size_fits fit.directory_fits);
+      few_blocks = rw (← h.superblock.num_blocks_is) (number_at-small file 40 bytes);
+    } in
+    let blocks = blocks_hold file fields h.text h.directory in
+    let streams : first_failing (checks_below (length layout.streams) (stream_checks fields h.text)) ≡ None =
+    checks_below-all (stream_checks fields h.text) (length layout.streams) (λ k lt. stream_holds fields h.text layout.streams k t lt) in
+    stream_answer file fields h.text (length layout.streams) is h.directory.text_is (superblock_holds file fields h.superblock) blocks (length_holds fields h.text layout.streams t)
+    (sym (count_is fields h.text layout.streams t))
+    ∙ streams

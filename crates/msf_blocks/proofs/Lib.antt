@@ -1,0 +1,6 @@
+pub mod SuperblockLaws
+pub mod DirectoryLaws
+pub mod LayoutLaws
+pub mod ListsLaws
+pub mod FoundLaws
+pub mod SinkLaws

@@ -1,0 +1,145 @@
+-- The directory as a text that lists streams: what is read from it is what it lists, and what lists streams is never refused.
+use Rattle.std.proofs.Common.{◌≡◌, ℕ, zero, suc, ◌+◌, ◌*◌, ◌/◌, ◌%◌, ◌<◌, ◌≤◌, true, List, [], ◌∷◌, ◌++◌, None, length, map, take, drop, get_or, refl, sym, ap, ◌∙◌, subst, arith, inl, inr}
+use Rattle.std.specs.List.{range_with_len, flat_map}
+use Rattle.std.proofs.lemmas.Bool.{cases_lt}
+use Rattle.std.proofs.lemmas.Bool.Decides.{nat_tests}
+use Rattle.std.proofs.lemmas.Grind.{flat_map-append}
+use Rattle.std.proofs.lemmas.List.{append-nil, take-append-drop, get_or_past}
+use Rattle.std.proofs.lemmas.List.FromFn.{get_or-map-range_with_len, length-map-range_with_len}
+use Rattle.std.proofs.lemmas.List.Elements.{All-from_get_or}
+use Rattle.byte_fields.specs.Number.{word, words}
+use Rattle.byte_fields.specs.Check.{first_failing, checks_below}
+use Rattle.byte_fields.proofs.NumberLaws.{words-word, number_at-small}
+use Rattle.byte_fields.proofs.CheckLaws.{checks_below-each, check_held}
+use Rattle.msf_blocks.specs.BlockNumber.{IsOrdinary, is_ordinary}
+use Rattle.msf_blocks.specs.Superblock.{Fields, IsSuperblock, fields_of}
+use Rattle.msf_blocks.specs.Directory.{Listed, IsListed, ListsStreams, directory_text, map_number, stream_checks, stream_block_check, stream_blocks, list_start, listed_at, listed_below}
+use Rattle.msf_blocks.specs.Layout.{HasLayout, IsLayout, layout_checks}
+use Rattle.msf_blocks.specs.declared.fault.MsfFault.TheVariants.{StreamBlock}
+use Rattle.msf_blocks.proofs.DirectoryLaws.{map_range_more, map_is_ordinary, list_start_zero, list_start_more}
+use Rattle.msf_blocks.proofs.LayoutLaws.{layout_parts}
+
+-- ---- what is read is what the text lists
+
+range_split : {X : Type 0} (f : ℕ → X) (a m n : ℕ) → map f (range_with_len a (m + n)) ≡ map f (range_with_len a m) ++ map f (range_with_len (a + m) n)
+range_split {X = X} f a zero n = let e : 0 + n ≡ n = omega arith in let g : a + 0 ≡ a = omega arith in rw (e, g) refl
+range_split {X = X} f a (suc m) n =
+    let e : suc m + n ≡ suc (m + n) = omega arith in
+    let g : a + suc m ≡ (a + 1) + m = omega arith in
+    rw (e, g) (ap (λ (xs : List X). f a ∷ xs) (range_split f (a + 1) m n))
+
+shifted : (f : ℕ → ℕ) (a c n : ℕ) → map (λ k. f (a + k)) (range_with_len c n) ≡ map f (range_with_len (a + c) n)
+shifted f a c zero = refl
+shifted f a c (suc n) = let e : a + (c + 1) ≡ a + c + 1 = omega arith in ap (λ (xs : List ℕ). f (a + c) ∷ xs) (shifted f a (c + 1) n ∙ rw e refl)
+
+sizes_from : (b : ℕ) (text : List ℕ) (a n : ℕ) → map (λ s. s.size) (map (listed_at b text) (range_with_len a n)) ≡ map (word text) (range_with_len (1 + a) n)
+unfolding listed_at
+sizes_from b text a zero = refl
+sizes_from b text a (suc n) = let e : 1 + (a + 1) ≡ 1 + a + 1 = omega arith in ap (λ (xs : List ℕ). word text (1 + a) ∷ xs) (sizes_from b text (a + 1) n ∙ rw e refl)
+
+-- the lists of the first n streams are the numbers behind the sizes, up to where the next list begins
+lists_are : (b : ℕ) (text : List ℕ) (n : ℕ) → (extra : ℕ) × (list_start b text n ≡ (1 + word text 0) + extra) × (flat_map (λ s. s.blocks) (listed_below b text n) ≡ map (word text) (range_with_len (1 + word text 0) extra))
+unfolding listed_at
+lists_are b text zero = (0, omega (arith, list_start_zero b text), refl)
+lists_are b text (suc n) =
+    let before = lists_are b text n in
+    let c = stream_blocks b text n in
+    let one : suc n ≡ n + 1 = omega arith in
+    let zeros : list_start b text n + 0 ≡ (1 + word text 0) + before.0 = omega (arith, before.1) in
+    let next : (listed_at b text n).blocks ≡ map (word text) (range_with_len ((1 + word text 0) + before.0) c) = shifted (word text) (list_start b text n) 0 c ∙ rw zeros refl in
+    let single : flat_map (λ s. s.blocks) (listed_at b text n ∷ []) ≡ (listed_at b text n).blocks = append-nil (listed_at b text n).blocks in
+    let both : flat_map (λ s. s.blocks) (listed_below b text (n + 1)) ≡ map (word text) (range_with_len (1 + word text 0) (before.0 + c)) =
+    ap (flat_map (λ s. s.blocks)) (map_range_more (listed_at b text) n) ∙ flat_map-append (λ s. s.blocks) (listed_below b text n) (listed_at b text n ∷ [])
+    ∙ rw (before.2, single, next) (sym (range_split (word text) (1 + word text 0) before.0 c)) in (
+      before.0 + c,
+      rw one (omega (arith, list_start_more b text n, before.1)),
+      subst (λ (m : ℕ). flat_map (λ s. s.blocks) (listed_below b text m) ≡ map (word text) (range_with_len (1 + word text 0) (before.0 + c))) (sym one) both,
+    )
+
+-- the text is the words of what was read, and any rest
+listing : (b : ℕ) (text : List ℕ) → ((i : ℕ) → get_or text i 0 < 256) → 4 * list_start b text (word text 0) ≤ length text
+    → let streams = listed_below b text (word text 0) in
+    (rest : List ℕ) × (text ≡ words (length streams ∷ map (λ s. s.size) streams ++ flat_map (λ s. s.blocks) streams) ++ rest)
+listing b text bytes long =
+    let n = word text 0 in
+    let lists = lists_are b text n in
+    let streams = listed_below b text n in
+    let sizes : map (λ s. s.size) streams ≡ map (word text) (range_with_len 1 n) = sizes_from b text 0 n in
+    let all = n ∷ map (λ s. s.size) streams ++ flat_map (λ s. s.blocks) streams in
+    let numbers : all ≡ map (word text) (range_with_len 0 (1 + (n + lists.0))) =
+    rw (sizes, lists.2) (sym (range_split (word text) 0 1 (n + lists.0) ∙ ap (λ (xs : List ℕ). n ∷ xs) (range_split (word text) 1 n lists.0))) in
+    let counted : length streams ≡ n = length-map-range_with_len (listed_at b text) 0 n in
+    let front : words all ≡ take (4 * (1 + (n + lists.0))) text = ap words numbers ∙ words-word text 0 (1 + (n + lists.0)) bytes (omega (arith, lists.1)) in
+    (drop (4 * (1 + (n + lists.0))) text, sym (rw counted (ap (λ (xs : List ℕ). xs ++ drop (4 * (1 + (n + lists.0))) text) front ∙ take-append-drop (4 * (1 + (n + lists.0))) text)))
+
+-- a stream whose checks hold
+listed_holds : (fields : Fields) (text : List ℕ) (t : ℕ) → ((i : ℕ) → get_or text i 0 < 256) → first_failing (stream_checks fields text t) ≡ None → IsListed fields (listed_at fields.block_size text t)
+unfolding stream_checks stream_blocks listed_at word
+listed_holds fields text t bytes held =
+    let b = fields.block_size in
+    let count = stream_blocks b text t in
+    let number = λ (k : ℕ). word text (list_start b text t + k) in
+    record {
+      short = number_at-small text (4 * (1 + t)) bytes;
+      count = length-map-range_with_len number 0 count;
+      ordinary = All-from_get_or (IsOrdinary fields.num_blocks) (map number (range_with_len 0 count)) 0 (λ k lt.
+          let below : k < count = omega (arith, lt, length-map-range_with_len number 0 count) in
+          let e : is_ordinary fields.num_blocks (number k) ≡ true = check_held (is_ordinary fields.num_blocks (number k)) (StreamBlock t k (number k)) (checks_below-each (stream_block_check fields text t) count k held below) in
+          let o : IsOrdinary fields.num_blocks (number k) = (grind (arith, nat_tests), grind (arith, nat_tests)) in
+          let at : get_or (map number (range_with_len 0 count)) k 0 ≡ number k = get_or-map-range_with_len number 0 count k k 0 below (omega arith) in
+          rw at o);
+    }
+
+-- a directory whose checks hold lists the streams that are read from it
+pub lists_what_is_read : (fields : Fields) (text : List ℕ) → ((i : ℕ) → get_or text i 0 < 256) → 4 * list_start fields.block_size text (word text 0) ≤ length text
+    → first_failing (checks_below (word text 0) (stream_checks fields text)) ≡ None → ListsStreams fields text (listed_below fields.block_size text (word text 0))
+lists_what_is_read fields text bytes long held =
+    let b = fields.block_size in
+    let n = word text 0 in
+    let list = listing b text bytes long in
+    let count : length (listed_below b text n) ≡ n = length-map-range_with_len (listed_at b text) 0 n in
+    record {
+      rest = list.0;
+      parts = list.1;
+      each = All-from_get_or (IsListed fields) (listed_below b text n) (listed_at b text 0) (λ t lt.
+          let below : t < n = omega (arith, lt, count) in
+          let at : get_or (listed_below b text n) t (listed_at b text 0) ≡ listed_at b text t = get_or-map-range_with_len (listed_at b text) 0 n t t (listed_at b text 0) below (omega arith) in
+          rw at (listed_holds fields text t bytes (checks_below-each (stream_checks fields text) n t held below)));
+    }
+
+-- the bytes of the directory are bytes of the file
+pub text_bytes : (file : List ℕ) (fields : Fields) → ((i : ℕ) → get_or file i 0 < 256) → (i : ℕ) → get_or (directory_text file fields) i 0 < 256
+unfolding directory_text
+text_bytes file fields each i =
+    let byte = λ (i : ℕ). get_or file (map_number file fields (i / fields.block_size) * fields.block_size + i % fields.block_size) 0 in
+    elim (cases_lt i fields.directory_bytes) [
+      | inl lt ↦ rw (get_or-map-range_with_len byte 0 fields.directory_bytes i i 0 lt (omega arith)) (each (map_number file fields (i / fields.block_size) * fields.block_size + i % fields.block_size))
+      | inr le ↦ rw (get_or_past (map byte (range_with_len 0 fields.directory_bytes)) i 0 (omega (arith, length-map-range_with_len byte 0 fields.directory_bytes))) (omega arith)
+    ]
+
+-- what was read of a file whose checks hold is its layout
+pub layout_is : (file : List ℕ) (fields : Fields) (text : List ℕ) (n : ℕ) (streams : List Listed) → ((i : ℕ) → get_or file i 0 < 256) → IsSuperblock file fields → fields ≡ fields_of file → text ≡ directory_text file fields
+    → n ≡ word text 0 → 4 * list_start fields.block_size text n ≤ length text → first_failing (layout_checks file) ≡ None → streams ≡ listed_below fields.block_size text n
+    → HasLayout file (record { superblock = fields; streams = streams })
+layout_is file fields text n streams bytes super is text_is count room held read =
+    let parts = layout_parts file fields is held in
+    let small : (i : ℕ) → get_or text i 0 < 256 = rw text_is (text_bytes file fields bytes) in
+    let streams_hold : first_failing (checks_below (word text 0) (stream_checks fields text)) ≡ None = rw text_is parts.1 in
+    record {
+      superblock = super;
+      text = text;
+      directory = record {
+        ordinary = λ k lt. map_is_ordinary file fields k (record { whole = super.whole; blocks = parts.0 }) lt;
+        text_is = text_is;
+      };
+      lists = rw (read, count) (lists_what_is_read fields text small (rw (← count) room) streams_hold);
+    }
+
+-- and what holds of every layout holds of it
+pub layout_fits : (file : List ℕ) (fields : Fields) (text : List ℕ) (n : ℕ) (streams : List Listed) → ((i : ℕ) → get_or file i 0 < 256) → HasLayout file (record { superblock = fields; streams = streams })
+    → text ≡ directory_text file fields → n ≡ word text 0 → streams ≡ listed_below fields.block_size text n → IsLayout (record { superblock = fields; streams = streams })
+unfolding word
+layout_fits file fields text n streams bytes h text_is count read =
+    let small : (i : ℕ) → get_or text i 0 < 256 = rw text_is (text_bytes file fields bytes) in
+    let long : length streams ≡ n = rw read (length-map-range_with_len (listed_at fields.block_size text) 0 n) in
+    record { few = omega (arith, long, count, number_at-small text 0 small); each = h.lists.each }

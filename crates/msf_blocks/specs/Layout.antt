@@ -1,0 +1,40 @@
+-- The layout of a container: its superblock, and its streams as the directory lists them.
+use Rattle.std.specs.Prelude.{ℕ, ◌<◌, ◌^◌, ◌++◌, List, Option, Some, None, length, slice_get, All}
+use Rattle.byte_fields.specs.Number.{word}
+use Rattle.byte_fields.specs.Check.{Check, checks_below}
+use Rattle.msf_blocks.specs.Superblock.{Fields, IsSuperblock, fields_of, superblock_checks}
+use Rattle.msf_blocks.specs.Directory.{Listed, IsListed, IsDirectory, ListsStreams, directory_text, directory_block_checks, length_checks, stream_checks}
+use Rattle.msf_blocks.specs.declared.fault.MsfFault.{MsfFault}
+
+-- a layout is seen as the superblock's values and the list of streams
+pub record LayoutView : Type 0 where
+  pub superblock : Fields
+  pub streams : List Listed
+
+-- the file has this layout: it begins with the superblock, whose directory lists the streams
+pub record HasLayout (file : List ℕ) (layout : LayoutView) : Type 0 where
+  pub superblock : IsSuperblock file layout.superblock
+  pub text : List ℕ
+  pub directory : IsDirectory file layout.superblock text
+  pub lists : ListsStreams layout.superblock text layout.streams
+
+-- what holds of every layout
+pub record IsLayout (layout : LayoutView) : Type 0 where
+  pub few : length layout.streams < 2 ^ 32
+  pub each : All (IsListed layout.superblock) layout.streams
+
+-- the number at a position of the stream's list, if it is a stream
+abbrev pub block_in : Option Listed → ℕ → Option ℕ
+block_in None k = None
+block_in (Some stream) k = slice_get stream.blocks k
+
+-- the number at position k of the list of the s-th stream
+abbrev pub block_of : List Listed → ℕ → ℕ → Option ℕ
+block_of streams s k = block_in (slice_get streams s) k
+
+-- the checks of a layout: of the superblock, of the directory's blocks, of its length, of each stream's blocks
+unfoldable pub layout_checks : List ℕ → List (Check MsfFault)
+layout_checks file =
+    let fields = fields_of file in
+    let text = directory_text file fields in
+    superblock_checks file ++ (directory_block_checks file fields ++ (length_checks fields.block_size text ++ checks_below (word text 0) (stream_checks fields text)))

@@ -1,0 +1,5 @@
+pub mod BlockNumber
+pub mod Superblock
+pub mod Directory
+pub mod Layout
+pub mod Stream

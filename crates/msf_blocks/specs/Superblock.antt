@@ -1,0 +1,66 @@
+-- The superblock: the first 56 bytes of a container ("The MSF File Format", "The Superblock").
+use Rattle.std.specs.Prelude.{ℕ, ◌≡◌, ◌*◌, ◌/◌, ◌%◌, ◌≤◌, ◌⊎◌, ◌==◌, ◌&&◌, ◌||◌, nat_le, nat_eq, List, [], ◌∷◌, ◌++◌, length, take, codes}
+use Rattle.std.specs.List.{starts_with}
+use Rattle.byte_fields.specs.Number.{number_at}
+use Rattle.byte_fields.specs.Check.{Check}
+use Rattle.msf_blocks.specs.BlockNumber.{IsBlockSize, is_block_size, blocks_for, IsOrdinary, is_ordinary}
+use Rattle.msf_blocks.specs.declared.fault.MsfFault.{MsfFault}
+use Rattle.msf_blocks.specs.declared.fault.MsfFault.TheVariants.{Short, Magic, BlockSize, FreeMapBlock, FileSize, DirectorySize, BlockMapAddr}
+
+-- the 32 bytes with which every container begins
+abbrev pub magic : List ℕ
+magic = codes "Microsoft C/C++ MSF 7.00" ++ 0x0D ∷ 0x0A ∷ 0x1A ∷ 0x44 ∷ 0x53 ∷ 0 ∷ 0 ∷ 0 ∷ []
+
+-- the fields of a superblock: a size and a length in bytes, block numbers, and a count of blocks
+pub record Fields : Type 0 where
+  pub block_size : ℕ
+  pub free_map_block : ℕ
+  pub num_blocks : ℕ
+  pub directory_bytes : ℕ
+  pub unknown : ℕ
+  pub block_map_addr : ℕ
+
+-- what the fields of a superblock meet whatever the length of the file
+pub record IsFit (fields : Fields) : Type 0 where
+  pub block_size_fits : IsBlockSize fields.block_size
+  pub free_map_block_fits : (fields.free_map_block ≡ 1) ⊎ (fields.free_map_block ≡ 2)
+  pub directory_words : fields.directory_bytes % 4 ≡ 0
+  pub directory_fits : blocks_for fields.block_size fields.directory_bytes ≤ fields.block_size / 4
+  pub block_map_fits : IsOrdinary fields.num_blocks fields.block_map_addr
+
+-- the file begins with a superblock of these fields, and holds the blocks that it announces
+pub record IsSuperblock (file : List ℕ) (fields : Fields) : Type 0 where
+  pub long : 56 ≤ length file
+  pub magical : take 32 file ≡ magic
+  pub block_size_is : number_at 4 file 32 ≡ fields.block_size
+  pub free_map_block_is : number_at 4 file 36 ≡ fields.free_map_block
+  pub num_blocks_is : number_at 4 file 40 ≡ fields.num_blocks
+  pub directory_bytes_is : number_at 4 file 44 ≡ fields.directory_bytes
+  pub unknown_is : number_at 4 file 48 ≡ fields.unknown
+  pub block_map_addr_is : number_at 4 file 52 ≡ fields.block_map_addr
+  pub whole : fields.num_blocks * fields.block_size ≤ length file
+  pub fit : IsFit fields
+
+-- the numbers that stand where a superblock has its fields
+abbrev pub fields_of : List ℕ → Fields
+fields_of file = record {
+  block_size = number_at 4 file 32;
+  free_map_block = number_at 4 file 36;
+  num_blocks = number_at 4 file 40;
+  directory_bytes = number_at 4 file 44;
+  unknown = number_at 4 file 48;
+  block_map_addr = number_at 4 file 52;
+}
+
+-- the checks of a superblock, in the order of its fields
+unfoldable pub superblock_checks : List ℕ → List (Check MsfFault)
+superblock_checks file =
+    let fields = fields_of file in
+    record { holds = nat_le 56 (length file); fault = Short }
+    ∷ record { holds = starts_with nat_eq file magic; fault = Magic }
+    ∷ record { holds = is_block_size fields.block_size; fault = BlockSize fields.block_size }
+    ∷ record { holds = fields.free_map_block == 1 || fields.free_map_block == 2; fault = FreeMapBlock fields.free_map_block }
+    ∷ record { holds = nat_le (fields.num_blocks * fields.block_size) (length file); fault = FileSize (fields.num_blocks * fields.block_size) (length file) }
+    ∷ record { holds = fields.directory_bytes % 4 == 0 && nat_le (blocks_for fields.block_size fields.directory_bytes) (fields.block_size / 4); fault = DirectorySize fields.directory_bytes }
+    ∷ record { holds = is_ordinary fields.num_blocks fields.block_map_addr; fault = BlockMapAddr fields.block_map_addr }
+    ∷ []

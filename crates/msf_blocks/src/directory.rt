@@ -1,0 +1,221 @@
+//! The stream directory, read through the block map.
+
+ghost use Rattle.std.specs.Prelude.{IfOk, map, ◌^◌, ◌≡◌, ◌+◌, ◌*◌, ◌<◌, ◌≤◌, length};
+ghost use Rattle.std.specs.List.{range_with_len};
+ghost use Rattle.byte_fields.specs.Number.{word};
+ghost use Rattle.byte_fields.specs.Check.{Makes, checks_below};
+ghost use Rattle.msf_blocks.specs.Directory.{map_number, directory_blocks, directory_block_checks, directory_text, bytes_of, stream_blocks, list_start, length_checks, stream_checks};
+
+use crate::block_number::{blocks_for, is_ordinary};
+use crate::fault::MsfFault;
+use crate::superblock::Superblock;
+use byte_fields::u32_at;
+use std::alloc::{AllocError, Allocator};
+use std::marker::Model;
+
+/// The size that marks a nil stream.
+const NIL: u32 = u32::MAX;
+
+/// How many bytes a stream of this listed size has: a nil stream has none.
+pub fn bytes_of(size: u32) -> u32
+    ensures { result ≡ bytes_of size }
+{
+    if size == NIL { 0 } else { size }
+}
+
+/// A stream directory whose blocks lie in the file. Contracts see it as the superblock's values
+/// and the directory's text, though nothing here ever forms that text.
+#[derive(Drop)]
+pub struct Directory<'a> {
+    file: &'a [u8],
+    superblock: Superblock,
+}
+
+impl<'a> Model for Directory<'a> {
+    ghost use Rattle.msf_blocks.specs.Directory.{DirectoryView, IsReadable, directory_text};
+
+    ghost Value = { DirectoryView };
+
+    ghost view = { λ d. record { superblock = d.superblock; text = directory_text d.file.now d.superblock } };
+
+    ghost invariant = { λ d. IsReadable d.file.now d.superblock };
+}
+
+/// The number at a position of the block map.
+#[tactic(auto, unfolding(crate::specs::Directory::map_number))]
+fn map_number(file: &[u8], superblock: &Superblock, position: u32) -> u32
+    requires whole { superblock.now.num_blocks * superblock.now.block_size ≤ length file.now }
+    requires below { position < directory_blocks superblock.now }
+    ensures { result ≡ map_number file.now superblock.now position }
+{
+    let start = superblock.block_map_addr() as usize * superblock.block_size() as usize;
+    // The proof learns here that the block map has room for every position.
+    let _ = superblock.directory_bytes();
+    u32_at(file, start + 4 * position as usize)
+}
+
+/// Checks the numbers in the block map.
+#[tactic(auto, unfolding(crate::specs::Directory::directory_block_checks))]
+fn check_block_map(file: &[u8], superblock: &Superblock) -> Result<(), MsfFault>
+    requires { superblock.now.num_blocks * superblock.now.block_size ≤ length file.now }
+    ensures { Makes result (directory_block_checks file.now superblock.now) }
+{
+    for at in 0..blocks_for(superblock.block_size(), superblock.directory_bytes()) {
+        let n = map_number(file, superblock, at);
+        if !is_ordinary(superblock.num_blocks(), n) {
+            return Err(MsfFault::DirectoryBlock { at, n });
+        }
+    }
+    Ok(())
+}
+
+impl<'a> Directory<'a> {
+    /// Finds the directory of a file that begins with this superblock, and checks its blocks.
+    pub fn find(file: &'a [u8], superblock: Superblock) -> Result<Directory<'a>, MsfFault>
+        requires { superblock.num_blocks * superblock.block_size ≤ length file.now }
+        ensures superblock { IfOk result (λ d. d.superblock ≡ superblock) }
+        ensures text { IfOk result (λ d. d.text ≡ directory_text file.now superblock) }
+        ensures first { Makes result (directory_block_checks file.now superblock) }
+    {
+        check_block_map(file, &superblock)?;
+        Ok(Directory { file, superblock })
+    }
+
+    /// The superblock of the file.
+    #[tactic(auto, using(crate::proofs::DirectoryLaws::text_length))]
+    pub fn superblock(&self) -> Superblock
+        ensures value { result ≡ self.now.superblock }
+        ensures len { length self.now.text ≡ result.directory_bytes }
+    {
+        self.superblock
+    }
+
+    /// The number at a position of the directory, which is made of four-byte numbers.
+    #[tactic(auto, using(crate::proofs::DirectoryLaws::text_length, crate::proofs::DirectoryLaws::word_is, crate::proofs::DirectoryLaws::word_block, crate::proofs::DirectoryLaws::word_fits))]
+    pub fn word(&self, position: u32) -> u32
+        requires { 4 * position + 4 ≤ length self.now.text }
+        ensures { result ≡ word self.now.text position }
+    {
+        let block_size = self.superblock.block_size();
+        let _ = self.superblock.directory_bytes();
+        let offset = 4 * position;
+        let block = map_number(self.file, &self.superblock, offset / block_size);
+        let start = block as usize * block_size as usize;
+        // A block holds whole numbers, so that none crosses the end of one.
+        u32_at(self.file, start + (offset % block_size) as usize)
+    }
+
+    /// The listed size of a stream.
+    pub fn size(&self, stream: u32) -> u32
+        requires { 4 * (1 + stream) + 4 ≤ length self.now.text }
+        ensures { result ≡ word self.now.text (1 + stream) }
+    {
+        let _ = self.superblock();
+        self.word(1 + stream)
+    }
+
+    /// How many blocks a stream has.
+    #[tactic(auto, unfolding(crate::specs::Directory::stream_blocks))]
+    pub fn stream_blocks(&self, stream: u32) -> u32
+        requires { 4 * (1 + stream) + 4 ≤ length self.now.text }
+        ensures value { result ≡ stream_blocks self.now.superblock.block_size self.now.text stream }
+        ensures few { result ≤ 2 ^ 23 }
+    {
+        blocks_for(self.superblock().block_size(), bytes_of(self.size(stream)))
+    }
+
+    /// How many numbers there are up to the end of the last list, by the sizes of the streams.
+    #[tactic(auto, unfolding(crate::specs::Directory::list_start))]
+    fn lists_end(&self, streams: u32) -> u64
+        requires streams { streams ≡ word self.now.text 0 }
+        requires room { 4 * (1 + streams) ≤ length self.now.text }
+        ensures value { result ≡ list_start self.now.superblock.block_size self.now.text streams }
+        ensures few { result < 2 ^ 60 }
+    {
+        let mut words = 1 + u64::from(streams);
+        for stream in 0..streams {
+            words += u64::from(self.stream_blocks(stream));
+        }
+        words
+    }
+
+    /// Checks that the directory has room for all that it lists, and answers how many streams it
+    /// lists.
+    #[tactic(auto, unfolding(crate::specs::Directory::length_checks))]
+    pub fn check_length(&self) -> Result<u32, MsfFault>
+        ensures streams { IfOk result (λ n. n ≡ word self.now.text 0) }
+        ensures room { IfOk result (λ n. 4 * list_start self.now.superblock.block_size self.now.text n ≤ length self.now.text) }
+        ensures first { Makes result (length_checks self.now.superblock.block_size self.now.text) }
+    {
+        let have = u64::from(self.superblock().directory_bytes());
+        if have < 4 {
+            return Err(MsfFault::DirectoryShort { need: 4, have });
+        }
+        let streams = self.word(0);
+        let need = 4 + 4 * u64::from(streams);
+        if have < need {
+            return Err(MsfFault::DirectoryShort { need, have });
+        }
+        // In 64 bits: the sizes of hostile streams may add up to more than 32.
+        let need = 4 * self.lists_end(streams);
+        if have < need {
+            return Err(MsfFault::DirectoryShort { need, have });
+        }
+        Ok(streams)
+    }
+
+    /// Checks the blocks of a stream, whose list of so many numbers begins at position `start`.
+    #[tactic(auto, unfolding(crate::specs::Directory::stream_checks))]
+    fn check_stream(&self, stream: u32, start: u32, count: u32) -> Result<(), MsfFault>
+        requires start { start ≡ list_start self.now.superblock.block_size self.now.text stream }
+        requires count { count ≡ stream_blocks self.now.superblock.block_size self.now.text stream }
+        requires room { 4 * (start + count) ≤ length self.now.text }
+        ensures { Makes result (stream_checks self.now.superblock self.now.text stream) }
+    {
+        let num_blocks = self.superblock().num_blocks();
+        for at in 0..count {
+            let n = self.word(start + at);
+            if !is_ordinary(num_blocks, n) {
+                return Err(MsfFault::StreamBlock { stream, at, n });
+            }
+        }
+        Ok(())
+    }
+
+    /// Checks the blocks of all streams, of which there are so many.
+    #[tactic(auto, unfolding(crate::specs::Directory::list_start))]
+    pub fn check_streams(&self, streams: u32) -> Result<(), MsfFault>
+        requires streams { streams ≡ word self.now.text 0 }
+        requires room { 4 * list_start self.now.superblock.block_size self.now.text streams ≤ length self.now.text }
+        ensures { Makes result (checks_below streams (stream_checks self.now.superblock self.now.text)) }
+    {
+        let _ = self.superblock();
+        let mut start = 1 + streams;
+        for stream in 0..streams {
+            let count = self.stream_blocks(stream);
+            self.check_stream(stream, start, count)?;
+            start += count;
+        }
+        Ok(())
+    }
+
+    /// The numbers of the directory from a position on, so many of them. It reserves just their
+    /// room.
+    #[tactic(auto, using(crate::proofs::DirectoryLaws::map_range_more))]
+    pub fn numbers<A: Allocator>(
+        &self,
+        alloc: A,
+        start: u32,
+        count: u32,
+    ) -> Result<Vec<u32, A>, AllocError>
+        requires { 4 * (start + count) ≤ length self.now.text }
+        ensures { IfOk result (λ v. v.items ≡ map (λ k. word self.now.text (start + k)) (range_with_len 0 count)) }
+    {
+        let _ = self.superblock();
+        let mut numbers = Vec::with_capacity(alloc, count as usize)?;
+        for k in 0..count {
+            numbers.push(self.word(start + k))?;
+        }
+        Ok(numbers)
+    }
+}

@@ -1,0 +1,147 @@
+//! Where the streams of a container are.
+
+ghost use Rattle.std.specs.Prelude.{◌≡◌, ◌≤◌, ◌*◌, length, map, IfOk, IfErr, slice_get, option_map};
+ghost use Rattle.byte_fields.specs.Number.{word};
+ghost use Rattle.byte_fields.specs.Check.{Makes, Refuses, first_failing};
+ghost use Rattle.msf_blocks.specs.Superblock.{IsSuperblock, fields_of};
+ghost use Rattle.msf_blocks.specs.Directory.{directory_text, list_start, listed_below, bytes_of};
+ghost use Rattle.msf_blocks.specs.Layout.{LayoutView, HasLayout, IsLayout, block_of, layout_checks};
+ghost use Rattle.msf_blocks.specs.Stream.{listed_of};
+
+use crate::directory::{Directory, bytes_of};
+use crate::fault::MsfFault;
+use crate::superblock::Superblock;
+use std::alloc::{Allocator, Global};
+use std::marker::Model;
+
+/// A stream: its listed size, and the numbers of its blocks.
+#[derive(Drop)]
+struct Stream<A: Allocator> {
+    size: u32,
+    blocks: Vec<u32, A>,
+}
+
+/// Where the streams of a container are: its superblock, and for each stream a size and a list
+/// of block numbers, as the stream directory has them.
+///
+/// Returned by [`Layout::read`]. Each number in it is above 0 and below the number of blocks, and
+/// each stream has as many as its bytes need. ("The MSF File Format", "The Stream Directory".)
+#[derive(Drop)]
+pub struct Layout<A: Allocator = Global> {
+    superblock: Superblock,
+    streams: Vec<Stream<A>, A>,
+}
+
+impl<A: Allocator> Model for Layout<A> {
+    ghost use Rattle.std.specs.Prelude.{map};
+    ghost use Rattle.msf_blocks.specs.Layout.{LayoutView, IsLayout};
+    ghost use Rattle.msf_blocks.specs.Stream.{listed_of};
+
+    ghost Value = { LayoutView };
+
+    ghost view = { λ l. record { superblock = l.superblock; streams = map listed_of l.streams.items } };
+
+    ghost invariant = { λ l. IsLayout (record { superblock = l.superblock; streams = map listed_of l.streams.items }) };
+}
+
+/// Checks the layout of a file, and answers its directory and how many streams that lists. It
+/// takes no memory.
+#[tactic(auto, using(crate::proofs::LayoutLaws::superblock_fault, crate::proofs::LayoutLaws::block_fault, crate::proofs::LayoutLaws::length_fault, crate::proofs::LayoutLaws::stream_answer))]
+fn check(file: &[u8]) -> Result<(Directory<'_>, u32), MsfFault>
+    ensures found { IfOk result (λ r. IsSuperblock file.now r.0.superblock) }
+    ensures fields { IfOk result (λ r. r.0.superblock ≡ fields_of file.now) }
+    ensures text { IfOk result (λ r. r.0.text ≡ directory_text file.now r.0.superblock) }
+    ensures streams { IfOk result (λ r. r.1 ≡ word r.0.text 0) }
+    ensures room { IfOk result (λ r. 4 * list_start r.0.superblock.block_size r.0.text r.1 ≤ length r.0.text) }
+    ensures first { Makes result (layout_checks file.now) }
+{
+    let superblock = Superblock::read(file)?;
+    let directory = Directory::find(file, superblock)?;
+    let streams = directory.check_length()?;
+    directory.check_streams(streams)?;
+    Ok((directory, streams))
+}
+
+/// The streams that the directory lists.
+#[tactic(auto, using(crate::proofs::DirectoryLaws::list_start_upto, crate::proofs::DirectoryLaws::list_start_first, crate::proofs::DirectoryLaws::list_start_zero, crate::proofs::DirectoryLaws::list_start_more))]
+fn listed<A: Allocator + Copy>(
+    alloc: A,
+    directory: &Directory<'_>,
+    streams: u32,
+) -> Result<Vec<Stream<A>, A>, MsfFault>
+    requires streams { streams ≡ word directory.now.text 0 }
+    requires room { 4 * list_start directory.now.superblock.block_size directory.now.text streams ≤ length directory.now.text }
+    ensures value { IfOk result (λ v. map listed_of v.items ≡ listed_below directory.now.superblock.block_size directory.now.text streams) }
+    ensures memory { IfErr result (λ fault. fault ≡ MsfFault.Memory) }
+{
+    let _ = directory.superblock();
+    let mut listed = Vec::with_capacity(alloc, streams as usize)?;
+    let mut start = 1 + streams;
+    for stream in 0..streams {
+        let size = directory.size(stream);
+        let count = directory.stream_blocks(stream);
+        let blocks = directory.numbers(alloc, start, count)?;
+        listed.push(Stream { size, blocks })?;
+        start += count;
+    }
+    Ok(listed)
+}
+
+impl<A: Allocator + Copy> Layout<A> {
+    /// Reads the layout of a container from the bytes of its file.
+    ///
+    /// The faults come in this order: those of [`Superblock::read`]; a number in the block map of
+    /// a block that can't hold the directory; a directory too short for the number of streams, for
+    /// their sizes, or for their lists; a number in a list of a block that can't hold a stream, in
+    /// the order of the directory. Bytes of the directory after the last list are ignored. All
+    /// checks come before the first growth, so that want of memory hides no fault. It reserves
+    /// room for the numbers that the directory lists, and nothing else.
+    pub fn read(alloc: A, file: &[u8]) -> Result<Layout<A>, MsfFault>
+        ensures value { IfOk result (HasLayout file.now) }
+        ensures found { (layout : LayoutView) → HasLayout file.now layout → IfErr result (λ fault. fault ≡ MsfFault.Memory) }
+        ensures first { IfErr result (Refuses MsfFault.Memory (first_failing (layout_checks file.now))) }
+    {
+        let (directory, streams) = check(file)?;
+        let superblock = directory.superblock();
+        let streams = listed(alloc, &directory, streams)?;
+        Ok(Layout {
+            superblock,
+            streams,
+        })
+    }
+}
+
+impl<A: Allocator> Layout<A> {
+    /// The superblock.
+    pub fn superblock(&self) -> &Superblock
+        ensures { result.now ≡ self.now.superblock }
+    {
+        &self.superblock
+    }
+
+    /// How many streams there are.
+    pub fn streams(&self) -> u32
+        ensures value { result ≡ length self.now.streams }
+        ensures fits { IsLayout self.now }
+    {
+        self.streams.len() as u32
+    }
+
+    /// How long the `s`-th stream is, in bytes: 0 for a nil stream, `None` where `s` isn't a
+    /// stream.
+    pub fn size(&self, s: u32) -> Option<u32>
+        ensures { result ≡ option_map (λ l. bytes_of l.size) (slice_get self.now.streams s) }
+    {
+        let stream = self.streams.get(s as usize)?;
+        Some(bytes_of(stream.size))
+    }
+
+    /// The number of the `k`-th block of the `s`-th stream, both from 0. `None` where `s` isn't
+    /// a stream, or has no such block.
+    pub fn block(&self, s: u32, k: u32) -> Option<u32>
+        ensures { result ≡ block_of self.now.streams s k }
+    {
+        let stream = self.streams.get(s as usize)?;
+        stream.blocks.get(k as usize).copied()
+    }
+}

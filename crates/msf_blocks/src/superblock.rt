@@ -1,0 +1,179 @@
+//! The superblock of a container.
+
+ghost use Rattle.std.specs.Prelude.{◌≡◌, ◌*◌, ◌/◌, ◌%◌, ◌≤◌, ◌⊎◌, length, IfOk, IsOk};
+ghost use Rattle.byte_fields.specs.Check.{Makes};
+ghost use Rattle.msf_blocks.specs.BlockNumber.{IsBlockSize, IsOrdinary, blocks_for};
+ghost use Rattle.msf_blocks.specs.Superblock.{Fields, IsSuperblock, fields_of, superblock_checks};
+
+use crate::block_number::{blocks_for, is_block_size, is_ordinary};
+use crate::fault::MsfFault;
+use byte_fields::u32_at;
+use std::marker::Model;
+
+/// The bytes with which every container begins.
+const MAGIC: [u8; 32] = *b"Microsoft C/C++ MSF 7.00\x0d\x0a\x1aDS\0\0\0";
+
+/// How many bytes a superblock has.
+const LENGTH: usize = 56;
+
+// Where its fields begin, in bytes from the front of the file.
+const BLOCK_SIZE: usize = 32;
+
+const FREE_MAP_BLOCK: usize = 36;
+
+const NUM_BLOCKS: usize = 40;
+
+const DIRECTORY_BYTES: usize = 44;
+
+const UNKNOWN: usize = 48;
+
+const BLOCK_MAP_ADDR: usize = 52;
+
+/// A superblock that passed its checks.
+///
+/// Returned by [`Superblock::read`]. ("The MSF File Format", "The Superblock".)
+#[derive(Clone, Copy, Debug)]
+pub struct Superblock {
+    block_size: u32,
+    free_map_block: u32,
+    num_blocks: u32,
+    directory_bytes: u32,
+    unknown: u32,
+    block_map_addr: u32,
+}
+
+impl Model for Superblock {
+    ghost use Rattle.msf_blocks.specs.Superblock.{Fields, IsFit};
+
+    ghost Value = { Fields };
+
+    ghost view = { λ s. record {
+      block_size = s.block_size;
+      free_map_block = s.free_map_block;
+      num_blocks = s.num_blocks;
+      directory_bytes = s.directory_bytes;
+      unknown = s.unknown;
+      block_map_addr = s.block_map_addr;
+    } };
+
+    ghost invariant = { λ s. IsFit (record {
+      block_size = s.block_size;
+      free_map_block = s.free_map_block;
+      num_blocks = s.num_blocks;
+      directory_bytes = s.directory_bytes;
+      unknown = s.unknown;
+      block_map_addr = s.block_map_addr;
+    }) };
+
+    ghost inverse = { λ s. record {
+      block_size = s.block_size;
+      free_map_block = s.free_map_block;
+      num_blocks = s.num_blocks;
+      directory_bytes = s.directory_bytes;
+      unknown = s.unknown;
+      block_map_addr = s.block_map_addr;
+    } };
+}
+
+impl Superblock {
+    /// Reads the superblock at the front of a file.
+    ///
+    /// The faults come in this order: fewer than 56 bytes; another magic; a block size that
+    /// blocks don't have; a free block map that begins neither at block 1 nor at block 2; blocks
+    /// that pass the end of the file; a directory whose length is no multiple of four bytes or
+    /// needs more blocks than one block can list; a block map at block 0 or past the last block.
+    /// Bytes after the last block are ignored. It takes no memory.
+    #[tactic(auto, unfolding(crate::specs::Superblock::superblock_checks))]
+    pub fn read(file: &[u8]) -> Result<Superblock, MsfFault>
+        ensures value { IfOk result (IsSuperblock file.now) }
+        ensures fields { IfOk result (λ s. s ≡ fields_of file.now) }
+        ensures found { (fields : Fields) → IsSuperblock file.now fields → IsOk result }
+        ensures first { Makes result (superblock_checks file.now) }
+    {
+        if file.len() < LENGTH {
+            return Err(MsfFault::Short);
+        }
+        if !file.starts_with(&MAGIC) {
+            return Err(MsfFault::Magic);
+        }
+        let block_size = u32_at(file, BLOCK_SIZE);
+        if !is_block_size(block_size) {
+            return Err(MsfFault::BlockSize(block_size));
+        }
+        let free_map_block = u32_at(file, FREE_MAP_BLOCK);
+        if free_map_block != 1 && free_map_block != 2 {
+            return Err(MsfFault::FreeMapBlock(free_map_block));
+        }
+        let num_blocks = u32_at(file, NUM_BLOCKS);
+        let need = u64::from(num_blocks) * u64::from(block_size);
+        let have = file.len() as u64;
+        if have < need {
+            return Err(MsfFault::FileSize { need, have });
+        }
+        let directory_bytes = u32_at(file, DIRECTORY_BYTES);
+        // The block map is one block of four-byte numbers.
+        let most_blocks = block_size / 4;
+        if directory_bytes % 4 != 0 || blocks_for(block_size, directory_bytes) > most_blocks {
+            return Err(MsfFault::DirectorySize(directory_bytes));
+        }
+        let block_map_addr = u32_at(file, BLOCK_MAP_ADDR);
+        if !is_ordinary(num_blocks, block_map_addr) {
+            return Err(MsfFault::BlockMapAddr(block_map_addr));
+        }
+        Ok(Superblock {
+            block_size,
+            free_map_block,
+            num_blocks,
+            directory_bytes,
+            unknown: u32_at(file, UNKNOWN),
+            block_map_addr,
+        })
+    }
+
+    /// The size of a block, in bytes.
+    pub fn block_size(&self) -> u32
+        ensures value { result ≡ self.now.block_size }
+        ensures fits { IsBlockSize result }
+    {
+        self.block_size
+    }
+
+    /// The number of the first block of the free block map in force: 1 or 2.
+    pub fn free_map_block(&self) -> u32
+        ensures value { result ≡ self.now.free_map_block }
+        ensures fits { (result ≡ 1) ⊎ (result ≡ 2) }
+    {
+        self.free_map_block
+    }
+
+    /// How many blocks the file has.
+    pub fn num_blocks(&self) -> u32
+        ensures { result ≡ self.now.num_blocks }
+    {
+        self.num_blocks
+    }
+
+    /// How long the stream directory is, in bytes.
+    pub fn directory_bytes(&self) -> u32
+        ensures value { result ≡ self.now.directory_bytes }
+        ensures words { result % 4 ≡ 0 }
+        ensures fits { blocks_for self.now.block_size result ≤ self.now.block_size / 4 }
+    {
+        self.directory_bytes
+    }
+
+    /// The field that the format leaves unexplained.
+    pub fn unknown(&self) -> u32
+        ensures { result ≡ self.now.unknown }
+    {
+        self.unknown
+    }
+
+    /// The number of the block that lists the blocks of the stream directory.
+    pub fn block_map_addr(&self) -> u32
+        ensures value { result ≡ self.now.block_map_addr }
+        ensures fits { IsOrdinary self.now.num_blocks result }
+    {
+        self.block_map_addr
+    }
+}
