@@ -4,3 +4,4 @@ pub mod LayoutLaws
 pub mod ListsLaws
 pub mod FoundLaws
 pub mod SinkLaws
+pub mod BlockLaws

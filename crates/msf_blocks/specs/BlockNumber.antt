@@ -1,5 +1,6 @@
 -- Blocks: their sizes and their numbers ("The MSF File Format", "File Layout").
-use Rattle.std.specs.Prelude.{ℕ, ◌≡◌, ◌+◌, ◌-◌, ◌/◌, ◌<◌, ◌⊎◌, ◌==◌, ◌&&◌, ◌||◌, nat_lt, Bool}
+use Rattle.std.specs.Prelude.{ℕ, ◌≡◌, ◌+◌, ◌-◌, ◌*◌, ◌/◌, ◌%◌, ◌<◌, ◌⊎◌, ◌==◌, ◌&&◌, ◌||◌, nat_lt, not, if◌then◌else◌, Bool, List}
+use Rattle.std.specs.List.{range_with_len, filter}
 
 -- the sizes that a block may have
 abbrev pub IsBlockSize : ℕ → Type 0
@@ -20,3 +21,17 @@ IsOrdinary num_blocks block = (0 < block) × (block < num_blocks)
 -- the test of such a block
 abbrev pub is_ordinary : ℕ → ℕ → Bool
 is_ordinary num_blocks block = nat_lt 0 block && nat_lt block num_blocks
+
+-- ---- the blocks of the two free block maps
+
+-- the block belongs to one of the two free block maps: it is the second or the third of its interval of so many blocks
+abbrev pub is_map_block : ℕ → ℕ → Bool
+is_map_block size block = block % size == 1 || block % size == 2
+
+-- the j-th block that isn't a map block: of each interval the first, and all from the fourth on
+unfoldable pub nth_block : ℕ → ℕ → ℕ
+nth_block size j = j / (size - 2) * size + (if j % (size - 2) == 0 then 0 else j % (size - 2) + 2)
+
+-- the blocks below a number that aren't map blocks, in rising order
+unfoldable pub data_blocks : ℕ → ℕ → List ℕ
+data_blocks size below = filter (λ block. not (is_map_block size block)) (range_with_len 0 below)

@@ -3,3 +3,4 @@ pub mod Superblock
 pub mod Directory
 pub mod Layout
 pub mod Stream
+pub mod FreeMap

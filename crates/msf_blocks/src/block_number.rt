@@ -1,7 +1,17 @@
-//! Sizes and numbers of blocks.
+//! Sizes and numbers of blocks, and the blocks of the two free block maps.
+//!
+//! A container is cut into intervals of as many blocks as a block has bytes. The second and the
+//! third block of each interval belong to the free block maps; all others may hold data:
+//!
+//! ```text
+//! block   0     1      2      3   ..  B-1    B    B+1    B+2   B+3  ..
+//!       data  map 1  map 2  data  ..  data  data  map 1  map 2  data ..
+//! nth     0                   1   ..  B-3   B-2                B-1   ..
+//! ```
 
-ghost use Rattle.std.specs.Prelude.{◌≡◌};
-ghost use Rattle.msf_blocks.specs.BlockNumber.{IsBlockSize, blocks_for, is_block_size, is_ordinary};
+ghost use Rattle.std.specs.Prelude.{◌≡◌, ◌^◌, ◌<◌, length, map, false};
+ghost use Rattle.std.specs.List.{range_with_len};
+ghost use Rattle.msf_blocks.specs.BlockNumber.{IsBlockSize, blocks_for, is_block_size, is_ordinary, is_map_block, nth_block, data_blocks};
 
 /// Whether blocks may have this size, in bytes.
 pub fn is_block_size(size: u32) -> bool
@@ -23,4 +33,45 @@ pub fn is_ordinary(num_blocks: u32, block: u32) -> bool
     ensures { result ≡ is_ordinary num_blocks block }
 {
     0 < block && block < num_blocks
+}
+
+/// Whether a block belongs to one of the two free block maps.
+///
+/// `block_size` is in bytes. It takes no memory. ("The MSF File Format", "The Free Block Map".)
+pub fn is_map_block(block_size: u32, n: u32) -> bool
+    requires { IsBlockSize block_size }
+    ensures { result ≡ is_map_block block_size n }
+{
+    matches!(n % block_size, 1 | 2)
+}
+
+/// The `j`-th block by the formula alone.
+#[tactic(auto, unfolding(crate::specs::BlockNumber::nth_block))]
+fn nth_by_formula(block_size: u32, j: u32) -> u32
+    requires size { IsBlockSize block_size }
+    requires fits { nth_block block_size j < 2 ^ 32 }
+    ensures { result ≡ nth_block block_size j }
+{
+    // Of each interval, all blocks but two hold data.
+    let data = block_size - 2;
+    let first = j / data * block_size;
+    match j % data {
+        0 => first,
+        others => first + others + 2,
+    }
+}
+
+/// The `j`-th block that isn't a map block, from 0.
+///
+/// It is no map block, and just `j` of the blocks below it aren't. `block_size` is in bytes. It
+/// takes no memory. ("The MSF File Format", "The Free Block Map".)
+pub fn nth_block(block_size: u32, j: u32) -> u32
+    requires size { IsBlockSize block_size }
+    requires fits { nth_block block_size j < 2 ^ 32 }
+    ensures value { result ≡ nth_block block_size j }
+    ensures free { is_map_block block_size result ≡ false }
+    ensures below { data_blocks block_size result ≡ map (nth_block block_size) (range_with_len 0 j) }
+    ensures count { length (data_blocks block_size result) ≡ j }
+{
+    nth_by_formula(block_size, j)
 }

@@ -40,18 +40,11 @@ impl<W: Write> Sink for Out<W> {
     ghost is_broken = { λ s. s.broken };
 
     fn put(&mut self, bytes: &[u8]) -> usize {
-        match self.writer.write(bytes) {
-            Ok(count) => {
-                if count == 0 && !bytes.is_empty() {
-                    self.broken = true;
-                }
-                count
-            }
-            Err(_) => {
-                self.broken = true;
-                0
-            }
+        let count = self.writer.write(bytes).unwrap_or(0);
+        if count == 0 && !bytes.is_empty() {
+            self.broken = true;
         }
+        count
     }
 }
 

@@ -1,0 +1,142 @@
+-- Map blocks, and the blocks between them.
+use Rattle.std.proofs.Common.{◌≡◌, ◌⊎◌, ℕ, zero, suc, ◌+◌, ◌-◌, ◌*◌, ◌/◌, ◌%◌, ◌<◌, true, false, not, [], ◌∷◌, ◌++◌, length, map, refl, sym, ap, ◌∙◌, subst, arith, inl, inr}
+use Rattle.std.specs.List.{range_with_len, filter}
+use Rattle.std.proofs.lemmas.Nat.{div-mul-add, mod-mul-add, div-add-mod', mod_below}
+use Rattle.std.proofs.lemmas.Bool.{cases_lt}
+use Rattle.std.proofs.lemmas.Bool.Decides.{nat_tests}
+use Rattle.std.proofs.lemmas.List.{map-id, append-nil}
+use Rattle.std.proofs.lemmas.List.FromFn.{map-range_with_len_more, length-map-range_with_len}
+use Rattle.std.proofs.lemmas.List.Elements.{filter-append}
+use Rattle.msf_blocks.specs.BlockNumber.{IsBlockSize, is_map_block, nth_block, data_blocks}
+
+-- one interval more
+next_row : (q c : ℕ) → q * c + c ≡ (q + 1) * c
+next_row q c = omega arith
+
+-- the first data block of an interval
+pub nth_first : (b q j : ℕ) → 3 < b → j ≡ q * (b - 2) → nth_block b j ≡ q * b
+unfolding nth_block
+nth_first b q j big e =
+    let d : j / (b - 2) ≡ q = rw e (let z : q * (b - 2) ≡ q * (b - 2) + 0 = omega arith in rw z (div-mul-add q (b - 2) 0 (omega arith))) in
+    let m : j % (b - 2) ≡ 0 = rw e (let z : q * (b - 2) ≡ q * (b - 2) + 0 = omega arith in rw z (mod-mul-add q (b - 2) 0 (omega arith))) in
+    rw (d, m) (omega arith)
+
+-- the data blocks behind the two map blocks of an interval
+pub nth_other : (b q r j : ℕ) → 3 < b → 0 < r → r < b - 2 → j ≡ q * (b - 2) + r → nth_block b j ≡ q * b + r + 2
+unfolding nth_block
+nth_other b q r j big pos lt e =
+    let d : j / (b - 2) ≡ q = rw e (div-mul-add q (b - 2) r lt) in
+    let m : j % (b - 2) ≡ r = rw e (mod-mul-add q (b - 2) r lt) in
+    rw (d, m) (grind (arith, nat_tests))
+
+-- a data block, by its place in its interval
+data_at : (b q p : ℕ) → p < b → (p ≡ 0) ⊎ (2 < p) → is_map_block b (q * b + p) ≡ false
+data_at b q p lt h = rw (mod-mul-add q b p lt) (grind (arith, nat_tests))
+
+-- a map block, by its place in its interval
+map_at : (b q p : ℕ) → p < b → (p ≡ 1) ⊎ (p ≡ 2) → is_map_block b (q * b + p) ≡ true
+map_at b q p lt h = rw (mod-mul-add q b p lt) (grind (arith, nat_tests))
+
+-- the interval of the j-th data block, and its place among the interval's data blocks
+split_at : (b j : ℕ) → 3 < b → (j ≡ j / (b - 2) * (b - 2) + j % (b - 2)) × (j % (b - 2) < b - 2)
+-- the interval of the j-th data block, and its place among the interval's data blocks
+split_at b j big = (omega (arith, div-add-mod' j (b - 2)), mod_below j (b - 2) (omega arith))
+
+-- no data block is a map block
+pub nth_is_data : (b j : ℕ) → 3 < b → is_map_block b (nth_block b j) ≡ false
+nth_is_data b j big =
+    let q = j / (b - 2) in
+    let r = j % (b - 2) in
+    let s = split_at b j big in
+    elim (cases_lt 0 r) [
+      | inl pos ↦
+          let e : nth_block b j ≡ q * b + (r + 2) = nth_other b q r j big pos s.1 s.0 ∙ omega arith in
+          rw e (data_at b q (r + 2) (omega (arith, s.1)) (inr (omega arith)))
+      | inr none ↦
+          let e : nth_block b j ≡ q * b + 0 = nth_first b q j big (omega (arith, s.0)) ∙ omega arith in
+          rw e (data_at b q 0 (omega arith) (inl refl))
+    ]
+
+-- from one data block to the next it is one step, or three over two map blocks
+abbrev Next : ℕ → ℕ → ℕ → Type 0
+Next b a c = (c ≡ a + 1) ⊎ ((c ≡ a + 3) × (is_map_block b (a + 1) ≡ true) × (is_map_block b (a + 2) ≡ true))
+
+next_nth : (b j : ℕ) → 3 < b → Next b (nth_block b j) (nth_block b (j + 1))
+next_nth b j big =
+    let q = j / (b - 2) in
+    let r = j % (b - 2) in
+    let s = split_at b j big in
+    elim (cases_lt 0 r) [
+      | inl pos ↦
+          let e : nth_block b j ≡ q * b + r + 2 = nth_other b q r j big pos s.1 s.0 in
+          elim (cases_lt (r + 1) (b - 2)) [
+            | inl lt ↦
+                let f : nth_block b (j + 1) ≡ q * b + (r + 1) + 2 = nth_other b q (r + 1) (j + 1) big (omega arith) lt (omega (arith, s.0)) in
+                inl (omega (arith, e, f))
+            | inr le ↦
+                let g : j + 1 ≡ (q + 1) * (b - 2) = omega (arith, s.0, s.1, next_row q (b - 2)) in
+                let f : nth_block b (j + 1) ≡ (q + 1) * b = nth_first b (q + 1) (j + 1) big g in
+                inl (omega (arith, e, f, s.1, next_row q b))
+          ]
+      | inr none ↦
+          let e : nth_block b j ≡ q * b = nth_first b q j big (omega (arith, s.0)) in
+          let f : nth_block b (j + 1) ≡ q * b + 1 + 2 = nth_other b q 1 (j + 1) big (omega arith) (omega arith) (omega (arith, s.0)) in
+          rw e (inr (omega (arith, f), map_at b q 1 (omega arith) (inl refl), map_at b q 2 (omega arith) (inr refl)))
+    ]
+
+-- one number more
+range_more : (n : ℕ) → range_with_len 0 (n + 1) ≡ range_with_len 0 n ++ n ∷ []
+-- one number more
+range_more n = sym (map-id (range_with_len 0 (n + 1))) ∙ map-range_with_len_more (λ x. x) 0 n n (omega arith) ∙ rw (map-id (range_with_len 0 n)) refl
+
+-- a data block is one more
+data_more : (b n : ℕ) → is_map_block b n ≡ false → data_blocks b (n + 1) ≡ data_blocks b n ++ n ∷ []
+unfolding data_blocks
+data_more b n e =
+    let f = λ (k : ℕ). not (is_map_block b k) in
+    ap (filter f) (range_more n) ∙ filter-append f (range_with_len 0 n) (n ∷ []) ∙ rw e refl
+
+-- a map block is none
+data_same : (b n : ℕ) → is_map_block b n ≡ true → data_blocks b (n + 1) ≡ data_blocks b n
+unfolding data_blocks
+data_same b n e =
+    let f = λ (k : ℕ). not (is_map_block b k) in
+    ap (filter f) (range_more n) ∙ filter-append f (range_with_len 0 n) (n ∷ []) ∙ rw e (append-nil (data_blocks b n))
+
+-- the step to the next data block
+below_more : (b j : ℕ) → 3 < b → data_blocks b (nth_block b j) ≡ map (nth_block b) (range_with_len 0 j) → data_blocks b (nth_block b (j + 1)) ≡ map (nth_block b) (range_with_len 0 (j + 1))
+-- the step to the next data block
+below_more b j big before =
+    let a = nth_block b j in
+    let here : data_blocks b (a + 1) ≡ map (nth_block b) (range_with_len 0 (j + 1)) =
+    data_more b a (nth_is_data b j big) ∙ rw before (sym (map-range_with_len_more (nth_block b) 0 j j (omega arith))) in
+    elim (next_nth b j big) [
+      | inl one ↦ rw one here
+      | inr over ↦
+          let e : nth_block b (j + 1) ≡ a + 1 + 1 + 1 = omega (arith, over.0) in
+          let two : a + 2 ≡ a + 1 + 1 = omega arith in
+          rw e (data_same b (a + 1 + 1) (rw two at over.2) ∙ data_same b (a + 1) over.1 ∙ here)
+    ]
+
+-- the data blocks below the j-th are the j before it
+pub data_below : (b j : ℕ) → 3 < b → data_blocks b (nth_block b j) ≡ map (nth_block b) (range_with_len 0 j)
+unfolding data_blocks
+data_below b zero big =
+    let e : nth_block b 0 ≡ 0 = nth_first b 0 0 big (omega arith) ∙ omega arith in
+    rw e refl
+data_below b (suc j) big =
+    let one : j + 1 ≡ suc j = omega arith in
+    subst (λ (m : ℕ). data_blocks b (nth_block b m) ≡ map (nth_block b) (range_with_len 0 m)) one (below_more b j big (data_below b j big))
+
+-- they are j
+pub rank_is : (b j : ℕ) → 3 < b → length (data_blocks b (nth_block b j)) ≡ j
+rank_is b j big = ap length (data_below b j big) ∙ length-map-range_with_len (nth_block b) 0 j
+
+-- every block size leaves room for more than the map blocks
+pub big_enough : (b : ℕ) → IsBlockSize b → 3 < b
+big_enough b size = elim size [
+  | inl e ↦ omega (arith, e)
+  | inr (inl e) ↦ omega (arith, e)
+  | inr (inr (inl e)) ↦ omega (arith, e)
+  | inr (inr (inr e)) ↦ omega (arith, e)
+]

@@ -1,0 +1,14 @@
+use Rattle.msf_blocks.proofs.BlockLaws.{big_enough, nth_is_data, data_below, rank_is}
+use Rattle.msf_blocks.proofs.block_number.nth_block.Goals as goal
+
+pub returns : goal.returns
+returns c =
+    let b = c.args.block_size in
+    let j = c.args.j in
+    let big = big_enough b c.requires.size in
+    record {
+      value = c.nth_by_formula.ensures;
+      free = rw c.nth_by_formula.ensures (nth_is_data b j big);
+      below = rw c.nth_by_formula.ensures (data_below b j big);
+      count = rw c.nth_by_formula.ensures (rank_is b j big);
+    }

@@ -1,0 +1,20 @@
+-- The free block map that is in force ("The MSF File Format", "The Free Block Map").
+use Rattle.std.specs.Prelude.{ℕ, ◌≡◌, ◌+◌, ◌*◌, ◌/◌, ◌%◌, ◌^◌, List, slice_index}
+use Rattle.msf_blocks.specs.Superblock.{Fields}
+
+-- how many blocks one map block speaks of: a bit each
+abbrev pub blocks_per_map_block : Fields → ℕ
+blocks_per_map_block fields = 8 * fields.block_size
+
+-- the number of the map block that speaks of a block: the k-th stands in the k-th interval
+abbrev pub map_block_of : Fields → ℕ → ℕ
+map_block_of fields block = block / blocks_per_map_block fields * fields.block_size + fields.free_map_block
+
+-- the byte that speaks of a block, and of the seven beside it
+abbrev pub map_byte_of : List ℕ → Fields → ℕ → ℕ
+map_byte_of file fields block =
+    slice_index file (map_block_of fields block * fields.block_size + block % blocks_per_map_block fields / 8)
+
+-- the block is free: its bit, counted from the lowest, is 1
+abbrev pub IsFree : List ℕ → Fields → ℕ → Type 0
+IsFree file fields block = map_byte_of file fields block / 2 ^ (block % blocks_per_map_block fields % 8) % 2 ≡ 1

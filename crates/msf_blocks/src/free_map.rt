@@ -1,0 +1,38 @@
+//! The free block map that is in force.
+
+ghost use Rattle.std.specs.Prelude.{◌≡◌, ◌⊎◌, ◌<◌, ◌≤◌, ◌*◌, ◌/◌, ◌%◌, ◌^◌, ◌↔◌, length, IsTrue, IfSome, IfNone};
+ghost use Rattle.msf_blocks.specs.FreeMap.{IsFree, map_block_of};
+
+use crate::superblock::Superblock;
+
+/// Whether a bit of a byte is 1, counted from the lowest.
+fn is_set(byte: u8, bit: u32) -> bool
+    requires { bit < 8 }
+    ensures { IsTrue result ↔ (byte / 2 ^ bit % 2 ≡ 1) }
+{
+    (byte >> bit) % 2 == 1
+}
+
+/// Whether block `n` is free, by the map that the superblock names.
+///
+/// `None` where the file has no such block, or where the map block that speaks of it isn't in
+/// the file. It takes no memory. ("The MSF File Format", "The Free Block Map".)
+pub fn free_bit(file: &[u8], superblock: &Superblock, n: u32) -> Option<bool>
+    requires { superblock.now.num_blocks * superblock.now.block_size ≤ length file.now }
+    ensures value { IfSome result (λ free. IsTrue free ↔ IsFree file.now superblock.now n) }
+    ensures inside { IfSome result (λ _. (n < superblock.now.num_blocks)
+        × (map_block_of superblock.now n < superblock.now.num_blocks)) }
+    ensures outside { IfNone result ((superblock.now.num_blocks ≤ n)
+        ⊎ (superblock.now.num_blocks ≤ map_block_of superblock.now n)) }
+{
+    let block_size = superblock.block_size();
+    let per_map_block = 8 * block_size;
+    let interval = u64::from(n / per_map_block);
+    let map_block = interval * u64::from(block_size) + u64::from(superblock.free_map_block());
+    if n >= superblock.num_blocks() || map_block >= u64::from(superblock.num_blocks()) {
+        return None;
+    }
+    let bit = n % per_map_block;
+    let byte = map_block as usize * block_size as usize + (bit / 8) as usize;
+    Some(is_set(file[byte], bit % 8))
+}
