@@ -1,0 +1,90 @@
+-- Records, one after the other.
+use Rattle.std.proofs.Common.{◌≡◌, ℕ, ◌+◌, ◌%◌, ◌<◌, ◌≤◌, List, [], ◌∷◌, ◌++◌, length, take, drop, refl, sym, ap, ◌∙◌, arith, append_assoc, inl, inr}
+use Rattle.std.specs.List.{concat, AllByRecursion}
+use Rattle.std.proofs.lemmas.List.{append-nil, drop-drop, take-append-drop, take_at, drop_at, length-append, length-take, length-drop}
+use Rattle.std.proofs.lemmas.List.Folds.{concat-append}
+use Rattle.byte_fields.specs.Number.{number_at}
+use Rattle.byte_fields.proofs.NumberLaws.{number_at-take, number_at-append}
+use Rattle.tpi_records.specs.Records.{IsRecord, IsFlaw, HasFlaw, Begins}
+use Rattle.tpi_records.specs.declared.fault.TpiFault.{TpiFault}
+use Rattle.tpi_records.specs.declared.fault.TpiFault.TheVariants.{Short, Version, HeaderSize, Begin, End, Bytes, RecordShort, RecordLen, RecordCount, Memory}
+
+-- ---- records in front of what is left
+
+AllByRecursion-push : {X : Type 0} (P : X → Type 0) (xs : List X) (y : X) → AllByRecursion P xs → P y → AllByRecursion P (xs ++ y ∷ [])
+AllByRecursion-push P [] y each this = (this, tt)
+AllByRecursion-push P (x ∷ xs) y each this = (each.0, AllByRecursion-push P xs y each.1 this)
+
+-- bytes of the length that stands in front of them
+pub is_record : (bytes : List ℕ) (start whole : ℕ) → whole ≡ number_at 2 bytes start + 2 → 4 ≤ whole → whole % 4 ≡ 0 → start + whole ≤ length bytes → IsRecord (take whole (drop start bytes))
+is_record bytes start whole field long words inside =
+    let all : length (take whole (drop start bytes)) ≡ whole = omega (arith, length-take whole (drop start bytes), length-drop start bytes) in
+    record {
+      long = omega (arith, all);
+      padded = rw all words;
+      len = omega (arith, all, number_at-take bytes start whole (omega arith));
+    }
+
+-- the records so far, and the one that stands next
+pub Begins-more : (bytes : List ℕ) (records : List (List ℕ)) (start whole : ℕ) → Begins bytes records (drop start bytes) → IsRecord (take whole (drop start bytes))
+    → Begins bytes (records ++ take whole (drop start bytes) ∷ []) (drop (start + whole) bytes)
+Begins-more bytes records start whole so_far this =
+    let next = take whole (drop start bytes) in
+    let ends : concat (next ∷ []) ≡ next = append-nil next in
+    let left : drop whole (drop start bytes) ≡ drop (start + whole) bytes = drop-drop whole start bytes in
+    let split : next ++ drop whole (drop start bytes) ≡ drop start bytes = take-append-drop whole (drop start bytes) in
+    record {
+      parts = so_far.parts ∙ ap (λ (s : List ℕ). concat records ++ s) (sym split) ∙ sym (append_assoc (concat records) next (drop whole (drop start bytes)))
+          ∙ rw (concat-append records (next ∷ []), ends, left) refl;
+      each = AllByRecursion-push IsRecord records next so_far.each this;
+    }
+
+-- ---- the records of some bytes are these and no others
+
+same_front : (r s x y : List ℕ) → IsRecord r → IsRecord s → r ++ x ≡ s ++ y → (r ≡ s) × (x ≡ y)
+same_front r s x y is_r is_s e =
+    let first : number_at 2 (r ++ x) 0 ≡ number_at 2 (s ++ y) 0 = ap (λ (t : List ℕ). number_at 2 t 0) e in
+    let long : length s ≡ length r =
+    omega (arith, first, number_at-append r x (omega (arith, is_r.long)), number_at-append s y (omega (arith, is_s.long)), is_r.len, is_s.len) in (
+      sym (take_at r x (length r) refl) ∙ ap (take (length r)) e ∙ take_at s y (length r) long,
+      sym (drop_at r x (length r) refl) ∙ ap (drop (length r)) e ∙ drop_at s y (length r) long,
+    )
+
+pub one_framing : (rs ss : List (List ℕ)) → AllByRecursion IsRecord rs → AllByRecursion IsRecord ss → concat rs ≡ concat ss → rs ≡ ss
+one_framing [] [] each_r each_s e = refl
+one_framing [] (s ∷ ss) each_r each_s e = absurd (omega (arith, ap length e, length-append s (concat ss), each_s.0.long))
+one_framing (r ∷ rs) [] each_r each_s e = absurd (omega (arith, ap length e, length-append r (concat rs), each_r.0.long))
+one_framing (r ∷ rs) (s ∷ ss) each_r each_s e =
+    let same = same_front r s (concat rs) (concat ss) each_r.0 each_s.0 e in
+    rw (same.0, one_framing rs ss each_r.1 each_s.1 same.1) refl
+
+-- a record at the front of some bytes has no fault
+no_flaw : (r rest : List ℕ) (index : ℕ) (fault : TpiFault) → IsRecord r → IsFlaw (r ++ rest) index fault → ⊥
+no_flaw r rest index (RecordShort at) is (same, inl short) = omega (arith, length-append r rest, is.long)
+no_flaw r rest index (RecordShort at) is (same, inr (len, short)) = omega (arith, length-append r rest, number_at-append r rest (omega (arith, is.long)), is.len, short)
+no_flaw r rest index (RecordLen at len) is (same, long, field, bad) =
+    let whole : len + 2 ≡ length r = omega (arith, field, number_at-append r rest (omega (arith, is.long)), is.len) in
+    bad (omega (arith, whole, is.long), rw whole is.padded)
+no_flaw r rest index Short is flaw = flaw
+no_flaw r rest index (Version _) is flaw = flaw
+no_flaw r rest index (HeaderSize _) is flaw = flaw
+no_flaw r rest index (Begin _) is flaw = flaw
+no_flaw r rest index (End _) is flaw = flaw
+no_flaw r rest index (Bytes _ _) is flaw = flaw
+no_flaw r rest index (RecordCount _ _) is flaw = flaw
+no_flaw r rest index Memory is flaw = flaw
+
+-- where records stand, no other records stand in front of a fault
+unflawed : (records front : List (List ℕ)) (rest : List ℕ) (index : ℕ) (fault : TpiFault) → AllByRecursion IsRecord records → AllByRecursion IsRecord front
+    → concat records ≡ concat front ++ rest → 0 < length rest → IsFlaw rest index fault → ⊥
+unflawed [] [] rest index fault each_r each_f e some flaw = omega (arith, ap length e)
+unflawed [] (f ∷ fs) rest index fault each_r each_f e some flaw =
+    omega (arith, ap length e, length-append (f ++ concat fs) rest, length-append f (concat fs), each_f.0.long)
+unflawed (r ∷ rs) [] rest index fault each_r each_f e some flaw = no_flaw r (concat rs) index fault each_r.0 (rw (← e) at flaw)
+unflawed (r ∷ rs) (f ∷ fs) rest index fault each_r each_f e some flaw =
+    let same = same_front r f (concat rs) (concat fs ++ rest) each_r.0 each_f.0 (e ∙ append_assoc f (concat fs) rest) in
+    unflawed rs fs rest index fault each_r.1 each_f.1 same.1 some flaw
+
+pub framed_unflawed : (bytes : List ℕ) (records : List (List ℕ)) (fault : TpiFault) → AllByRecursion IsRecord records → bytes ≡ concat records → HasFlaw bytes fault → ⊥
+framed_unflawed bytes records fault each parts (front, rest, begins, some, flaw) =
+    unflawed records front rest (0x1000 + length front) fault each begins.each (sym parts ∙ begins.parts) some flaw

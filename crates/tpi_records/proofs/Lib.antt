@@ -1,0 +1,3 @@
+pub mod FramingLaws
+pub mod TableLaws
+pub mod StreamLaws

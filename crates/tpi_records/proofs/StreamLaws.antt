@@ -1,0 +1,71 @@
+-- What a stream with records can't be besides.
+use Rattle.std.proofs.Common.{◌≡◌, ◌⊎◌, ℕ, None, List, [], length, drop, refl, sym, ap, ◌∙◌, arith, inl, inr}
+use Rattle.std.specs.List.{concat, AllByRecursion}
+use Rattle.std.proofs.lemmas.List.{append-nil, take-append-drop, take_at, length-take, length-drop}
+use Rattle.std.proofs.lemmas.Bool.Decides.{nat_tests}
+use Rattle.byte_fields.specs.Check.{first_failing}
+use Rattle.tpi_records.specs.Header.{Header, HasHeader, header_checks}
+use Rattle.tpi_records.specs.Records.{IsRecord, Begins, HasFlaw, IsMiscounted, HasRecords, IsFirstFault, framed_bytes}
+use Rattle.tpi_records.specs.declared.fault.TpiFault.{TpiFault}
+use Rattle.tpi_records.specs.declared.fault.TpiFault.TheVariants.{Memory}
+use Rattle.tpi_records.proofs.FramingLaws.{one_framing, framed_unflawed}
+
+-- ---- headers
+
+-- a stream that has a header passes its checks
+header_checks-none : (stream : List ℕ) (header : Header) → HasHeader stream header → first_failing (header_checks stream) ≡ None
+unfolding header_checks
+header_checks-none stream header has = grind (arith, nat_tests)
+
+-- ---- the records that a header frames
+
+pub framed-records : (stream : List ℕ) (header : Header) (records : List (List ℕ)) → HasHeader stream header → HasRecords stream records → framed_bytes stream header ≡ concat records
+framed-records stream header records has h =
+    let size : length (concat records) ≡ header.record_bytes = omega (arith, has.bytes, h.header.bytes) in
+    rw h.parts (take_at (concat records) h.rest header.record_bytes size)
+
+-- a stream has no other records
+pub one_records : (stream : List ℕ) (rs ss : List (List ℕ)) → HasRecords stream rs → HasRecords stream ss → rs ≡ ss
+one_records stream rs ss has_r has_s =
+    one_framing rs ss has_r.each has_s.each (sym (framed-records stream _ rs has_r.header has_r) ∙ framed-records stream _ ss has_r.header has_s)
+
+-- a stream that has records has no fault
+pub no_fault : (stream : List ℕ) (records : List (List ℕ)) (fault : TpiFault) → HasRecords stream records → IsFirstFault stream fault → ⊥
+no_fault stream records fault has (inl failing) = let none = header_checks-none stream _ has.header in absurd cc
+no_fault stream records fault has (inr (header, is, inl flaw)) = framed_unflawed (framed_bytes stream header) records fault has.each (framed-records stream header records is has) flaw
+no_fault stream records fault has (inr (header, is, inr (found, begins, counted, differ))) =
+    let same : found ≡ records = one_framing found records begins.each has.each (sym (append-nil (concat found)) ∙ sym begins.parts ∙ framed-records stream header records is has) in
+    let count : header.count ≡ length records = omega (arith, is.end, has.header.end) in
+    differ (count ∙ sym (ap length same))
+
+-- ---- what was found
+
+-- records in the bytes that a header frames, as many as it says, are the stream's
+pub counted_records : (stream bytes : List ℕ) (header : Header) (records : List (List ℕ)) → bytes ≡ framed_bytes stream header → HasHeader stream header → Begins bytes records []
+    → length records ≡ header.count → HasRecords stream records
+counted_records stream bytes header records is has begins count =
+    let all : framed_bytes stream header ≡ concat records = sym is ∙ begins.parts ∙ append-nil (concat records) in
+    let size : length (concat records) ≡ header.record_bytes =
+    sym (ap length all) ∙ omega (arith, length-take header.record_bytes (drop 56 stream), length-drop 56 stream, has.whole) in
+    record {
+      header = rw (count, size) has;
+      rest = drop header.record_bytes (drop 56 stream);
+      parts = sym (take-append-drop header.record_bytes (drop 56 stream)) ∙ rw all refl;
+      each = begins.each;
+    }
+
+-- a fault of the bytes that a header frames is the stream's
+pub framed_fault : (stream bytes : List ℕ) (header : Header) (said : ℕ) (fault : TpiFault) → bytes ≡ framed_bytes stream header → HasHeader stream header → said ≡ header.count
+    → HasFlaw bytes fault ⊎ IsMiscounted bytes said fault → IsFirstFault stream fault
+framed_fault stream bytes header said fault is has count flaw = inr (header, has, rw (is, count) at flaw)
+
+-- records that are found again are the same
+pub found_again : (stream bytes : List ℕ) (records again : List (List ℕ)) → HasRecords stream records → bytes ≡ concat records → Begins bytes again [] → HasRecords stream again
+found_again stream bytes records again has parts begins =
+    let same : again ≡ records = one_framing again records begins.each has.each (sym (append-nil (concat again)) ∙ sym begins.parts ∙ parts) in
+    rw same has
+
+-- where records stand, only memory can be wanting
+pub wants_memory : (bytes : List ℕ) (records : List (List ℕ)) (fault : TpiFault) → AllByRecursion IsRecord records → bytes ≡ concat records → HasFlaw bytes fault ⊎ (fault ≡ Memory) → fault ≡ Memory
+wants_memory bytes records fault each parts (inl flaw) = absurd (framed_unflawed bytes records fault each parts flaw)
+wants_memory bytes records fault each parts (inr memory) = memory

@@ -1,0 +1,15 @@
+use Rattle.std.proofs.Common.{◌≡◌, ◌+◌, ◌*◌, ◌-◌, ◌≤◌, length, drop}
+use Rattle.tpi_records.specs.Records.{Begins, IsTable, records_at}
+use Rattle.tpi_records.proofs.records.record_starts.Given as goal
+
+abbrev pub invariant-loop-start : goal.invariant-loop-start
+invariant-loop-start g l = record {
+  inside : l.start ≤ length l.bytes;
+  few : 4 * length l.starts.items ≤ l.start;
+  numbered : l.index ≡ 0x1000 + length l.starts.items;
+  table : IsTable l.bytes l.starts.items;
+  begins : Begins l.bytes (records_at l.bytes l.starts.items) (drop l.start l.bytes);
+}
+
+abbrev pub decreases-loop-start : goal.decreases-loop-start
+decreases-loop-start g l = length l.bytes - l.start

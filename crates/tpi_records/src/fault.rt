@@ -1,0 +1,62 @@
+//! Why a TPI stream is refused.
+
+ghost use Rattle.std.specs.Prelude.{◌≡◌};
+ghost use Rattle.tpi_records.specs.declared.fault.TpiFault.TheVariants.{Memory};
+
+use std::alloc::{AllocError, AllocFailed};
+use thiserror::Error;
+
+/// The first check that a TPI stream fails.
+///
+/// The checks are made in the order of the variants. Those of the records are made record by
+/// record; their number is compared once all of them hold.
+#[derive(Clone, Copy, Debug, PartialEq, Eq, Error)]
+pub enum TpiFault {
+    /// The stream has fewer than the 56 bytes of a header.
+    #[error("16 TpiShort")]
+    Short,
+    /// The header has this version, which is not 20040203.
+    #[error("17 TpiVersion {0}")]
+    Version(u32),
+    /// The header says that it has this many bytes, and not 56.
+    #[error("18 TpiHeaderSize {0}")]
+    HeaderSize(u32),
+    /// The first type index is this one, and not 0x1000.
+    #[error("19 TpiBegin {0:#x}")]
+    Begin(u32),
+    /// The type index behind the last record is this one, which is below 0x1000.
+    #[error("20 TpiEnd {0:#x}")]
+    End(u32),
+    /// The records have `need` bytes, and only `have` bytes stand behind the header.
+    #[error("21 TpiBytes need {need} have {have}")]
+    Bytes { need: u64, have: u64 },
+    /// The record of this type index passes the end of the records.
+    #[error("22 RecordShort index {index:#x}")]
+    RecordShort { index: u32 },
+    /// The record of this type index says that `len` bytes follow its length field, which are
+    /// fewer than two or don't make whole words of four bytes with it.
+    #[error("23 RecordLen index {index:#x} len {len}")]
+    RecordLen { index: u32, len: u32 },
+    /// The header announces `said` records, and `found` records stand behind it.
+    #[error("24 RecordCount said {said} found {found}")]
+    RecordCount { said: u32, found: u32 },
+    /// The memory for the table of records was refused. All checks held.
+    #[error("33 Memory")]
+    Memory,
+}
+
+impl From<AllocError> for TpiFault {
+    ghost from_gives = { λ _ fault. fault ≡ Memory };
+
+    fn from(_error: AllocError) -> TpiFault {
+        TpiFault::Memory
+    }
+}
+
+impl<T: Drop> From<AllocFailed<T>> for TpiFault {
+    ghost from_gives = { λ _ fault. fault ≡ Memory };
+
+    fn from(_error: AllocFailed<T>) -> TpiFault {
+        TpiFault::Memory
+    }
+}

@@ -1,0 +1,114 @@
+//! What no clause says: the texts of the faults, that a call succeeds, and refused growth.
+
+use crate::{Records, TpiFault, TpiHeader};
+use linked_list_allocator::LocalHeap;
+use std::alloc::Allocator;
+use std::test::Fail;
+
+/// Two records behind a header: a pointer to int, and an int with modifiers.
+const STREAM: [u8; 80] = [
+    0x0B, 0xCA, 0x31, 0x01, 0x38, 0x00, 0x00, 0x00, 0x00, 0x10, 0x00, 0x00, 0x02, 0x10, 0x00, 0x00,
+    0x18, 0x00, 0x00, 0x00, 0xFF, 0xFF, 0xFF, 0xFF, 0x04, 0x00, 0x00, 0x00, 0xFF, 0xFF, 0x03, 0x00,
+    0, 0, 0, 0, 0, 0, 0, 0, 0, 0, 0, 0, 0, 0, 0, 0, 0, 0, 0, 0, 0, 0, 0, 0, //
+    0x0A, 0x00, 0x02, 0x10, 0x74, 0x00, 0x00, 0x00, 0x0C, 0x00, 0x01, 0x00, //
+    0x0A, 0x00, 0x01, 0x10, 0x74, 0x00, 0x00, 0x00, 0x01, 0x00, 0xF2, 0xF1,
+];
+
+#[test]
+fn each_fault_has_its_text(rt: HostRuntime) -> Result<(), Fail> {
+    for (fault, text) in [
+        (TpiFault::Short, "16 TpiShort"),
+        (TpiFault::Version(19990903), "17 TpiVersion 19990903"),
+        (TpiFault::HeaderSize(52), "18 TpiHeaderSize 52"),
+        (TpiFault::Begin(0x2000), "19 TpiBegin 0x2000"),
+        (TpiFault::End(0xFFF), "20 TpiEnd 0xfff"),
+        (
+            TpiFault::Bytes { need: 25, have: 24 },
+            "21 TpiBytes need 25 have 24",
+        ),
+        (
+            TpiFault::RecordShort { index: 0x1001 },
+            "22 RecordShort index 0x1001",
+        ),
+        (
+            TpiFault::RecordLen {
+                index: 0x1000,
+                len: 9,
+            },
+            "23 RecordLen index 0x1000 len 9",
+        ),
+        (
+            TpiFault::RecordCount { said: 3, found: 2 },
+            "24 RecordCount said 3 found 2",
+        ),
+        (TpiFault::Memory, "33 Memory"),
+    ] {
+        let shown = fault.to_string(rt.alloc())?;
+        assert_eq!(rt; shown.as_str(), text);
+    }
+    Ok(())
+}
+
+#[test]
+fn a_stream_of_two_records(rt: HostRuntime) -> Result<(), Fail> {
+    let header = TpiHeader::read(&STREAM)?;
+    assert_eq!(rt; (header.count(), header.record_bytes()), (2, 24));
+    let records = Records::read(rt.alloc(), &STREAM)?;
+    assert_eq!(rt; records.len(), 2);
+    assert!(rt; !records.is_empty());
+    assert_eq!(rt; records.get(0), Some(&STREAM[56..68]));
+    assert_eq!(rt; records.get(1), Some(&STREAM[68..80]));
+    assert_eq!(rt; records.get(2), None);
+    let mut left = records.iter();
+    assert_eq!(rt; left.next(), Some(&STREAM[56..68]));
+    assert_eq!(rt; left.next(), Some(&STREAM[68..80]));
+    assert_eq!(rt; left.next(), None);
+    Ok(())
+}
+
+/// The fault of a stream, if it has one.
+fn fault_of<A: Allocator + Copy>(alloc: A, stream: &[u8]) -> Option<TpiFault> {
+    Records::read(alloc, stream).err()
+}
+
+#[test]
+fn an_end_that_is_too_large(rt: HostRuntime) {
+    let mut stream = STREAM;
+    stream[12] = 0xFF;
+    stream[13] = 0xFF;
+    stream[14] = 0xFF;
+    stream[15] = 0xFF;
+    let fault = TpiFault::RecordCount {
+        said: 4294963199,
+        found: 2,
+    };
+    assert_eq!(rt; fault_of(rt.alloc(), &stream), Some(fault));
+}
+
+#[test]
+fn growth_is_refused(rt: HostRuntime) -> Result<(), Fail> {
+    // 64 records of a word each: a table of 256 bytes
+    let mut stream = [0u8; 312];
+    stream[..56].copy_from_slice(&STREAM[..56]);
+    stream[12] = 0x40;
+    stream[16] = 0;
+    stream[17] = 1;
+    for position in 0..64usize {
+        stream[56 + 4 * position] = 2;
+    }
+    let mut refused = 0u32;
+    let mut read = 0u32;
+    for size in 0..24usize {
+        let heap = LocalHeap::new(rt.alloc(), 16 * size)?;
+        match fault_of(&heap, &stream) {
+            None => read = read.saturating_add(1),
+            Some(fault) => {
+                assert_eq!(rt; fault, TpiFault::Memory);
+                refused = refused.saturating_add(1);
+            }
+        }
+    }
+    assert!(rt; refused > 0);
+    assert!(rt; read > 0);
+    Ok(())
+}
