@@ -1,0 +1,230 @@
+-- The pieces of a stream: which blocks they lie in, and that they are its text.
+use Rattle.std.proofs.Common.{◌≡◌, ℕ, suc, ◌+◌, ◌-◌, ◌*◌, ◌/◌, ◌%◌, ◌<◌, ◌≤◌, min, List, [], ◌∷◌, ◌++◌, Option, Some, None, length, map, take, drop, get_or, refl, sym, ap, ◌∙◌, subst, arith, inl, inr}
+use Rattle.std.specs.Prelude.{◌^◌, All, IfSome, IsNone, ◌↔◌}
+use Rattle.std.specs.List.{range_with_len, concat, slice_get}
+use Rattle.std.proofs.lemmas.Option.{slice_get_past, slice_get_within, slice_get-get_or}
+use Rattle.std.proofs.lemmas.Nat.{mul-le, div_below, le-div}
+use Rattle.std.proofs.lemmas.Bool.{cases_lt}
+use Rattle.std.proofs.lemmas.Bool.Decides.{nat_tests}
+use Rattle.std.proofs.lemmas.List.{append-nil, drop_more, drop_all, nil_from_length}
+use Rattle.std.proofs.lemmas.List.Elements.{All-head, All-tail, All-get_or, All-from_get_or}
+use Rattle.msf_blocks.specs.BlockNumber.{IsBlockSize, IsOrdinary, blocks_for}
+use Rattle.msf_blocks.specs.Superblock.{Fields}
+use Rattle.msf_blocks.specs.Directory.{Listed, IsListed, bytes_of}
+use Rattle.msf_blocks.specs.Layout.{LayoutView, IsLayout, block_in, block_of}
+use Rattle.msf_streams.specs.Stream.{gathered, pieces, blocks_in, pieces_from, stream_pieces, stream_text}
+use Rattle.msf_streams.proofs.RangeLaws.{map-range_with_len_parts, map-same_ranges, part_by_places, next_block, first_block}
+
+-- ---- how many blocks so many bytes need
+
+-- a block has bytes, and what a directory can list needs few of them
+pub record SizeFacts (block_size : ℕ) : Type 0 where
+  pub some : 0 < block_size
+  pub few : (bytes : ℕ) → bytes < 2 ^ 32 → blocks_for block_size bytes ≤ 2 ^ 23
+
+-- these hold of each size that a block may have
+pub size_facts : (block_size : ℕ) → IsBlockSize block_size → SizeFacts block_size
+size_facts block_size size = elim size [
+  | inl e ↦ rw e (record { some = omega arith; few = λ bytes short. omega arith })
+  | inr (inl e) ↦ rw e (record { some = omega arith; few = λ bytes short. omega arith })
+  | inr (inr (inl e)) ↦ rw e (record { some = omega arith; few = λ bytes short. omega arith })
+  | inr (inr (inr e)) ↦ rw e (record { some = omega arith; few = λ bytes short. omega arith })
+]
+
+-- only no bytes need no block
+none_for : (block_size bytes : ℕ) → 0 < block_size → 0 ≡ blocks_for block_size bytes → bytes ≡ 0
+none_for block_size bytes some e = elim (cases_lt 0 bytes) [
+  | inl more ↦ absurd (omega (arith, e, le-div 1 (bytes + block_size - 1) block_size some (omega arith)))
+  | inr none ↦ omega arith
+]
+
+-- a block of bytes more needs a block more
+one_more_for : (block_size bytes : ℕ) → 0 < block_size → block_size ≤ bytes → blocks_for block_size bytes ≡ blocks_for block_size (bytes - block_size) + 1
+one_more_for block_size bytes some le =
+    let e : bytes + block_size - 1 ≡ (bytes - block_size + block_size - 1) + block_size = omega arith in
+    rw e ((next_block block_size (bytes - block_size + block_size - 1) some).0)
+
+-- what fits in a block needs no second one
+at_most_one_for : (block_size bytes : ℕ) → 0 < block_size → bytes ≤ block_size → blocks_for block_size bytes ≤ 1
+at_most_one_for block_size bytes some le =
+    let below : (bytes + block_size - 1) / block_size < 2 = div_below (bytes + block_size - 1) block_size 2 some (omega arith) in omega arith
+
+-- ---- the pieces are the text
+
+-- the block lies in the file, whole
+abbrev pub IsWhole : List ℕ → ℕ → ℕ → Type 0
+IsWhole file block_size block = (block + 1) * block_size ≤ length file
+
+-- the first bytes of a text stand in its first block
+gathered_first : (file : List ℕ) (block_size block n : ℕ) (blocks : List ℕ) → n ≤ block_size → IsWhole file block_size block
+    → map (λ i. get_or file (get_or (block ∷ blocks) (i / block_size) 0 * block_size + i % block_size) 0) (range_with_len 0 n) ≡ take n (drop (block * block_size) file)
+gathered_first file block_size block n blocks le fits =
+    map-same_ranges (λ i. get_or file (get_or (block ∷ blocks) (i / block_size) 0 * block_size + i % block_size) 0) (λ i. get_or file (block * block_size + i) 0) 0 0 n (λ i below.
+    let same : 0 + i ≡ i = omega arith in
+    let first = first_block block_size i (omega arith) in
+    rw (same, first.0, first.1) refl)
+    ∙ part_by_places file (block * block_size) n (omega arith)
+
+-- a text is its first block, and what the other blocks hold
+gathered_more : (file : List ℕ) (block_size block size : ℕ) (blocks : List ℕ) → 0 < block_size → block_size ≤ size → IsWhole file block_size block
+    → gathered file block_size (block ∷ blocks) size ≡ take block_size (drop (block * block_size) file) ++ gathered file block_size blocks (size - block_size)
+unfolding gathered
+gathered_more file block_size block size blocks some le fits =
+    let f = λ (i : ℕ). get_or file (get_or (block ∷ blocks) (i / block_size) 0 * block_size + i % block_size) 0 in
+    let g = λ (i : ℕ). get_or file (get_or blocks (i / block_size) 0 * block_size + i % block_size) 0 in
+    let whole : size ≡ block_size + (size - block_size) = omega arith in
+    let others : map f (range_with_len (0 + block_size) (size - block_size)) ≡ map g (range_with_len 0 (size - block_size)) =
+    map-same_ranges f g (0 + block_size) 0 (size - block_size) (λ i below.
+    let here : 0 + i ≡ i = omega arith in
+    let there : 0 + block_size + i ≡ i + block_size = omega arith in
+    let next = next_block block_size i some in
+    let one : i / block_size + 1 ≡ suc (i / block_size) = omega arith in
+    rw (there, here, next.0, next.1, one) refl) in
+    subst (λ (n : ℕ). map f (range_with_len 0 n) ≡ take block_size (drop (block * block_size) file) ++ map g (range_with_len 0 (size - block_size))) (sym whole)
+    (map-range_with_len_parts f 0 block_size (size - block_size) ∙ rw (gathered_first file block_size block block_size blocks (omega arith) fits, others) refl)
+
+-- the pieces, joined, are the text
+concat-pieces : (file : List ℕ) (block_size size : ℕ) (blocks : List ℕ) → 0 < block_size → length blocks ≡ blocks_for block_size size → All (IsWhole file block_size) blocks
+    → concat (pieces file block_size blocks size) ≡ gathered file block_size blocks size
+unfolding gathered pieces
+concat-pieces file block_size size [] some long whole = let none : size ≡ 0 = none_for block_size size some long in rw none refl
+concat-pieces file block_size size (block ∷ blocks) some long whole =
+    let here : IsWhole file block_size block = All-head (IsWhole file block_size) block blocks whole in
+    let others : All (IsWhole file block_size) blocks = All-tail (IsWhole file block_size) block blocks whole in
+    elim (cases_lt size block_size) [
+      | inl short ↦
+          let none : blocks ≡ [] = nil_from_length blocks (omega (arith, long, at_most_one_for block_size size some (omega arith))) in
+          let least : min block_size size ≡ size = omega arith in
+          rw (none, least) (append-nil (take size (drop (block * block_size) file)) ∙ sym (gathered_first file block_size block size [] (omega arith) here))
+      | inr le ↦
+          let least : min block_size size ≡ block_size = omega arith in
+          let fewer : length blocks ≡ blocks_for block_size (size - block_size) = omega (arith, long, one_more_for block_size size some le) in
+          rw least (ap (λ (text : List ℕ). take block_size (drop (block * block_size) file) ++ text) (concat-pieces file block_size (size - block_size) blocks some fewer others)
+          ∙ sym (gathered_more file block_size block size blocks some le here))
+    ]
+
+-- there is one piece for each block
+length-pieces : (file : List ℕ) (block_size size : ℕ) (blocks : List ℕ) → length (pieces file block_size blocks size) ≡ length blocks
+unfolding pieces
+length-pieces file block_size size [] = refl
+length-pieces file block_size size (block ∷ blocks) = ap suc (length-pieces file block_size (size - block_size) blocks)
+
+-- ---- one piece after the other
+
+-- the number at a position of a stream's list is that of its blocks there
+block_in_list : (stream : Option Listed) (k : ℕ) → block_in stream k ≡ slice_get (blocks_in stream) k
+block_in_list None k = sym (slice_get_past [] k (omega arith))
+block_in_list (Some stream) k = refl
+
+-- where the list has a block, the piece in it comes next
+pub piece_here : (file : List ℕ) (layout : LayoutView) (s position block left : ℕ) → block_of layout.streams s position ≡ Some block
+    → pieces_from file layout s position left
+    ≡ take (min layout.superblock.block_size left) (drop (block * layout.superblock.block_size) file) ∷ pieces_from file layout s (position + 1) (left - layout.superblock.block_size)
+unfolding pieces
+piece_here file layout s position block left e =
+    let blocks = blocks_in (slice_get layout.streams s) in
+    let there : slice_get blocks position ≡ Some block = sym (block_in_list (slice_get layout.streams s) position) ∙ e in
+    let below : position < length blocks = slice_get_within blocks position block there in
+    let both : Some (get_or blocks position 0) ≡ Some block = sym (slice_get-get_or blocks position 0 below) ∙ there in
+    let is : get_or blocks position 0 ≡ block = cc in
+    let cut : drop position blocks ≡ block ∷ drop (position + 1) blocks = drop_more blocks position 0 below ∙ rw is refl in
+    rw cut refl
+
+-- where it has none, no piece is left
+pub piece_none : (file : List ℕ) (layout : LayoutView) (s position left : ℕ) → block_of layout.streams s position ≡ None → pieces_from file layout s position left ≡ []
+unfolding pieces
+piece_none file layout s position left e =
+    let blocks = blocks_in (slice_get layout.streams s) in
+    elim (cases_lt position (length blocks)) [
+      | inl below ↦
+          let both : Some (get_or blocks position 0) ≡ None = sym (slice_get-get_or blocks position 0 below) ∙ sym (block_in_list (slice_get layout.streams s) position) ∙ e in
+          absurd cc
+      | inr past ↦ rw (drop_all position blocks past) refl
+    ]
+
+-- ---- what a layout says of its streams
+
+-- a size of a stream fits four bytes
+bytes_short : (size : ℕ) → size < 2 ^ 32 → bytes_of size < 2 ^ 32
+bytes_short size short = grind (arith, nat_tests)
+
+-- a stream that is none, for where a list has none
+no_stream : Listed
+no_stream = record { size = 0; blocks = [] }
+
+-- a stream of the layout, and what the layout promises of it
+record IsStream (layout : LayoutView) (s : ℕ) (stream : Listed) : Type 0 where
+  here : slice_get layout.streams s ≡ Some stream
+  fits : IsListed layout.superblock stream
+
+-- each number below the count of streams is a stream's
+stream_at : (layout : LayoutView) (s : ℕ) → IsLayout layout → s < length layout.streams → IsStream layout s (get_or layout.streams s no_stream)
+stream_at layout s holds below = record {
+  here = slice_get-get_or layout.streams s no_stream below;
+  fits = All-get_or (IsListed layout.superblock) layout.streams s no_stream below holds.each;
+}
+
+-- the block at a position of a stream's list is an ordinary one, and the position is small
+pub listed_block : (layout : LayoutView) (s position block : ℕ) → IsBlockSize layout.superblock.block_size → IsLayout layout → block_of layout.streams s position ≡ Some block
+    → IsOrdinary layout.superblock.num_blocks block × (position < 2 ^ 23)
+listed_block layout s position block size holds e = elim (cases_lt s (length layout.streams)) [
+  | inl below ↦
+      let stream = get_or layout.streams s no_stream in
+      let is_stream = stream_at layout s holds below in
+      let there : slice_get stream.blocks position ≡ Some block = rw is_stream.here at e in
+      let inside : position < length stream.blocks = slice_get_within stream.blocks position block there in
+      let both : Some (get_or stream.blocks position 0) ≡ Some block = sym (slice_get-get_or stream.blocks position 0 inside) ∙ there in
+      let is : get_or stream.blocks position 0 ≡ block = cc in
+      let short : bytes_of stream.size < 2 ^ 32 = bytes_short stream.size is_stream.fits.short in (
+        rw is at (All-get_or (IsOrdinary layout.superblock.num_blocks) stream.blocks position 0 inside is_stream.fits.ordinary),
+        omega (arith, is_stream.fits.count, (size_facts layout.superblock.block_size size).few (bytes_of stream.size) short),
+      )
+  | inr past ↦ let none : slice_get layout.streams s ≡ None = slice_get_past layout.streams s past in absurd (let bad = rw none at e in cc)
+]
+
+-- an ordinary block lies in the file, whole
+pub block_fits : (file : List ℕ) (fields : Fields) (block : ℕ) → fields.num_blocks * fields.block_size ≤ length file → IsOrdinary fields.num_blocks block
+    → block * fields.block_size + fields.block_size ≤ length file
+block_fits file fields block whole ordinary =
+    let le : (block + 1) * fields.block_size ≤ fields.num_blocks * fields.block_size = mul-le _ _ _ _ (omega (arith, ordinary.1)) (omega arith) in omega (arith, le)
+
+-- the blocks of a stream lie in the file, whole
+blocks_fit : (file : List ℕ) (fields : Fields) (stream : Listed) → fields.num_blocks * fields.block_size ≤ length file → IsListed fields stream → All (IsWhole file fields.block_size) stream.blocks
+blocks_fit file fields stream whole fits = All-from_get_or (IsWhole file fields.block_size) stream.blocks 0 (λ i below.
+    let ordinary = All-get_or (IsOrdinary fields.num_blocks) stream.blocks i 0 below fits.ordinary in
+    let inside = block_fits file fields (get_or stream.blocks i 0) whole ordinary in omega (arith, inside))
+
+-- ---- the pieces of a stream
+
+-- they are its text, joined
+pub pieces_text : (file : List ℕ) (layout : LayoutView) (s : ℕ) (found : Option (List (List ℕ))) → IsBlockSize layout.superblock.block_size → IsLayout layout
+    → layout.superblock.num_blocks * layout.superblock.block_size ≤ length file → found ≡ stream_pieces file layout s → IfSome found (λ p. stream_text file layout s ≡ Some (concat p))
+pieces_text file layout s found size holds whole e = elim (cases_lt s (length layout.streams)) [
+  | inl below ↦
+      let stream = get_or layout.streams s no_stream in
+      let is_stream = stream_at layout s holds below in
+      let joined = concat-pieces file layout.superblock.block_size (bytes_of stream.size) stream.blocks (size_facts layout.superblock.block_size size).some is_stream.fits.count
+      (blocks_fit file layout.superblock stream whole is_stream.fits) in
+      rw (e, is_stream.here) (ap (λ (text : List ℕ). Some text) (sym joined))
+  | inr past ↦ let none : slice_get layout.streams s ≡ None = slice_get_past layout.streams s past in rw (e, none) tt
+]
+
+-- there are as many as its bytes need blocks
+pub pieces_count : (file : List ℕ) (layout : LayoutView) (s : ℕ) (found : Option (List (List ℕ))) → IsLayout layout → found ≡ stream_pieces file layout s
+    → IfSome found (λ p. IfSome (slice_get layout.streams s) (λ stream. length p ≡ blocks_for layout.superblock.block_size (bytes_of stream.size)))
+pieces_count file layout s found holds e = elim (cases_lt s (length layout.streams)) [
+  | inl below ↦
+      let stream = get_or layout.streams s no_stream in
+      let is_stream = stream_at layout s holds below in
+      rw (e, is_stream.here) (length-pieces file layout.superblock.block_size (bytes_of stream.size) stream.blocks ∙ is_stream.fits.count)
+  | inr past ↦ let none : slice_get layout.streams s ≡ None = slice_get_past layout.streams s past in rw (e, none) tt
+]
+
+-- there are none just where there is no such stream
+pub pieces_none : (file : List ℕ) (layout : LayoutView) (s : ℕ) (found : Option (List (List ℕ))) → found ≡ stream_pieces file layout s → IsNone found ↔ (length layout.streams ≤ s)
+pieces_none file layout s found e = elim (cases_lt s (length layout.streams)) [
+  | inl below ↦
+      let here : slice_get layout.streams s ≡ Some (get_or layout.streams s no_stream) = slice_get-get_or layout.streams s no_stream below in
+      rw (e, here) (λ none. cc, λ past. absurd (omega arith))
+  | inr past ↦ let none : slice_get layout.streams s ≡ None = slice_get_past layout.streams s past in rw (e, none) (λ _. past, λ _. refl)
+]

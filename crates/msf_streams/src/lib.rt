@@ -1,0 +1,35 @@
+//! The bytes of a container's streams.
+//!
+//! A stream lies in blocks of the file, in the order in which the stream directory lists them;
+//! they need not stand side by side. All of them are full but the last, in which the stream may
+//! end early. The bytes of a stream, put together, are called its *text*.
+//!
+//! - [`pieces`] lends the text from the file, one piece for each block. It takes no memory, so a
+//!   file of any size can be gone through.
+//! - [`gather`] copies the text into one buffer, for what has to be read across the ends of
+//!   blocks. It reserves the whole size at once, before it copies anything.
+//!
+//! Streams are numbered from 0, as the directory lists them. A nil stream and a stream of length
+//! 0 have an empty text and no pieces; only a number that no stream has is refused. Streams may
+//! share blocks: each is read as it is listed.
+//!
+//! Both calls take the file beside its `Layout`, which was checked once for all: every number in
+//! it names a block of the file, so that none is checked again here.
+//!
+//! What is proved: the pieces are those of the listed blocks, in order and as many as the text
+//! needs, and joined they are the text, whose byte `i` stands in block `i / block size` of the
+//! stream's list (`gathered` of `specs/Stream`); a stream that is there is refused only for want
+//! of memory. ("The MSF File Format", "The Stream Directory".)
+#![tactic(auto)]
+
+mod by_block;
+mod fault;
+mod lent;
+#[cfg(test)]
+mod tests;
+mod whole;
+
+pub use by_block::pieces;
+pub use fault::StreamFault;
+pub use lent::Pieces;
+pub use whole::gather;

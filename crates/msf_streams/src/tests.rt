@@ -1,0 +1,128 @@
+//! What no clause says: the texts of the faults, that calls succeed, and refused growth.
+
+ghost use Rattle.std.specs.Prelude.{◌+◌, ◌≤◌, length};
+
+use crate::{StreamFault, gather, pieces};
+use linked_list_allocator::LocalHeap;
+use msf_blocks::Layout;
+use std::test::Fail;
+
+/// The size of a block, in bytes.
+const BLOCK: usize = 4096;
+
+/// Writes a four-byte number, the lowest byte first.
+fn put(file: &mut [u8], offset: usize, number: u32)
+    requires { offset + 4 ≤ length file.old }
+{
+    file[offset..offset + 4].copy_from_slice(&number.to_le_bytes());
+}
+
+/// A container of ten blocks. Block 3 is the block map and block 4 the directory, of five
+/// streams:
+///
+/// | stream | bytes | blocks |
+/// |---|---|---|
+/// | 0 | 4,097 | 9, 5 |
+/// | 1 | 0 | |
+/// | 2 | nil | |
+/// | 3 | 10 | 6 |
+/// | 4 | 4,096 | 6 |
+///
+/// The bytes from block 5 on count up to 250, again and again.
+fn container() -> [u8; 40960] {
+    let mut file = [0u8; 40960];
+    file[..32].copy_from_slice(b"Microsoft C/C++ MSF 7.00\x0d\x0a\x1aDS\0\0\0");
+    let superblock = [4096, 1, 10, 40, 0, 3];
+    for (k, number) in superblock.iter().enumerate() {
+        put(&mut file, 32 + 4 * k, *number);
+    }
+    put(&mut file, 3 * BLOCK, 4);
+    let directory = [5, 4097, 0, u32::MAX, 10, 4096, 9, 5, 6, 6];
+    for (k, number) in directory.iter().enumerate() {
+        put(&mut file, 4 * BLOCK + 4 * k, *number);
+    }
+    for (i, byte) in file[5 * BLOCK..].iter_mut().enumerate() {
+        *byte = (i % 251) as u8;
+    }
+    file
+}
+
+#[test]
+fn each_fault_has_its_text(rt: HostRuntime) -> Result<(), Fail> {
+    for (fault, text) in [
+        (StreamFault::NoStream(5), "11 NoStream 5"),
+        (StreamFault::Memory, "33 Memory"),
+    ] {
+        let shown = fault.to_string(rt.alloc())?;
+        assert_eq!(rt; shown.as_str(), text);
+    }
+    Ok(())
+}
+
+#[test]
+fn pieces_are_lent_in_the_order_of_the_list(rt: HostRuntime) -> Result<(), Fail> {
+    let file = container();
+    let layout = Layout::read(rt.alloc(), &file)?;
+    // Where each piece begins and ends in the file.
+    let table: [(u32, &[(usize, usize)]); 5] = [
+        (0, &[(36864, 40960), (20480, 20481)]),
+        (1, &[]),
+        (2, &[]),
+        (3, &[(24576, 24586)]),
+        (4, &[(24576, 28672)]),
+    ];
+    for (s, places) in table {
+        let mut left = pieces(&file, &layout, s).ok_or("no stream")?;
+        for (start, end) in places {
+            assert_eq!(rt;
+                left.next(),
+                file.get(*start..*end),
+                "stream {s} at {start}"
+            );
+        }
+        assert_eq!(rt; left.next(), None, "behind the pieces of stream {s}");
+    }
+    assert!(rt; pieces(&file, &layout, 5).is_none());
+    Ok(())
+}
+
+#[test]
+fn a_text_is_gathered_whole(rt: HostRuntime) -> Result<(), Fail> {
+    let file = container();
+    let layout = Layout::read(rt.alloc(), &file)?;
+    let text = gather(rt.alloc(), &file, &layout, 0)?;
+    assert_eq!(rt; text.len(), 4097);
+    assert!(rt; text.starts_with(&file[36864..40960]));
+    assert_eq!(rt; text.last().copied(), Some(file[20480]));
+    for (s, size) in [(1, 0), (2, 0), (3, 10), (4, 4096)] {
+        let text = gather(rt.alloc(), &file, &layout, s)?;
+        assert_eq!(rt; text.as_slice(), &file[24576..24576 + size], "stream {s}");
+    }
+    let fault = gather(rt.alloc(), &file, &layout, 5).err();
+    assert_eq!(rt; fault, Some(StreamFault::NoStream(5)));
+    Ok(())
+}
+
+#[test]
+fn growth_is_refused(rt: HostRuntime) -> Result<(), Fail> {
+    let file = container();
+    let layout = Layout::read(rt.alloc(), &file)?;
+    let mut refused = 0u32;
+    let mut gathered = 0u32;
+    for size in 0..20usize {
+        let heap = LocalHeap::new(rt.alloc(), 256 * size)?;
+        match gather(&heap, &file, &layout, 0) {
+            Ok(text) => {
+                assert_eq!(rt; text.len(), 4097);
+                gathered = gathered.saturating_add(1);
+            }
+            Err(fault) => {
+                assert_eq!(rt; fault, StreamFault::Memory);
+                refused = refused.saturating_add(1);
+            }
+        }
+    }
+    assert!(rt; refused > 0);
+    assert!(rt; gathered > 0);
+    Ok(())
+}
