@@ -1,0 +1,8 @@
+use Rattle.std.proofs.Common.{string_bytes}
+use Rattle.pdbmerge.proofs.show.run.Goals as goal
+
+pub returns-in_err-put_all-clause-write : goal.returns-in_err-put_all-clause-write
+returns-in_err-put_all-clause-write g c = λ _.
+    let shown = rw c.deref.ensures.value at c.in_ok-text.ensures.value in
+    let part = rw c.as_bytes.ensures.value at c.in_err-put_all.ensures.prefix in
+    (c.in_err-put_all.ensures.broken, (c.in_ok-file.file.items, string_bytes c.in_ok-text.text, part.0, c.in_ok-file.ensures.value, shown, part.1, part.2))

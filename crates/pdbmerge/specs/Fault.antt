@@ -1,0 +1,31 @@
+-- The fault of a command that a fault of a layer below becomes: want of memory is one, wherever it was met.
+use Rattle.msf_blocks.specs.declared.fault.MsfFault.{MsfFault}
+use Rattle.msf_blocks.specs.declared.fault.MsfFault.TheVariants as msf
+use Rattle.msf_streams.specs.declared.fault.StreamFault.{StreamFault}
+use Rattle.msf_streams.specs.declared.fault.StreamFault.TheVariants as streams
+use Rattle.tpi_records.specs.declared.fault.TpiFault.{TpiFault}
+use Rattle.tpi_records.specs.declared.fault.TpiFault.TheVariants as tpi
+use Rattle.pdbmerge.specs.declared.input.ReadFault.{ReadFault}
+use Rattle.pdbmerge.specs.declared.input.ReadFault.TheVariants as reads
+use Rattle.pdbmerge.specs.declared.fault.RunFault.{RunFault}
+use Rattle.pdbmerge.specs.declared.fault.RunFault.TheVariants.{Read, Msf, Stream, Tpi, Memory}
+
+-- of reading
+abbrev pub of_read : ReadFault → RunFault
+of_read reads.Memory = Memory
+of_read fault = Read fault
+
+-- of the container
+abbrev pub of_msf : MsfFault → RunFault
+of_msf msf.Memory = Memory
+of_msf fault = Msf fault
+
+-- of its streams
+abbrev pub of_stream : StreamFault → RunFault
+of_stream streams.Memory = Memory
+of_stream fault = Stream fault
+
+-- of the stream of type records
+abbrev pub of_tpi : TpiFault → RunFault
+of_tpi tpi.Memory = Memory
+of_tpi fault = Tpi fault

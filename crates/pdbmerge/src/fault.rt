@@ -1,0 +1,97 @@
+//! Why a command is refused.
+
+ghost use Rattle.std.specs.Prelude.{◌≡◌};
+ghost use Rattle.pdbmerge.specs.Fault.{of_read, of_msf, of_stream, of_tpi};
+ghost use Rattle.pdbmerge.specs.declared.fault.RunFault.TheVariants.{Memory, Write};
+
+use crate::input::ReadFault;
+use msf_blocks::{MsfFault, NotTaken};
+use msf_streams::StreamFault;
+use std::alloc::AllocError;
+use thiserror::Error;
+use tpi_records::TpiFault;
+
+/// Why a command that shows a file is refused.
+///
+/// Want of memory is `Memory` wherever it was met: the faults inside the others never are it.
+#[derive(Debug, PartialEq, Eq, Drop, Error)]
+pub enum RunFault {
+    /// The input wasn't read to its end.
+    #[error("{0}")]
+    Read(ReadFault),
+    /// The container is refused.
+    #[error("{0}")]
+    Msf(MsfFault),
+    /// The container lacks the stream.
+    #[error("{0}")]
+    Stream(StreamFault),
+    /// The stream of type records is refused.
+    #[error("{0}")]
+    Tpi(TpiFault),
+    /// A growth was refused.
+    #[error("33 Memory")]
+    Memory,
+    /// The text wasn't taken whole.
+    #[error("36 Write")]
+    Write,
+}
+
+impl From<AllocError> for RunFault {
+    ghost from_gives = { λ _ fault. fault ≡ Memory };
+
+    fn from(_error: AllocError) -> RunFault {
+        RunFault::Memory
+    }
+}
+
+impl From<NotTaken> for RunFault {
+    ghost from_gives = { λ _ fault. fault ≡ Write };
+
+    fn from(_error: NotTaken) -> RunFault {
+        RunFault::Write
+    }
+}
+
+impl From<ReadFault> for RunFault {
+    ghost from_gives = { λ inner fault. fault ≡ of_read inner };
+
+    fn from(fault: ReadFault) -> RunFault {
+        match fault {
+            ReadFault::Memory => RunFault::Memory,
+            fault => RunFault::Read(fault),
+        }
+    }
+}
+
+impl From<MsfFault> for RunFault {
+    ghost from_gives = { λ inner fault. fault ≡ of_msf inner };
+
+    fn from(fault: MsfFault) -> RunFault {
+        match fault {
+            MsfFault::Memory => RunFault::Memory,
+            fault => RunFault::Msf(fault),
+        }
+    }
+}
+
+impl From<StreamFault> for RunFault {
+    ghost from_gives = { λ inner fault. fault ≡ of_stream inner };
+
+    fn from(fault: StreamFault) -> RunFault {
+        match fault {
+            StreamFault::Memory => RunFault::Memory,
+            fault => RunFault::Stream(fault),
+        }
+    }
+}
+
+impl From<TpiFault> for RunFault {
+    ghost from_gives = { λ inner fault. fault ≡ of_tpi inner };
+
+    fn from(fault: TpiFault) -> RunFault {
+        match fault {
+            TpiFault::Memory => RunFault::Memory,
+            fault => RunFault::Tpi(fault),
+        }
+    }
+}

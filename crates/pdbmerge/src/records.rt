@@ -1,0 +1,97 @@
+//! The command `records`: a line for each type record of a file.
+
+ghost use Rattle.std.specs.Prelude.{◌≡◌, ◌⊎◌, ◌++◌, true, OnOk, IfOk, IfErr, string_bytes};
+ghost use Rattle.tpi_records.specs.Records.{IsRecord};
+ghost use Rattle.pdbmerge.specs.Records.{ShowsRecords, HasNoTypeRecords, record_line, record_lines};
+ghost use Rattle.pdbmerge.specs.Input.{IsNotRead};
+ghost use Rattle.pdbmerge.specs.Run.{Prints, PrintsPart, GivesRefused, IfRead, IfOfFile};
+
+use crate::fault::RunFault;
+use crate::show::{Show, run};
+use crate::text::{push_index, push_kind};
+use byte_fields::u16_at;
+use msf_blocks::{Layout, Sink, Source};
+use msf_streams::gather;
+use std::alloc::{AllocError, Allocator};
+
+/// The stream that holds the type records.
+const TPI_STREAM: u32 = 2;
+
+/// The type index of the first record.
+const FIRST_INDEX: u32 = 0x1000;
+
+/// Adds the line of a record, which is whole: it begins with its length field.
+#[tactic(auto, unfolding(crate::specs::Records::record_line))]
+fn push_record<A: Allocator>(
+    text: &mut String<A>,
+    index: u32,
+    bytes: &[u8],
+) -> Result<(), AllocError>
+    requires { IsRecord bytes.now }
+    ensures { OnOk result (string_bytes text.new ≡ string_bytes text.old ++ record_line index bytes.now) }
+{
+    let kind = u16_at(bytes, 2);
+    let size = bytes.len();
+    push_index(text, index)?;
+    text.push_str(" ")?;
+    push_kind(text, kind)?;
+    writeln!(text, " {size}")
+}
+
+/// The lines of all records.
+fn record_lines<A: Allocator + Copy>(
+    alloc: A,
+    records: &tpi_records::Records<'_, A>,
+) -> Result<String<A>, AllocError>
+    ensures { IfOk result (λ text. string_bytes text ≡ record_lines 0x1000 records.now) }
+{
+    let mut text = String::new(alloc);
+    // The proof learns here that the indices of all records are below 2^32.
+    let _ = records.len();
+    let mut index = FIRST_INDEX;
+    for bytes in records.iter() {
+        push_record(&mut text, index, bytes)?;
+        index += 1;
+    }
+    Ok(text)
+}
+
+/// The command `records`.
+#[derive(Clone, Copy, Debug)]
+struct Records;
+
+impl Show for Records {
+    ghost shows = { λ _. ShowsRecords };
+
+    ghost refuses = { λ _. HasNoTypeRecords };
+
+    fn text<A: Allocator + Copy>(&self, alloc: A, file: &[u8]) -> Result<String<A>, RunFault> {
+        let layout = Layout::read(alloc, file)?;
+        let stream = gather(alloc, file, &layout, TPI_STREAM)?;
+        let records = tpi_records::Records::read(alloc, &stream)?;
+        Ok(record_lines(alloc, &records)?)
+    }
+}
+
+/// Runs the command `records`: for each type record a line with its type index, its kind and its
+/// size in bytes, its length field included.
+///
+/// The faults come in this order: those of reading; those of the container; a container without
+/// a stream 2; those of that stream; and that the text wasn't taken whole. All of the input is
+/// read, and the whole text is made, before any of it is written.
+pub fn run_records<R: Source, W: Sink, A: Allocator + Copy>(
+    alloc: A,
+    input: &mut R,
+    limit: u32,
+    out: &mut W,
+) -> Result<(), RunFault>
+    ensures value { OnOk result (Prints ShowsRecords limit
+        (R.left input.old) (R.left input.new) (W.taken out.old) (W.taken out.new)) }
+    ensures read { IfErr result (IfRead (IsNotRead (R.left input.old) (R.left input.new) (R.is_broken input.new) limit)) }
+    ensures first { IfErr result (IfOfFile (GivesRefused HasNoTypeRecords limit (R.left input.old) (R.left input.new))) }
+    ensures write { result ≡ Err RunFault.Write → (W.is_broken out.new ≡ true) × PrintsPart ShowsRecords limit
+        (R.left input.old) (R.left input.new) (W.taken out.old) (W.taken out.new) }
+    ensures untouched { IfErr result (λ fault. (fault ≡ RunFault.Write) ⊎ (out.new ≡ out.old)) }
+{
+    run(alloc, &Records, input, limit, out)
+}

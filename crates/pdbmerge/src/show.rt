@@ -1,0 +1,51 @@
+//! How every command that shows a file runs.
+
+ghost use Rattle.std.specs.Prelude.{◌≡◌, ◌⊎◌, ℕ, List, true, OnOk, IfOk, IfErr, string_bytes};
+ghost use Rattle.pdbmerge.specs.Input.{IsNotRead};
+ghost use Rattle.pdbmerge.specs.Run.{Prints, PrintsPart, GivesRefused, IfRead, IfOfFile, IsOfText};
+ghost use Rattle.pdbmerge.specs.declared.fault.RunFault.{RunFault};
+
+use crate::fault::RunFault;
+use crate::input::read_all;
+use msf_blocks::{Sink, Source, put_all};
+use std::alloc::Allocator;
+
+/// A command that shows a file: it makes a text of the file's bytes.
+pub trait Show {
+    /// The command prints this text for this file.
+    ghost shows: { Self → List ℕ → List ℕ → Type 0 };
+
+    /// The command refuses this file with this fault, the first that it meets.
+    ghost refuses: { Self → List ℕ → RunFault → Type 0 };
+
+    /// Makes the whole text.
+    fn text<A: Allocator + Copy>(&self, alloc: A, file: &[u8]) -> Result<String<A>, RunFault>
+        ensures value { IfOk result (λ text. shows self.now file.now (string_bytes text)) }
+        ensures first { IfErr result (λ fault. refuses self.now file.now fault ⊎ (fault ≡ RunFault.Memory)) }
+        // It neither reads nor writes.
+        ensures pure { IfErr result IsOfText };
+}
+
+/// Runs a command: reads all of the input, makes the whole text, then writes it.
+///
+/// So whatever is refused, but for the writing itself, is refused before anything was written.
+pub fn run<C: Show, R: Source, W: Sink, A: Allocator + Copy>(
+    alloc: A,
+    command: &C,
+    input: &mut R,
+    limit: u32,
+    out: &mut W,
+) -> Result<(), RunFault>
+    ensures value { OnOk result (Prints (C.shows command.now) limit
+        (R.left input.old) (R.left input.new) (W.taken out.old) (W.taken out.new)) }
+    ensures read { IfErr result (IfRead (IsNotRead (R.left input.old) (R.left input.new) (R.is_broken input.new) limit)) }
+    ensures first { IfErr result (IfOfFile (GivesRefused (C.refuses command.now) limit (R.left input.old) (R.left input.new))) }
+    ensures write { result ≡ Err RunFault.Write → (W.is_broken out.new ≡ true) × PrintsPart (C.shows command.now) limit
+        (R.left input.old) (R.left input.new) (W.taken out.old) (W.taken out.new) }
+    ensures untouched { IfErr result (λ fault. (fault ≡ RunFault.Write) ⊎ (out.new ≡ out.old)) }
+{
+    let file = read_all(alloc, input, limit)?;
+    let text = command.text(alloc, &file)?;
+    put_all(out, text.as_bytes())?;
+    Ok(())
+}

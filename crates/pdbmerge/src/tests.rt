@@ -1,0 +1,9 @@
+//! What no clause says: rows of bytes and the texts that are wanted, that calls succeed with
+//! ample memory, and what readers, writers and heaps that fail lead to.
+
+mod growth;
+mod lines;
+mod reading;
+mod sample;
+mod shown;
+mod writing;

@@ -1,0 +1,36 @@
+//! Words, and what they mean.
+
+use crate::line::{Line, read_line};
+use std::alloc::Global;
+use std::test::Fail;
+
+/// What words mean: the file of `records`, the word `usage`, or the exit status of a fault.
+fn meaning(alloc: Global, texts: &[&str]) -> Result<String, Fail> {
+    let mut words = Vec::new(alloc);
+    for text in texts {
+        words.push(String::from_str(alloc, text)?)?;
+    }
+    match read_line(alloc, &words) {
+        Ok(Line::Usage) => Ok(String::from_str(alloc, "usage")?),
+        Ok(Line::Records { file }) => Ok(file),
+        Err(fault) => Ok(fault.status().to_string(alloc)?),
+    }
+}
+
+#[test]
+fn lines(rt: HostRuntime) -> Result<(), Fail> {
+    for (texts, want) in [
+        ([].as_slice(), "usage"),
+        (["records", "x.pdb"].as_slice(), "x.pdb"),
+        (["records"].as_slice(), "2"),
+        (["records", "x.pdb", "y.pdb"].as_slice(), "2"),
+        (["nonsense"].as_slice(), "2"),
+        (["--version"].as_slice(), "2"),
+        (["--help"].as_slice(), "0"),
+        (["records", "--help"].as_slice(), "0"),
+    ] {
+        let meant = meaning(rt.alloc(), texts)?;
+        assert_eq!(rt; meant.as_str(), want);
+    }
+    Ok(())
+}

@@ -1,0 +1,133 @@
+//! What `records` prints of the sample, of changed samples, and of bytes that are none.
+
+use crate::records::run_records;
+use crate::tests::sample::{LENGTH, put, sample};
+use msf_blocks::{In, Out};
+use std::alloc::Global;
+use std::test::Fail;
+
+/// What is printed of the sample.
+pub const SAMPLE: &str = "0x1000 0x1002 12\n0x1001 0x1001 12\n";
+
+/// What is printed of a file, or the fault.
+pub fn shown(alloc: Global, file: &[u8]) -> Result<String, Fail> {
+    let mut text = Vec::new(alloc);
+    match run_records(
+        alloc,
+        &mut In::new(file),
+        u32::MAX,
+        &mut Out::new(&mut text),
+    ) {
+        Ok(()) => {}
+        Err(fault) => return Ok(fault.to_string(alloc)?),
+    }
+    Ok(String::from_utf8(text)?)
+}
+
+#[test]
+fn short_files(rt: HostRuntime) -> Result<(), Fail> {
+    let zeros = [0u8; 56];
+    let cut = shown(rt.alloc(), &zeros[..55])?;
+    assert_eq!(rt; cut.as_str(), "1 Short");
+    let whole = shown(rt.alloc(), &zeros)?;
+    assert_eq!(rt; whole.as_str(), "2 Magic");
+    Ok(())
+}
+
+#[test]
+fn cut_and_extended_files(rt: HostRuntime) -> Result<(), Fail> {
+    let mut file = sample(rt.alloc())?;
+    file.push(7)?;
+    let longer = shown(rt.alloc(), &file)?;
+    assert_eq!(rt; longer.as_str(), SAMPLE);
+    file.truncate(LENGTH - 1);
+    let shorter = shown(rt.alloc(), &file)?;
+    assert_eq!(rt; shorter.as_str(), "5 FileSize need 3584 have 3583");
+    Ok(())
+}
+
+/// The bytes that stand from an offset on in place of the sample's, and the answer.
+type Row = (usize, &'static [u8], &'static str);
+
+const SUPERBLOCK: [Row; 9] = [
+    (32, b"\xff\x0f\0\0", "3 BlockSize 4095"),
+    (36, b"\x03\0\0\0", "4 FreeMapBlock 3"),
+    (40, b"\x08\0\0\0", "5 FileSize need 4096 have 3584"),
+    (44, b"\x06\0\0\0", "6 DirectorySize 6"),
+    (44, b"\x04\0\x01\0", "6 DirectorySize 65540"),
+    (52, b"\x07\0\0\0", "7 BlockMapAddr 7"),
+    (52, b"\0\0\0\0", "7 BlockMapAddr 0"),
+    (44, b"\0\0\0\0", "9 DirectoryShort need 4 have 0"),
+    (44, b"\x1c\0\0\0", "9 DirectoryShort need 32 have 28"),
+];
+
+const DIRECTORY: [Row; 8] = [
+    (2048, b"\x01\0\0\0", "11 NoStream 2"),
+    (2060, b"\x37\0\0\0", "16 TpiShort"),
+    (
+        2060,
+        b"\xff\xff\xff\xff\0\0\0\0\0\0\0\0\x05\0\0\0\0\0\0\0",
+        "16 TpiShort",
+    ),
+    (2076, b"\x07\0\0\0", "10 StreamBlock stream 2 at 0 n 7"),
+    (1536, b"\0\0\0\0", "8 DirectoryBlock at 0 n 0"),
+    (
+        2048,
+        b"\xff\xff\xff\xff",
+        "9 DirectoryShort need 17179869184 have 32",
+    ),
+    (
+        2068,
+        b"\xfe\xff\xff\xff",
+        "9 DirectoryShort need 33554464 have 32",
+    ),
+    (2072, b"\0\0\0\0", "10 StreamBlock stream 1 at 0 n 0"),
+];
+
+const TPI: [Row; 14] = [
+    (3072, b"\x0c\xca\x31\x01", "17 TpiVersion 20040204"),
+    (3076, b"\x39\0\0\0", "18 TpiHeaderSize 57"),
+    (3080, b"\x01\x10\0\0", "19 TpiBegin 0x1001"),
+    (3084, b"\xff\x0f\0\0", "20 TpiEnd 0xfff"),
+    (3088, b"\x19\0\0\0", "21 TpiBytes need 25 have 24"),
+    (3088, b"\x14\0\0\0", "22 RecordShort index 0x1001"),
+    (3088, b"\x0e\0\0\0", "22 RecordShort index 0x1001"),
+    (3088, b"\x0d\0\0\0", "22 RecordShort index 0x1001"),
+    (3088, b"\x0c\0\0\0", "24 RecordCount said 2 found 1"),
+    (3128, b"\0\0", "23 RecordLen index 0x1000 len 0"),
+    (3128, b"\x01\0", "23 RecordLen index 0x1000 len 1"),
+    (3128, b"\x03\0", "23 RecordLen index 0x1000 len 3"),
+    (3084, b"\x03\x10\0\0", "24 RecordCount said 3 found 2"),
+    (
+        3084,
+        b"\xff\xff\xff\xff",
+        "24 RecordCount said 4294963199 found 2",
+    ),
+];
+
+/// What is printed of the sample with other bytes from an offset on, or the fault.
+fn shown_with(alloc: Global, at: usize, bytes: &[u8]) -> Result<String, Fail> {
+    let mut file = sample(alloc)?;
+    put(&mut file, at, bytes);
+    shown(alloc, &file)
+}
+
+#[test]
+fn changed_samples(rt: HostRuntime) -> Result<(), Fail> {
+    for rows in [SUPERBLOCK.as_slice(), DIRECTORY.as_slice(), TPI.as_slice()] {
+        for (at, bytes, want) in rows {
+            let text = shown_with(rt.alloc(), *at, bytes)?;
+            assert_eq!(rt; text.as_str(), *want);
+        }
+    }
+    Ok(())
+}
+
+#[test]
+fn a_stream_without_records(rt: HostRuntime) -> Result<(), Fail> {
+    let mut file = sample(rt.alloc())?;
+    put(&mut file, 3084, b"\0\x10\0\0\0\0\0\0");
+    let text = shown(rt.alloc(), &file)?;
+    assert_eq!(rt; text.as_str(), "");
+    Ok(())
+}
