@@ -1,2 +1,3 @@
 pub mod InputLaws
 pub mod RecordsLaws
+pub mod StreamsLaws

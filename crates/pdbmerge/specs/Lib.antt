@@ -2,4 +2,5 @@ pub mod Fault
 pub mod Input
 pub mod Records
 pub mod Run
+pub mod Streams
 pub mod Text

@@ -1,5 +1,5 @@
 -- What the command `records` prints.
-use Rattle.std.specs.Prelude.{ℕ, ◌≡◌, ◌+◌, ◌≤◌, ◌⊎◌, List, [], ◌∷◌, ◌++◌, Option, Some, length}
+use Rattle.std.specs.Prelude.{ℕ, ◌≡◌, ◌+◌, ◌≤◌, List, [], ◌∷◌, ◌++◌, Some, length}
 use Rattle.std.specs.Fmt.{decimal}
 use Rattle.byte_fields.specs.Number.{number_at}
 use Rattle.byte_fields.specs.Check.{first_failing}
@@ -9,7 +9,7 @@ use Rattle.msf_streams.specs.declared.fault.StreamFault.TheVariants.{NoStream}
 use Rattle.tpi_records.specs.Records.{HasRecords, IsFirstFault}
 use Rattle.pdbmerge.specs.Text.{index_text, kind_text}
 use Rattle.pdbmerge.specs.declared.fault.RunFault.{RunFault}
-use Rattle.pdbmerge.specs.declared.fault.RunFault.TheVariants.{Read, Msf, Stream, Tpi, Memory, Write}
+use Rattle.pdbmerge.specs.declared.fault.RunFault.TheVariants.{Msf, Stream, Tpi}
 
 -- these are the type records of the file: those of its stream 2
 pub record HasTypeRecords (file : List ℕ) (records : List (List ℕ)) : Type 0 where

@@ -3,7 +3,7 @@
 ghost use Rattle.std.specs.Prelude.{◌≡◌, ◌≤◌, []};
 
 use clap::error::ErrorKind;
-use clap::{Arg, ArgAction, Command};
+use clap::{Arg, ArgAction, ArgMatches, Command};
 use std::alloc::{AllocError, Global};
 
 /// What is printed where there are no words.
@@ -12,6 +12,12 @@ pub const USAGE: &str = "usage: pdbmerge COMMAND [WORDS]\n";
 /// The head of the help text.
 const ABOUT: &str =
     "pdbmerge 0.1.0: shows what Program Database (PDB) files hold, for any bytes whatever";
+
+/// What `records` does.
+const RECORDS: &str = "Shows each type record: its type index, its kind, its size in bytes";
+
+/// What `streams` does.
+const STREAMS: &str = "Shows the container: its blocks, and each stream with its size and blocks";
 
 /// The exit statuses, at the end of each help text.
 const STATUSES: &str =
@@ -25,6 +31,8 @@ pub enum Line {
     Usage,
     /// `records FILE`
     Records { file: String },
+    /// `streams FILE`
+    Streams { file: String },
 }
 
 /// Why the words are no command.
@@ -69,17 +77,37 @@ impl LineFault {
     }
 }
 
-/// The command that prints a line for each type record of a file.
-fn records<'a>(alloc: Global) -> Result<Command<'a>, AllocError> {
+/// A command that reads one file and shows something of it.
+fn showing<'a>(alloc: Global, name: &'a str, about: &'a str) -> Result<Command<'a>, AllocError> {
     let file = Arg::new(alloc, "FILE")
         .help("The PDB file to read")
         .required(true)
         .action(ArgAction::Set);
-    Command::new(alloc, "records")
+    Command::new(alloc, name)
         .before_help(ABOUT)
-        .about("Shows each type record of a PDB file: its type index, its kind, its size in bytes")
+        .about(about)
         .after_help(STATUSES)
         .arg(file)
+}
+
+/// The program with its commands.
+fn program<'a>(alloc: Global) -> Result<Command<'a>, AllocError> {
+    Command::new(alloc, "pdbmerge")
+        .about(ABOUT)
+        .after_help(STATUSES)
+        .bin_name("pdbmerge")?
+        .no_binary_name(true)
+        .subcommand_required(true)
+        .subcommand(showing(alloc, "records", RECORDS)?)?
+        .subcommand(showing(alloc, "streams", STREAMS)?)
+}
+
+/// The file that a command names.
+fn file_of(alloc: Global, words: &ArgMatches<'_>) -> Result<String, LineFault> {
+    match words.get_str("FILE") {
+        Some(file) => Ok(String::from_str(alloc, file)?),
+        None => Err(LineFault::Word),
+    }
 }
 
 /// Reads the words of a command line, without the program's name.
@@ -89,20 +117,14 @@ pub fn read_line(alloc: Global, words: &[String]) -> Result<Line, LineFault>
     if words.is_empty() {
         return Ok(Line::Usage);
     }
-    let command = Command::new(alloc, "pdbmerge")
-        .about(ABOUT)
-        .after_help(STATUSES)
-        .bin_name("pdbmerge")?
-        .no_binary_name(true)
-        .subcommand_required(true)
-        .subcommand(records(alloc)?)?;
-    let matches = command.try_get_matches_from(words)?;
-    let Some(("records", words)) = matches.subcommand() else {
-        return Err(LineFault::Word);
-    };
-    let Some(file) = words.get_str("FILE") else {
-        return Err(LineFault::Word);
-    };
-    let file = String::from_str(alloc, file)?;
-    Ok(Line::Records { file })
+    let matches = program(alloc)?.try_get_matches_from(words)?;
+    match matches.subcommand() {
+        Some(("records", words)) => Ok(Line::Records {
+            file: file_of(alloc, words)?,
+        }),
+        Some(("streams", words)) => Ok(Line::Streams {
+            file: file_of(alloc, words)?,
+        }),
+        _ => Err(LineFault::Word),
+    }
 }

@@ -14,6 +14,7 @@ mod input;
 mod line;
 mod records;
 mod show;
+mod streams;
 mod text;
 
 use fault::RunFault;
@@ -25,6 +26,7 @@ use std::io::{ErrorKind, writer};
 use std::process::ExitCode;
 use std::rt::{Env, Files};
 use std::{env, fs};
+use streams::run_streams;
 use thiserror::Error;
 
 /// Why the program didn't do what the words ask for.
@@ -72,6 +74,10 @@ fn run<R: Files + Print + AllocGlobal>(rt: &R, line: &Line) -> Result<(), Progra
         Line::Records { file } => {
             let mut input = open(rt, file.as_str())?;
             run_records(rt.alloc(), &mut input, u32::MAX, &mut out)?;
+        }
+        Line::Streams { file } => {
+            let mut input = open(rt, file.as_str())?;
+            run_streams(rt.alloc(), &mut input, u32::MAX, &mut out)?;
         }
     }
     Ok(())

@@ -13,6 +13,7 @@ fn meaning(alloc: Global, texts: &[&str]) -> Result<String, Fail> {
     match read_line(alloc, &words) {
         Ok(Line::Usage) => Ok(String::from_str(alloc, "usage")?),
         Ok(Line::Records { file }) => Ok(file),
+        Ok(Line::Streams { file }) => Ok(file),
         Err(fault) => Ok(fault.status().to_string(alloc)?),
     }
 }
@@ -22,6 +23,7 @@ fn lines(rt: HostRuntime) -> Result<(), Fail> {
     for (texts, want) in [
         ([].as_slice(), "usage"),
         (["records", "x.pdb"].as_slice(), "x.pdb"),
+        (["streams", "y.pdb"].as_slice(), "y.pdb"),
         (["records"].as_slice(), "2"),
         (["records", "x.pdb", "y.pdb"].as_slice(), "2"),
         (["nonsense"].as_slice(), "2"),

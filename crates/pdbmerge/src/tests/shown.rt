@@ -1,6 +1,7 @@
 //! What `records` prints of the sample, of changed samples, and of bytes that are none.
 
 use crate::records::run_records;
+use crate::streams::run_streams;
 use crate::tests::sample::{LENGTH, put, sample};
 use msf_blocks::{In, Out};
 use std::alloc::Global;
@@ -129,5 +130,43 @@ fn a_stream_without_records(rt: HostRuntime) -> Result<(), Fail> {
     put(&mut file, 3084, b"\0\x10\0\0\0\0\0\0");
     let text = shown(rt.alloc(), &file)?;
     assert_eq!(rt; text.as_str(), "");
+    Ok(())
+}
+
+/// What `streams` prints of a file, or the fault.
+fn streams_of(alloc: Global, file: &[u8]) -> Result<String, Fail> {
+    let mut text = Vec::new(alloc);
+    match run_streams(
+        alloc,
+        &mut In::new(file),
+        u32::MAX,
+        &mut Out::new(&mut text),
+    ) {
+        Ok(()) => {}
+        Err(fault) => return Ok(fault.to_string(alloc)?),
+    }
+    Ok(String::from_utf8(text)?)
+}
+
+#[test]
+fn streams_of_the_sample(rt: HostRuntime) -> Result<(), Fail> {
+    let mut file = sample(rt.alloc())?;
+    let text = streams_of(rt.alloc(), &file)?;
+    let container = "block-size 512\nblocks 7\nfree 0\ndirectory 32\nstreams 5\n";
+    assert_eq!(rt;
+        text.as_str().strip_prefix(container),
+        Some("0 0\n1 52 5\n2 80 6\n3 0\n4 0\n")
+    );
+    // Block 6 is free by map 1, and not by map 2.
+    put(&mut file, 512, b"\x40");
+    let text = streams_of(rt.alloc(), &file)?;
+    assert!(rt; text.as_str().contains("\nfree 1\n"));
+    put(&mut file, 36, b"\x02");
+    let text = streams_of(rt.alloc(), &file)?;
+    assert!(rt; text.as_str().contains("\nfree 0\n"));
+    // A nil stream has no bytes.
+    put(&mut file, 2064, b"\xff\xff\xff\xff");
+    let text = streams_of(rt.alloc(), &file)?;
+    assert!(rt; text.as_str().ends_with("\n3 0\n4 0\n"));
     Ok(())
 }

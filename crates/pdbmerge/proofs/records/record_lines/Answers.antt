@@ -1,4 +1,4 @@
-use Rattle.std.proofs.Common.{◌≡◌, [], ◌∷◌, arith, ap, length, rules, string_bytes}
+use Rattle.std.proofs.Common.{◌≡◌, ◌∷◌, arith, ap, length, rules, string_bytes}
 use Rattle.pdbmerge.proofs.RecordsLaws.{lines_more, each_left, lines_whole}
 use Rattle.pdbmerge.proofs.records.record_lines.Goals as goal
 

@@ -1,0 +1,56 @@
+-- What the command `streams` prints.
+use Rattle.std.specs.Prelude.{ℕ, ◌≡◌, ◌+◌, ◌/◌, ◌%◌, ◌^◌, ◌==◌, ◌&&◌, nat_lt, Bool, count_by, List, [], ◌∷◌, ◌++◌, length, Some, codes}
+use Rattle.std.specs.List.{range_with_len, flat_map}
+use Rattle.std.specs.Fmt.{decimal}
+use Rattle.byte_fields.specs.Check.{first_failing}
+use Rattle.msf_blocks.specs.Superblock.{Fields}
+use Rattle.msf_blocks.specs.Directory.{Listed, bytes_of}
+use Rattle.msf_blocks.specs.FreeMap.{map_block_of, map_byte_of, blocks_per_map_block}
+use Rattle.msf_blocks.specs.Layout.{LayoutView, HasLayout, layout_checks}
+use Rattle.pdbmerge.specs.declared.fault.RunFault.{RunFault}
+use Rattle.pdbmerge.specs.declared.fault.RunFault.TheVariants.{Msf}
+
+-- the block is known to be free: the map block that speaks of it is in the file, and its bit there is 1
+abbrev pub is_known_free : List ℕ → Fields → ℕ → Bool
+is_known_free file fields block =
+    nat_lt (map_block_of fields block) fields.num_blocks
+    && map_byte_of file fields block / 2 ^ (block % blocks_per_map_block fields % 8) % 2 == 1
+
+-- how many blocks of the file are known to be free
+unfoldable pub free_blocks : List ℕ → Fields → ℕ
+free_blocks file fields = count_by (is_known_free file fields) (range_with_len 0 fields.num_blocks)
+
+-- a word and its number, on a line
+unfoldable pub word_line : List ℕ → ℕ → List ℕ
+word_line word number = word ++ 32 ∷ decimal number ++ 10 ∷ []
+
+-- the lines on the container
+unfoldable pub container_lines : List ℕ → LayoutView → List ℕ
+container_lines file layout =
+    word_line (codes "block-size") layout.superblock.block_size
+    ++ word_line (codes "blocks") layout.superblock.num_blocks
+    ++ word_line (codes "free") (free_blocks file layout.superblock)
+    ++ word_line (codes "directory") layout.superblock.directory_bytes
+    ++ word_line (codes "streams") (length layout.streams)
+
+-- a number behind a blank
+abbrev pub blank_number : ℕ → List ℕ
+blank_number number = 32 ∷ decimal number
+
+-- the line of a stream: its number, its size in bytes, the numbers of its blocks
+unfoldable pub stream_line : ℕ → Listed → List ℕ
+stream_line s stream = decimal s ++ blank_number (bytes_of stream.size) ++ flat_map blank_number stream.blocks ++ 10 ∷ []
+
+-- the lines of streams in order, the first of which has this number
+unfoldable pub stream_lines : ℕ → List Listed → List ℕ
+stream_lines s [] = []
+stream_lines s (stream ∷ others) = stream_line s stream ++ stream_lines (s + 1) others
+
+-- `streams` prints this text for the file: the lines on the container, and a line for each stream
+abbrev pub ShowsStreams : List ℕ → List ℕ → Type 0
+ShowsStreams file text = (layout : LayoutView) × HasLayout file layout × (text ≡ container_lines file layout ++ stream_lines 0 layout.streams)
+
+-- this is the first fault of the file on the way to its layout
+abbrev pub HasNoLayout : List ℕ → RunFault → Type 0
+HasNoLayout file (Msf fault) = first_failing (layout_checks file) ≡ Some fault
+HasNoLayout file _ = ⊥

@@ -1,0 +1,174 @@
+//! The command `streams`: the container of a file, and a line for each stream.
+
+ghost use Rattle.std.specs.Prelude.{◌≡◌, ◌⊎◌, ◌++◌, ◌*◌, ◌<◌, ◌≤◌, length, take, true, Some, OnOk, IfOk, IfErr, IfSome, string_bytes, slice_get};
+ghost use Rattle.std.specs.List.{flat_map};
+ghost use Rattle.msf_blocks.specs.Directory.{Listed};
+ghost use Rattle.msf_streams.specs.Stream.{blocks_in};
+ghost use Rattle.pdbmerge.specs.Input.{IsNotRead};
+ghost use Rattle.pdbmerge.specs.Run.{Prints, PrintsPart, GivesRefused, IfRead, IfOfFile};
+ghost use Rattle.pdbmerge.specs.Streams.{ShowsStreams, HasNoLayout, free_blocks, is_known_free, word_line, blank_number, container_lines, stream_line, stream_lines};
+
+use crate::fault::RunFault;
+use crate::show::{Show, run};
+use msf_blocks::{Layout, Sink, Source, Superblock, free_bit};
+use std::alloc::{AllocError, Allocator};
+
+/// Whether a block of the file is free, by the map in force.
+fn is_known_free(file: &[u8], superblock: &Superblock, block: u32) -> bool
+    requires whole { superblock.now.num_blocks * superblock.now.block_size ≤ length file.now }
+    requires below { block < superblock.now.num_blocks }
+    ensures { result ≡ is_known_free file.now superblock.now block }
+{
+    match free_bit(file, superblock, block) {
+        Some(free) => free,
+        // No map block in the file speaks of it.
+        None => false,
+    }
+}
+
+/// How many blocks of the file are free, by the map in force.
+#[tactic(auto, using(crate::proofs::StreamsLaws::count_yes, crate::proofs::StreamsLaws::count_no), unfolding(crate::specs::Streams::free_blocks))]
+fn free_blocks(file: &[u8], superblock: &Superblock) -> u32
+    requires { superblock.now.num_blocks * superblock.now.block_size ≤ length file.now }
+    ensures { result ≡ free_blocks file.now superblock.now }
+{
+    let mut free = 0;
+    for block in 0..superblock.num_blocks() {
+        if is_known_free(file, superblock, block) {
+            free += 1;
+        }
+    }
+    free
+}
+
+/// Adds a word and its number, on a line.
+#[tactic(auto, unfolding(crate::specs::Streams::word_line))]
+fn push_word<A: Allocator>(text: &mut String<A>, word: &str, number: u32) -> Result<(), AllocError>
+    ensures { OnOk result (string_bytes text.new ≡ string_bytes text.old ++ word_line word.now number) }
+{
+    text.push_str(word)?;
+    writeln!(text, " {number}")
+}
+
+/// Adds a number behind a blank.
+fn push_number<A: Allocator>(text: &mut String<A>, number: u32) -> Result<(), AllocError>
+    ensures { OnOk result (string_bytes text.new ≡ string_bytes text.old ++ blank_number number) }
+{
+    write!(text, " {number}")
+}
+
+/// Adds the lines on the container.
+#[tactic(auto, unfolding(crate::specs::Streams::container_lines))]
+fn push_container<A: Allocator, L: Allocator>(
+    text: &mut String<A>,
+    file: &[u8],
+    layout: &Layout<L>,
+) -> Result<(), AllocError>
+    requires { layout.now.superblock.num_blocks * layout.now.superblock.block_size ≤ length file.now }
+    ensures { OnOk result (string_bytes text.new ≡ string_bytes text.old ++ container_lines file.now layout.now) }
+{
+    let superblock = layout.superblock();
+    push_word(text, "block-size", superblock.block_size())?;
+    push_word(text, "blocks", superblock.num_blocks())?;
+    push_word(text, "free", free_blocks(file, superblock))?;
+    push_word(text, "directory", superblock.directory_bytes())?;
+    push_word(text, "streams", layout.streams())?;
+    Ok(())
+}
+
+/// Adds the numbers of the first blocks of a stream, each behind a blank.
+fn push_blocks<A: Allocator, L: Allocator>(
+    text: &mut String<A>,
+    layout: &Layout<L>,
+    s: u32,
+    count: u32,
+) -> Result<(), AllocError>
+    ensures { OnOk result (string_bytes text.new ≡ string_bytes text.old
+        ++ flat_map blank_number (take count (blocks_in (slice_get layout.now.streams s)))) }
+{
+    for k in 0..count {
+        let Some(block) = layout.block(s, k) else {
+            return Ok(());
+        };
+        push_number(text, block)?;
+    }
+    Ok(())
+}
+
+/// Adds the line of the `s`-th stream, which has so many bytes.
+#[tactic(auto, unfolding(crate::specs::Streams::stream_line))]
+fn push_stream<A: Allocator, L: Allocator>(
+    text: &mut String<A>,
+    layout: &Layout<L>,
+    s: u32,
+) -> Result<(), AllocError>
+    requires { s < length layout.now.streams }
+    ensures { OnOk result (IfSome (slice_get layout.now.streams s) (λ stream.
+        string_bytes text.new ≡ string_bytes text.old ++ stream_line s stream)) }
+{
+    // The proof learns here that a stream has as many blocks as its bytes need.
+    let _ = layout.streams();
+    let block_size = layout.superblock().block_size();
+    let size = layout.size(s).unwrap_or(0);
+    write!(text, "{s}")?;
+    push_number(text, size)?;
+    push_blocks(text, layout, s, size.div_ceil(block_size))?;
+    text.push_str("\n")?;
+    Ok(())
+}
+
+/// Adds the lines of all streams.
+#[tactic(auto, unfolding(crate::specs::Streams::stream_lines))]
+fn push_streams<A: Allocator, L: Allocator>(
+    text: &mut String<A>,
+    layout: &Layout<L>,
+) -> Result<(), AllocError>
+    ensures { OnOk result (string_bytes text.new ≡ string_bytes text.old ++ stream_lines 0 layout.now.streams) }
+{
+    for s in 0..layout.streams() {
+        push_stream(text, layout, s)?;
+    }
+    Ok(())
+}
+
+/// The command `streams`.
+#[derive(Clone, Copy, Debug)]
+struct Streams;
+
+impl Show for Streams {
+    ghost shows = { λ _. ShowsStreams };
+
+    ghost refuses = { λ _. HasNoLayout };
+
+    fn text<A: Allocator + Copy>(&self, alloc: A, file: &[u8]) -> Result<String<A>, RunFault> {
+        let layout = Layout::read(alloc, file)?;
+        let mut text = String::new(alloc);
+        push_container(&mut text, file, &layout)?;
+        push_streams(&mut text, &layout)?;
+        Ok(text)
+    }
+}
+
+/// Runs the command `streams`: the block size, the number of blocks and how many of them are
+/// free, the directory's length in bytes, the number of streams, and for each stream a line with
+/// its number, its size in bytes and the numbers of its blocks.
+///
+/// The faults come in this order: those of reading; those of the container; and that the text
+/// wasn't taken whole. All of the input is read, and the whole text is made, before any of it is
+/// written.
+pub fn run_streams<R: Source, W: Sink, A: Allocator + Copy>(
+    alloc: A,
+    input: &mut R,
+    limit: u32,
+    out: &mut W,
+) -> Result<(), RunFault>
+    ensures value { OnOk result (Prints ShowsStreams limit
+        (R.left input.old) (R.left input.new) (W.taken out.old) (W.taken out.new)) }
+    ensures read { IfErr result (IfRead (IsNotRead (R.left input.old) (R.left input.new) (R.is_broken input.new) limit)) }
+    ensures first { IfErr result (IfOfFile (GivesRefused HasNoLayout limit (R.left input.old) (R.left input.new))) }
+    ensures write { result ≡ Err RunFault.Write → (W.is_broken out.new ≡ true) × PrintsPart ShowsStreams limit
+        (R.left input.old) (R.left input.new) (W.taken out.old) (W.taken out.new) }
+    ensures untouched { IfErr result (λ fault. (fault ≡ RunFault.Write) ⊎ (out.new ≡ out.old)) }
+{
+    run(alloc, &Streams, input, limit, out)
+}
