@@ -1,0 +1,60 @@
+"""PDB files of any size for the benchmarks, made from nothing (block size 4096)."""
+import struct
+
+BLOCK = 4096
+
+
+def records(size):
+    """Record bytes of at least this length, and how many records they are: pointers, modifiers and
+    argument lists in turn, each a whole number of words."""
+    parts, length, count = [], 0, 0
+    while length < size:
+        body = 8 + 4 * (count * 7 % 13)
+        kind = (0x1002, 0x1001, 0x1201)[count % 3]
+        record = struct.pack('<HH', 2 + body, kind) + struct.pack('<I', count & 0xFFF) + bytes(body - 4)
+        parts.append(record)
+        length += len(record)
+        count += 1
+    return b''.join(parts), count
+
+
+def tpi(body, count):
+    """A TPI stream of these record bytes."""
+    return struct.pack('<5I', 20040203, 56, 0x1000, 0x1000 + count, len(body)) + bytes(36) + body
+
+
+def pdb(stream, order=lambda blocks: blocks):
+    """A container with five streams, of which the third has these bytes, in blocks of this order."""
+    blocks = -(-len(stream) // BLOCK)
+    directory_len = 4 * (1 + 5 + blocks)
+    directory_blocks = -(-directory_len // BLOCK)
+    free, number = [], 3
+    while len(free) < 1 + directory_blocks + blocks:
+        if number % BLOCK not in (1, 2):
+            free.append(number)
+        number += 1
+    count = free[-1] + 1
+    block_map, at, data = free[0], free[1:1 + directory_blocks], order(free[1 + directory_blocks:])
+    directory = struct.pack('<6I', 5, 0, 0, len(stream), 0, 0) + struct.pack(f'<{blocks}I', *data)
+    file = bytearray(count * BLOCK)
+    file[:56] = b'Microsoft C/C++ MSF 7.00\r\n\x1aDS\0\0\0' + struct.pack('<6I', BLOCK, 1, count, directory_len, 0, block_map)
+    file[block_map * BLOCK:block_map * BLOCK + 4 * directory_blocks] = struct.pack(f'<{directory_blocks}I', *at)
+    for text, places in ((directory, at), (stream, data)):
+        for k, n in enumerate(places):
+            part = text[k * BLOCK:(k + 1) * BLOCK]
+            file[n * BLOCK:n * BLOCK + len(part)] = part
+    return bytes(file)
+
+
+def best_of(runs, out, times=5):
+    """The best seconds of each command, run in turn; a command may end with any status."""
+    import subprocess
+    import time
+    best = {}
+    for _ in range(times):
+        for name, words in runs.items():
+            with open(out, 'wb') as f:
+                begin = time.perf_counter()
+                subprocess.run(words, stdout=f, stderr=subprocess.DEVNULL)
+                best[name] = min(best.get(name, 1e9), time.perf_counter() - begin)
+    return best
