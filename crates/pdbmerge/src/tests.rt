@@ -4,6 +4,5 @@
 mod growth;
 mod lines;
 mod reading;
-mod sample;
 mod shown;
 mod writing;

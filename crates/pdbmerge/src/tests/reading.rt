@@ -4,8 +4,8 @@ ghost use Rattle.std.specs.Prelude.{None};
 
 use crate::input::{ReadFault, read_all};
 use crate::records::run_records;
-use crate::tests::sample::sample;
 use crate::tests::shown::SAMPLE;
+use acceptance::sample;
 use msf_blocks::{Out, Source};
 use std::test::Fail;
 

@@ -2,7 +2,7 @@
 
 use crate::records::run_records;
 use crate::streams::run_streams;
-use crate::tests::sample::{LENGTH, put, sample};
+use acceptance::{LENGTH, put, sample};
 use msf_blocks::{In, Out};
 use std::alloc::Global;
 use std::test::Fail;

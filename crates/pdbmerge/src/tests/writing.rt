@@ -3,8 +3,8 @@
 ghost use Rattle.std.specs.Prelude.{None};
 
 use crate::records::run_records;
-use crate::tests::sample::sample;
 use crate::tests::shown::SAMPLE;
+use acceptance::sample;
 use msf_blocks::{In, Sink};
 use std::alloc::Global;
 use std::test::Fail;

@@ -1,4 +1,6 @@
-//! The shipped sample, built from its table.
+//! The sample that is shipped, built from its table.
+
+ghost use Rattle.std.specs.Prelude.{◌≡◌, length, IfOk};
 
 use std::alloc::{AllocError, Global};
 
@@ -38,14 +40,18 @@ const PARTS: [(usize, &[u8]); 11] = [
 ];
 
 /// Writes bytes over those that stand from an offset on.
-pub fn put(file: &mut [u8], at: usize, bytes: &[u8]) {
+pub fn put(file: &mut [u8], at: usize, bytes: &[u8])
+    ensures { length file.new ≡ length file.old }
+{
     for (place, byte) in file.iter_mut().skip(at).zip(bytes) {
         *place = *byte;
     }
 }
 
 /// The sample.
-pub fn sample(alloc: Global) -> Result<Vec<u8>, AllocError> {
+pub fn sample(alloc: Global) -> Result<Vec<u8>, AllocError>
+    ensures { IfOk result (λ file. length file.items ≡ LENGTH) }
+{
     let mut file = vec![in alloc; 0u8; LENGTH]?;
     for (at, bytes) in PARTS {
         put(&mut file, at, bytes);

@@ -1,0 +1,78 @@
+//! Numbers of blocks, and the free block maps.
+
+use crate::{put, sample};
+use msf_blocks::{MsfFault, Superblock, free_bit, is_map_block, nth_block};
+use std::test::Fail;
+
+#[test]
+#[tactic(auto, unfolding(msf_blocks::specs::BlockNumber::nth_block))]
+fn data_blocks_of_4096(rt: HostRuntime) {
+    assert_eq!(rt; nth_block(4096, 0), 0);
+    assert_eq!(rt; nth_block(4096, 1), 3);
+    assert_eq!(rt; nth_block(4096, 4093), 4095);
+    assert_eq!(rt; nth_block(4096, 4094), 4096);
+    assert_eq!(rt; nth_block(4096, 4095), 4099);
+    assert!(rt; is_map_block(4096, 4097));
+    assert!(rt; !is_map_block(4096, 4096));
+}
+
+/// Whether a block is free in these bytes, or the fault of their superblock.
+fn bit(file: &[u8], n: u32) -> Result<Option<bool>, MsfFault> {
+    let superblock = Superblock::read(file)?;
+    Ok(free_bit(file, &superblock, n))
+}
+
+#[test]
+fn bits_of_the_free_block_maps(rt: HostRuntime) -> Result<(), Fail> {
+    let mut file = sample(rt.alloc())?;
+    assert_eq!(rt; bit(&file, 6), Ok(Some(false)));
+    assert_eq!(rt; bit(&file, 7), Ok(None));
+    put(&mut file, 512, b"\x40");
+    assert_eq!(rt; bit(&file, 6), Ok(Some(true)));
+    assert_eq!(rt; bit(&file, 5), Ok(Some(false)));
+    // Two blocks, the second of which is the block map: map 2 isn't in the file.
+    put(&mut file, 36, b"\x02\0\0\0\x02\0\0\0");
+    put(&mut file, 52, b"\x01");
+    assert_eq!(rt; bit(&file, 0), Ok(None));
+    Ok(())
+}
+
+#[test]
+fn each_fault_has_its_text(rt: HostRuntime) -> Result<(), Fail> {
+    for (fault, want) in [
+        (MsfFault::Short, "1 Short"),
+        (MsfFault::Magic, "2 Magic"),
+        (MsfFault::BlockSize(4095), "3 BlockSize 4095"),
+        (MsfFault::FreeMapBlock(3), "4 FreeMapBlock 3"),
+        (
+            MsfFault::FileSize {
+                need: 4096,
+                have: 3584,
+            },
+            "5 FileSize need 4096 have 3584",
+        ),
+        (MsfFault::DirectorySize(6), "6 DirectorySize 6"),
+        (MsfFault::BlockMapAddr(7), "7 BlockMapAddr 7"),
+        (
+            MsfFault::DirectoryBlock { at: 1, n: 2 },
+            "8 DirectoryBlock at 1 n 2",
+        ),
+        (
+            MsfFault::DirectoryShort { need: 32, have: 28 },
+            "9 DirectoryShort need 32 have 28",
+        ),
+        (
+            MsfFault::StreamBlock {
+                stream: 2,
+                at: 0,
+                n: 7,
+            },
+            "10 StreamBlock stream 2 at 0 n 7",
+        ),
+        (MsfFault::Memory, "33 Memory"),
+    ] {
+        let text = fault.to_string(rt.alloc())?;
+        assert_eq!(rt; text.as_str(), want);
+    }
+    Ok(())
+}

@@ -1,0 +1,72 @@
+//! The layout of the sample, and refused growth.
+
+use crate::sample;
+use linked_list_allocator::LocalHeap;
+use msf_blocks::{In, Layout, MsfFault, Out, Sink, Source, put_all};
+use std::alloc::Allocator;
+use std::test::Fail;
+
+#[test]
+fn the_layout_of_the_sample(rt: HostRuntime) -> Result<(), Fail> {
+    let file = sample(rt.alloc())?;
+    let layout = Layout::read(rt.alloc(), &file)?;
+    let superblock = layout.superblock();
+    assert_eq!(rt; superblock.block_size(), 512);
+    assert_eq!(rt; superblock.free_map_block(), 1);
+    assert_eq!(rt; superblock.num_blocks(), 7);
+    assert_eq!(rt; superblock.directory_bytes(), 32);
+    assert_eq!(rt; superblock.unknown(), 0);
+    assert_eq!(rt; superblock.block_map_addr(), 3);
+    assert_eq!(rt; layout.streams(), 5);
+    for (s, size, block) in [
+        (0, 0, None),
+        (1, 52, Some(5)),
+        (2, 80, Some(6)),
+        (3, 0, None),
+    ] {
+        assert_eq!(rt; layout.size(s), Some(size));
+        assert_eq!(rt; layout.block(s, 0), block);
+        assert_eq!(rt; layout.block(s, 1), None);
+    }
+    assert_eq!(rt; layout.size(5), None);
+    assert_eq!(rt; layout.block(5, 0), None);
+    Ok(())
+}
+
+/// The fault of a file, if it has one.
+fn fault_of<A: Allocator + Copy>(alloc: A, file: &[u8]) -> Option<MsfFault> {
+    Layout::read(alloc, file).err()
+}
+
+#[test]
+fn layouts_on_small_heaps(rt: HostRuntime) -> Result<(), Fail> {
+    let file = sample(rt.alloc())?;
+    let mut refused = 0u32;
+    for size in 0..64usize {
+        let heap = LocalHeap::new(rt.alloc(), 16 * size)?;
+        if let Some(fault) = fault_of(&heap, &file) {
+            assert_eq!(rt; fault, MsfFault::Memory);
+            refused = refused.saturating_add(1);
+        }
+    }
+    assert!(rt; 0 < refused && refused < 64);
+    Ok(())
+}
+
+#[test]
+fn sinks_and_sources_over_memory(rt: HostRuntime) -> Result<(), Fail> {
+    let mut taken = Vec::new(rt.alloc());
+    let mut out = Out::new(&mut taken);
+    assert_eq!(rt; out.put(b""), 0);
+    assert_eq!(rt; out.put(b"ab"), 2);
+    assert!(rt; put_all(&mut out, b"cd").is_ok());
+    drop(out);
+    assert_eq!(rt; taken.as_slice(), b"abcd".as_slice());
+    let mut room = [0u8; 3];
+    let mut input = In::new(taken.as_slice());
+    assert_eq!(rt; input.fetch(&mut room), Some(3));
+    assert_eq!(rt; room.as_slice(), b"abc".as_slice());
+    assert_eq!(rt; input.fetch(&mut room), Some(1));
+    assert_eq!(rt; input.fetch(&mut room), Some(0));
+    Ok(())
+}
