@@ -1,3 +1,4 @@
 pub mod InputLaws
 pub mod RecordsLaws
 pub mod StreamsLaws
+pub mod TextLaws

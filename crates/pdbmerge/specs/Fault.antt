@@ -5,10 +5,12 @@ use Rattle.msf_streams.specs.declared.fault.StreamFault.{StreamFault}
 use Rattle.msf_streams.specs.declared.fault.StreamFault.TheVariants as streams
 use Rattle.tpi_records.specs.declared.fault.TpiFault.{TpiFault}
 use Rattle.tpi_records.specs.declared.fault.TpiFault.TheVariants as tpi
+use Rattle.pdb_info.specs.declared.fault.InfoFault.{InfoFault}
+use Rattle.pdb_info.specs.declared.fault.InfoFault.TheVariants as infos
 use Rattle.pdbmerge.specs.declared.input.ReadFault.{ReadFault}
 use Rattle.pdbmerge.specs.declared.input.ReadFault.TheVariants as reads
 use Rattle.pdbmerge.specs.declared.fault.RunFault.{RunFault}
-use Rattle.pdbmerge.specs.declared.fault.RunFault.TheVariants.{Read, Msf, Stream, Tpi, Memory}
+use Rattle.pdbmerge.specs.declared.fault.RunFault.TheVariants.{Read, Msf, Stream, Info, Tpi, Memory}
 
 -- of reading
 abbrev pub of_read : ReadFault → RunFault
@@ -29,3 +31,8 @@ of_stream fault = Stream fault
 abbrev pub of_tpi : TpiFault → RunFault
 of_tpi tpi.Memory = Memory
 of_tpi fault = Tpi fault
+
+-- of the info stream
+abbrev pub of_info : InfoFault → RunFault
+of_info infos.Memory = Memory
+of_info fault = Info fault

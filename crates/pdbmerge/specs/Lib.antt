@@ -1,4 +1,5 @@
 pub mod Fault
+pub mod Info
 pub mod Input
 pub mod Records
 pub mod Run

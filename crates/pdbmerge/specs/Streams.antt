@@ -7,6 +7,7 @@ use Rattle.msf_blocks.specs.Superblock.{Fields}
 use Rattle.msf_blocks.specs.Directory.{Listed, bytes_of}
 use Rattle.msf_blocks.specs.FreeMap.{map_block_of, map_byte_of, blocks_per_map_block}
 use Rattle.msf_blocks.specs.Layout.{LayoutView, HasLayout, layout_checks}
+use Rattle.pdbmerge.specs.Text.{word_line}
 use Rattle.pdbmerge.specs.declared.fault.RunFault.{RunFault}
 use Rattle.pdbmerge.specs.declared.fault.RunFault.TheVariants.{Msf}
 
@@ -19,10 +20,6 @@ is_known_free file fields block =
 -- how many blocks of the file are known to be free
 unfoldable pub free_blocks : List ℕ → Fields → ℕ
 free_blocks file fields = count_by (is_known_free file fields) (range_with_len 0 fields.num_blocks)
-
--- a word and its number, on a line
-unfoldable pub word_line : List ℕ → ℕ → List ℕ
-word_line word number = word ++ 32 ∷ decimal number ++ 10 ∷ []
 
 -- the lines on the container
 unfoldable pub container_lines : List ℕ → LayoutView → List ℕ

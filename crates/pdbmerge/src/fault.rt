@@ -1,12 +1,13 @@
 //! Why a command is refused.
 
 ghost use Rattle.std.specs.Prelude.{◌≡◌};
-ghost use Rattle.pdbmerge.specs.Fault.{of_read, of_msf, of_stream, of_tpi};
+ghost use Rattle.pdbmerge.specs.Fault.{of_read, of_msf, of_stream, of_info, of_tpi};
 ghost use Rattle.pdbmerge.specs.declared.fault.RunFault.TheVariants.{Memory, Write};
 
 use crate::input::ReadFault;
 use msf_blocks::{MsfFault, NotTaken};
 use msf_streams::StreamFault;
+use pdb_info::InfoFault;
 use std::alloc::AllocError;
 use thiserror::Error;
 use tpi_records::TpiFault;
@@ -25,6 +26,9 @@ pub enum RunFault {
     /// The container lacks the stream.
     #[error("{0}")]
     Stream(StreamFault),
+    /// The info stream is refused.
+    #[error("{0}")]
+    Info(InfoFault),
     /// The stream of type records is refused.
     #[error("{0}")]
     Tpi(TpiFault),
@@ -81,6 +85,17 @@ impl From<StreamFault> for RunFault {
         match fault {
             StreamFault::Memory => RunFault::Memory,
             fault => RunFault::Stream(fault),
+        }
+    }
+}
+
+impl From<InfoFault> for RunFault {
+    ghost from_gives = { λ inner fault. fault ≡ of_info inner };
+
+    fn from(fault: InfoFault) -> RunFault {
+        match fault {
+            InfoFault::Memory => RunFault::Memory,
+            fault => RunFault::Info(fault),
         }
     }
 }

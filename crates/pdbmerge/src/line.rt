@@ -1,6 +1,7 @@
 //! The words of the command line.
 
-ghost use Rattle.std.specs.Prelude.{◌≡◌, ◌≤◌, []};
+ghost use Rattle.std.specs.Prelude.{◌≡◌, ◌≤◌, ◌⊎◌, []};
+ghost use Rattle.pdbmerge.specs.declared.line.LineFault.TheVariants.{Refused, Memory};
 
 use clap::error::ErrorKind;
 use clap::{Arg, ArgAction, ArgMatches, Command};
@@ -15,6 +16,10 @@ const ABOUT: &str =
 
 /// What `records` does.
 const RECORDS: &str = "Shows each type record: its type index, its kind, its size in bytes";
+
+/// What `info` does.
+const INFO: &str =
+    "Shows what identifies the file: version, signature, age, GUID, named streams, feature codes";
 
 /// What `streams` does.
 const STREAMS: &str = "Shows the container: its blocks, and each stream with its size and blocks";
@@ -31,6 +36,8 @@ pub enum Line {
     Usage,
     /// `records FILE`
     Records { file: String },
+    /// `info FILE`
+    Info { file: String },
     /// `streams FILE`
     Streams { file: String },
 }
@@ -47,12 +54,16 @@ pub enum LineFault {
 }
 
 impl From<AllocError> for LineFault {
+    ghost from_gives = { λ _ fault. fault ≡ Memory };
+
     fn from(_error: AllocError) -> LineFault {
         LineFault::Memory
     }
 }
 
 impl From<clap::Error> for LineFault {
+    ghost from_gives = { λ error fault. (fault ≡ Memory) ⊎ (fault ≡ Refused error) };
+
     fn from(error: clap::Error) -> LineFault {
         if error.kind() == ErrorKind::OutOfMemory {
             LineFault::Memory
@@ -99,7 +110,8 @@ fn program<'a>(alloc: Global) -> Result<Command<'a>, AllocError> {
         .no_binary_name(true)
         .subcommand_required(true)
         .subcommand(showing(alloc, "records", RECORDS)?)?
-        .subcommand(showing(alloc, "streams", STREAMS)?)
+        .subcommand(showing(alloc, "streams", STREAMS)?)?
+        .subcommand(showing(alloc, "info", INFO)?)
 }
 
 /// The file that a command names.
@@ -123,6 +135,9 @@ pub fn read_line(alloc: Global, words: &[String]) -> Result<Line, LineFault>
             file: file_of(alloc, words)?,
         }),
         Some(("streams", words)) => Ok(Line::Streams {
+            file: file_of(alloc, words)?,
+        }),
+        Some(("info", words)) => Ok(Line::Info {
             file: file_of(alloc, words)?,
         }),
         _ => Err(LineFault::Word),

@@ -10,6 +10,7 @@ ghost use Rattle.std.specs.Prelude.{◌≡◌};
 ghost use Rattle.pdbmerge.specs.declared.ProgramFault.TheVariants.{Run};
 
 mod fault;
+mod info;
 mod input;
 mod line;
 mod records;
@@ -18,6 +19,7 @@ mod streams;
 mod text;
 
 use fault::RunFault;
+use info::run_info;
 use line::{Line, LineFault, USAGE, read_line};
 use msf_blocks::{In, Out, put_all};
 use records::run_records;
@@ -74,6 +76,10 @@ fn run<R: Files + Print + AllocGlobal>(rt: &R, line: &Line) -> Result<(), Progra
         Line::Records { file } => {
             let mut input = open(rt, file.as_str())?;
             run_records(rt.alloc(), &mut input, u32::MAX, &mut out)?;
+        }
+        Line::Info { file } => {
+            let mut input = open(rt, file.as_str())?;
+            run_info(rt.alloc(), &mut input, u32::MAX, &mut out)?;
         }
         Line::Streams { file } => {
             let mut input = open(rt, file.as_str())?;

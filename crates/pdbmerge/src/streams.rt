@@ -6,10 +6,11 @@ ghost use Rattle.msf_blocks.specs.Directory.{Listed};
 ghost use Rattle.msf_streams.specs.Stream.{blocks_in};
 ghost use Rattle.pdbmerge.specs.Input.{IsNotRead};
 ghost use Rattle.pdbmerge.specs.Run.{Prints, PrintsPart, GivesRefused, IfRead, IfOfFile};
-ghost use Rattle.pdbmerge.specs.Streams.{ShowsStreams, HasNoLayout, free_blocks, is_known_free, word_line, blank_number, container_lines, stream_line, stream_lines};
+ghost use Rattle.pdbmerge.specs.Streams.{ShowsStreams, HasNoLayout, free_blocks, is_known_free, blank_number, container_lines, stream_line, stream_lines};
 
 use crate::fault::RunFault;
 use crate::show::{Show, run};
+use crate::text::push_word;
 use msf_blocks::{Layout, Sink, Source, Superblock, free_bit};
 use std::alloc::{AllocError, Allocator};
 
@@ -39,15 +40,6 @@ fn free_blocks(file: &[u8], superblock: &Superblock) -> u32
         }
     }
     free
-}
-
-/// Adds a word and its number, on a line.
-#[tactic(auto, unfolding(crate::specs::Streams::word_line))]
-fn push_word<A: Allocator>(text: &mut String<A>, word: &str, number: u32) -> Result<(), AllocError>
-    ensures { OnOk result (string_bytes text.new ≡ string_bytes text.old ++ word_line word.now number) }
-{
-    text.push_str(word)?;
-    writeln!(text, " {number}")
 }
 
 /// Adds a number behind a blank.

@@ -13,6 +13,7 @@ fn meaning(alloc: Global, texts: &[&str]) -> Result<String, Fail> {
     match read_line(alloc, &words) {
         Ok(Line::Usage) => Ok(String::from_str(alloc, "usage")?),
         Ok(Line::Records { file }) => Ok(file),
+        Ok(Line::Info { file }) => Ok(file),
         Ok(Line::Streams { file }) => Ok(file),
         Err(fault) => Ok(fault.status().to_string(alloc)?),
     }
@@ -24,6 +25,7 @@ fn lines(rt: HostRuntime) -> Result<(), Fail> {
         ([].as_slice(), "usage"),
         (["records", "x.pdb"].as_slice(), "x.pdb"),
         (["streams", "y.pdb"].as_slice(), "y.pdb"),
+        (["info", "z.pdb"].as_slice(), "z.pdb"),
         (["records"].as_slice(), "2"),
         (["records", "x.pdb", "y.pdb"].as_slice(), "2"),
         (["nonsense"].as_slice(), "2"),

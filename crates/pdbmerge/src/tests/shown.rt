@@ -1,5 +1,6 @@
 //! What `records` prints of the sample, of changed samples, and of bytes that are none.
 
+use crate::info::run_info;
 use crate::records::run_records;
 use crate::streams::run_streams;
 use acceptance::{LENGTH, put, sample};
@@ -168,5 +169,86 @@ fn streams_of_the_sample(rt: HostRuntime) -> Result<(), Fail> {
     put(&mut file, 2064, b"\xff\xff\xff\xff");
     let text = streams_of(rt.alloc(), &file)?;
     assert!(rt; text.as_str().ends_with("\n3 0\n4 0\n"));
+    Ok(())
+}
+
+/// What `info` prints of a file, or the fault.
+fn info_of(alloc: Global, file: &[u8]) -> Result<String, Fail> {
+    let mut text = Vec::new(alloc);
+    match run_info(
+        alloc,
+        &mut In::new(file),
+        u32::MAX,
+        &mut Out::new(&mut text),
+    ) {
+        Ok(()) => {}
+        Err(fault) => return Ok(fault.to_string(alloc)?),
+    }
+    Ok(String::from_utf8(text)?)
+}
+
+/// The first four lines of the sample's info stream.
+const HEADER: &str =
+    "version 20000404\nsignature 0x0\nage 1\nguid 00112233-4455-6677-8899-aabbccddeeff\n";
+
+/// A named stream map with one name, and a feature code, from offset 28 of the info stream on.
+const MAP: &[u8] = b"\x07\0\0\0/names\0\x01\0\0\0\x08\0\0\0\x01\0\0\0\x10\0\0\0\0\0\0\0\
+\0\0\0\0\x06\0\0\0\0\0\0\0\xdc\x51\x33\x01";
+
+/// What `info` prints of the sample whose info stream has that map, is of this length, and has
+/// other bytes from an offset on.
+fn info_with(alloc: Global, len: u8, at: usize, bytes: &[u8]) -> Result<String, Fail> {
+    let mut file = sample(alloc)?;
+    put(&mut file, 2056, &[len]);
+    put(&mut file, 2588, MAP);
+    put(&mut file, 2560usize.saturating_add(at), bytes);
+    info_of(alloc, &file)
+}
+
+#[test]
+fn info_of_samples(rt: HostRuntime) -> Result<(), Fail> {
+    let mut file = sample(rt.alloc())?;
+    let text = info_of(rt.alloc(), &file)?;
+    assert_eq!(rt; text.as_str(), HEADER);
+    put(&mut file, 2056, b"\x1b");
+    let text = info_of(rt.alloc(), &file)?;
+    assert_eq!(rt; text.as_str(), "12 InfoShort");
+    put(&mut file, 2048, b"\x01");
+    let text = info_of(rt.alloc(), &file)?;
+    assert_eq!(rt; text.as_str(), "11 NoStream 1");
+    Ok(())
+}
+
+#[test]
+fn info_with_names(rt: HostRuntime) -> Result<(), Fail> {
+    for (len, at, bytes, want) in [
+        (
+            75,
+            0,
+            b"".as_slice(),
+            "name \"/names\" 6\nfeature 20140508\n",
+        ),
+        (73, 0, b"".as_slice(), "name \"/names\" 6\n"),
+        (69, 0, b"".as_slice(), "name \"/names\" 6\n"),
+        (
+            75,
+            32,
+            b"a\"\n\0".as_slice(),
+            "name \"a\\x22\\x0a\" 6\nfeature 20140508\n",
+        ),
+        (75, 32, b"\0".as_slice(), "name \"\" 6\nfeature 20140508\n"),
+    ] {
+        let text = info_with(rt.alloc(), len, at, bytes)?;
+        assert_eq!(rt; text.as_str().strip_prefix(HEADER), Some(want));
+    }
+    for (len, at, bytes, want) in [
+        (75, 39, b"\x02".as_slice(), "14 NamesCount said 2 present 1"),
+        (75, 59, b"\x07".as_slice(), "15 NameOffset 4"),
+        (30, 0, b"".as_slice(), "13 NamesShort 28"),
+        (66, 0, b"".as_slice(), "13 NamesShort 59"),
+    ] {
+        let text = info_with(rt.alloc(), len, at, bytes)?;
+        assert_eq!(rt; text.as_str(), want);
+    }
     Ok(())
 }

@@ -1,0 +1,9 @@
+pub mod GuidLaws
+pub mod MapLaws
+pub mod NameLaws
+pub mod BucketLaws
+pub mod PairLaws
+pub mod InfoLaws
+pub mod PartsLaws
+pub mod ValueLaws
+pub mod FoundLaws

@@ -1,0 +1,5 @@
+pub mod Guid
+pub mod Header
+pub mod Names
+pub mod Name
+pub mod Info

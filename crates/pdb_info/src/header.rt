@@ -1,0 +1,97 @@
+//! The header of an info stream.
+
+ghost use Rattle.std.specs.Prelude.{◌≡◌, ◌≢◌, ◌≤◌, length, take, drop, IsOk, IfOk, IfErr};
+ghost use Rattle.byte_fields.specs.Check.{Makes};
+ghost use Rattle.pdb_info.specs.Guid.{stored_guid};
+ghost use Rattle.pdb_info.specs.Header.{HeaderFields, HasHeader, header_checks};
+
+use crate::fault::InfoFault;
+use crate::guid::guid_of;
+use byte_fields::u32_at;
+use std::marker::Model;
+use uuid::Uuid;
+
+/// The length of a header in bytes.
+pub(crate) const LENGTH: usize = 28;
+
+/// What the header of an info stream says: when and for which program the file was written.
+#[derive(Clone, Copy, Debug)]
+pub struct InfoHeader {
+    version: u32,
+    signature: u32,
+    age: u32,
+    guid: Uuid,
+}
+
+impl Model for InfoHeader {
+    ghost use Rattle.pdb_info.specs.Header.{HeaderFields};
+
+    ghost Value = { HeaderFields };
+
+    ghost view = { λ h. record { version = h.version; signature = h.signature; age = h.age; guid = h.guid } };
+
+    ghost inverse = { λ h. record { version = h.version; signature = h.signature; age = h.age; guid = h.guid } };
+}
+
+/// The GUID of a stream that is as long as a header: it stands at the header's end.
+fn guid_at_end(stream: &[u8]) -> Uuid
+    requires { 28 ≤ length stream.now }
+    ensures { result ≡ stored_guid (take 16 (drop 12 stream.now)) }
+{
+    let mut bytes = [0; 16];
+    bytes.copy_from_slice(&stream[12..LENGTH]);
+    guid_of(bytes)
+}
+
+impl InfoHeader {
+    /// Reads the header at the front of an info stream.
+    ///
+    /// A stream of fewer than 28 bytes is refused with `InfoShort`, and no other one: the values
+    /// aren't checked. It takes no memory. ("The PDB Info Stream", "Stream Header".)
+    #[tactic(auto, unfolding(crate::specs::Header::header_checks))]
+    pub fn read(stream: &[u8]) -> Result<InfoHeader, InfoFault>
+        ensures value { IfOk result (HasHeader stream.now) }
+        // Nothing that has a header is refused.
+        ensures found { (fields : HeaderFields) → HasHeader stream.now fields → IsOk result }
+        ensures first { Makes result (header_checks stream.now) }
+        ensures checked { IfErr result (λ fault. fault ≢ InfoFault.Memory) }
+    {
+        if stream.len() < LENGTH {
+            return Err(InfoFault::InfoShort);
+        }
+        Ok(InfoHeader {
+            version: u32_at(stream, 0),
+            signature: u32_at(stream, 4),
+            age: u32_at(stream, 8),
+            guid: guid_at_end(stream),
+        })
+    }
+
+    /// The version of the format, as the date of its making: 20000404 for VC70.
+    pub fn version(&self) -> u32
+        ensures { result ≡ self.now.version }
+    {
+        self.version
+    }
+
+    /// The time of writing, in seconds since 1970, where the writer gave one.
+    pub fn signature(&self) -> u32
+        ensures { result ≡ self.now.signature }
+    {
+        self.signature
+    }
+
+    /// How often the file was written.
+    pub fn age(&self) -> u32
+        ensures { result ≡ self.now.age }
+    {
+        self.age
+    }
+
+    /// The GUID that the file shares with its program.
+    pub fn guid(&self) -> Uuid
+        ensures { result ≡ self.now.guid }
+    {
+        self.guid
+    }
+}

@@ -1,0 +1,99 @@
+//! The info stream as a whole.
+
+ghost use Rattle.std.specs.Prelude.{◌≡◌, ◌+◌, ◌*◌, ◌≤◌, map, length, None, IfOk, IfErr};
+ghost use Rattle.byte_fields.specs.Check.{Makes, Refuses, first_failing, checks_below};
+ghost use Rattle.pdb_info.specs.Header.{HasHeader};
+ghost use Rattle.pdb_info.specs.Names.{IsMap, pair_checks, pairs_offset, size_of};
+ghost use Rattle.pdb_info.specs.Name.{named};
+ghost use Rattle.pdb_info.specs.Info.{InfoView, HasInfo, info_checks};
+
+use crate::fault::InfoFault;
+use crate::header::InfoHeader;
+use crate::map::NameMap;
+use crate::names::Name;
+use std::alloc::{Allocator, Global};
+use std::marker::Model;
+
+/// What an info stream says: its header, the streams that have a name, and the feature codes.
+///
+/// The names are lent from the stream. ("The PDB Info Stream".)
+#[derive(Drop)]
+pub struct Info<'a, A: Allocator = Global> {
+    header: InfoHeader,
+    names: Vec<Name<'a>, A>,
+    features: Vec<u32, A>,
+}
+
+impl<'a, A: Allocator> Model for Info<'a, A> {
+    ghost use Rattle.std.specs.Prelude.{map};
+    ghost use Rattle.pdb_info.specs.Name.{named};
+    ghost use Rattle.pdb_info.specs.Info.{InfoView};
+
+    ghost Value = { InfoView };
+
+    ghost view = { λ i. record { header = i.header; names = map named i.names.items; features = i.features.items } };
+}
+
+/// Checks an info stream, and answers its header and where its names stand. It takes no memory.
+#[tactic(auto, using(crate::proofs::InfoLaws::header_fault, crate::proofs::InfoLaws::map_fault, crate::proofs::InfoLaws::pairs_answer))]
+fn check(stream: &[u8]) -> Result<(InfoHeader, NameMap), InfoFault>
+    ensures header { IfOk result (λ found. HasHeader stream.now found.0) }
+    ensures map { IfOk result (λ found. IsMap stream.now found.1) }
+    ensures inside { IfOk result (λ _. pairs_offset stream.now + 8 * size_of stream.now ≤ length stream.now) }
+    ensures held { IfOk result (λ _. first_failing (checks_below (size_of stream.now) (pair_checks stream.now)) ≡ None) }
+    ensures first { Makes result (info_checks stream.now) }
+{
+    let header = InfoHeader::read(stream)?;
+    let map = NameMap::find(stream)?;
+    map.check_pairs(stream)?;
+    Ok((header, map))
+}
+
+impl<'a, A: Allocator + Copy> Info<'a, A> {
+    /// Reads an info stream.
+    ///
+    /// The faults are met in the order of the fields: `InfoShort`; `NamesShort` for each field of
+    /// the named stream map in front of the pairs; `NamesCount`; and for each pair `NamesShort`,
+    /// then `NameOffset`. Every check is made before any memory is asked for, so that `Memory`
+    /// hides no fault. It reserves room for the names and the feature codes that stand in the
+    /// stream, and nothing else. One to three bytes behind the last whole number are ignored.
+    /// ("The PDB Info Stream", "Named Stream Map".)
+    pub fn read(alloc: A, stream: &'a [u8]) -> Result<Info<'a, A>, InfoFault>
+        ensures value { IfOk result (HasInfo stream.now) }
+        // Nothing that has these parts is refused, but for want of memory.
+        ensures found { (info : InfoView) → HasInfo stream.now info → IfErr result (λ fault. fault ≡ InfoFault.Memory) }
+        ensures first { IfErr result (Refuses InfoFault.Memory (first_failing (info_checks stream.now))) }
+    {
+        let (header, map) = check(stream)?;
+        let names = map.names(alloc, stream)?;
+        let features = map.features(alloc, stream)?;
+        Ok(Info {
+            header,
+            names,
+            features,
+        })
+    }
+}
+
+impl<'a, A: Allocator> Info<'a, A> {
+    /// The header.
+    pub fn header(&self) -> &InfoHeader
+        ensures { result.now ≡ self.now.header }
+    {
+        &self.header
+    }
+
+    /// The streams that have a name, in the order of their buckets.
+    pub fn names(&self) -> &[Name<'a>]
+        ensures { map named result.now ≡ self.now.names }
+    {
+        &self.names
+    }
+
+    /// The feature codes, in the order of the stream.
+    pub fn features(&self) -> &[u32]
+        ensures { result.now ≡ self.now.features }
+    {
+        &self.features
+    }
+}

@@ -1,0 +1,101 @@
+//! The named stream map in front of its pairs: where its parts stand, and their checks.
+
+ghost use Rattle.std.specs.Prelude.{◌≡◌, ◌+◌, ◌*◌, ◌^◌, ◌<◌, ◌≤◌, length, IfOk, IfErr};
+ghost use Rattle.byte_fields.specs.Number.{number_at};
+ghost use Rattle.byte_fields.specs.Check.{Makes};
+ghost use Rattle.pdb_info.specs.Names.{IsMap, numbers_at, present_count, map_checks};
+
+use crate::fault::InfoFault;
+use crate::header::LENGTH;
+use byte_fields::u32_at;
+
+/// How many bytes Size, Capacity and the number of present words have together.
+pub(crate) const COUNTS: usize = 12;
+
+/// Where the parts of a named stream map stand, and how many there are of them.
+#[derive(Clone, Copy)]
+pub(crate) struct NameMap {
+    /// Where Size stands, behind the buffer.
+    pub(crate) size_offset: usize,
+    /// Where the pairs begin.
+    pub(crate) pairs_offset: usize,
+    /// How many pairs there are.
+    pub(crate) size: u32,
+    /// How many words of four bytes say which buckets are present.
+    pub(crate) present_words: u32,
+}
+
+/// Checks that a field of `count` bytes fits at `offset`.
+pub(crate) fn check_fits(stream: &[u8], offset: usize, count: usize) -> Result<(), InfoFault>
+    requires small { offset + count < 2 ^ 64 }
+    ensures value { IfOk result (λ _. offset + count ≤ length stream.now) }
+    ensures short { IfErr result (λ _. length stream.now < offset + count) }
+    ensures fault { IfErr result (λ fault. fault ≡ InfoFault.NamesShort offset) }
+{
+    if stream.len() < offset + count {
+        return Err(InfoFault::NamesShort(offset as u64));
+    }
+    Ok(())
+}
+
+/// The number at `offset`, once it was checked that it fits.
+fn number(stream: &[u8], offset: usize) -> Result<u32, InfoFault>
+    requires small { offset + 4 < 2 ^ 64 }
+    ensures value { IfOk result (λ n. n ≡ number_at 4 stream.now offset) }
+    ensures inside { IfOk result (λ _. offset + 4 ≤ length stream.now) }
+    ensures short { IfErr result (λ _. length stream.now < offset + 4) }
+    ensures fault { IfErr result (λ fault. fault ≡ InfoFault.NamesShort offset) }
+{
+    check_fits(stream, offset, 4)?;
+    Ok(u32_at(stream, offset))
+}
+
+/// How many of the bits of so many words from `start` on are 1.
+#[tactic(auto, using(crate::proofs::MapLaws::present_more, crate::proofs::MapLaws::ones_few))]
+fn present_count(stream: &[u8], start: usize, words: u32) -> u64
+    requires { start + 4 * words ≤ length stream.now }
+    ensures { result ≡ present_count (numbers_at stream.now start words) }
+{
+    let mut present = 0u64;
+    for w in 0..words {
+        let word = u32_at(stream, start + 4 * w as usize);
+        present += u64::from(word.count_ones());
+    }
+    present
+}
+
+impl NameMap {
+    /// Finds the parts of the map behind the header of a stream, and checks those in front of
+    /// the pairs.
+    #[tactic(auto, unfolding(crate::specs::Names::map_checks, crate::specs::Names::size_offset, crate::specs::Names::deleted_offset, crate::specs::Names::pairs_offset, crate::specs::Names::present_of))]
+    pub(crate) fn find(stream: &[u8]) -> Result<NameMap, InfoFault>
+        ensures value { IfOk result (IsMap stream.now) }
+        ensures first { Makes result (map_checks stream.now) }
+    {
+        let buffer_len = number(stream, LENGTH)? as usize;
+        check_fits(stream, LENGTH + 4, buffer_len)?;
+        let size_offset = LENGTH + 4 + buffer_len;
+        let size = number(stream, size_offset)?;
+        // The capacity is of no use here.
+        number(stream, size_offset + 4)?;
+        let present_words = number(stream, size_offset + 8)?;
+        let present_offset = size_offset + COUNTS;
+        check_fits(stream, present_offset, 4 * present_words as usize)?;
+        let deleted_offset = present_offset + 4 * present_words as usize;
+        let deleted_words = number(stream, deleted_offset)?;
+        check_fits(stream, deleted_offset + 4, 4 * deleted_words as usize)?;
+        let present = present_count(stream, present_offset, present_words);
+        if u64::from(size) != present {
+            return Err(InfoFault::NamesCount {
+                said: size,
+                present,
+            });
+        }
+        Ok(NameMap {
+            size_offset,
+            pairs_offset: deleted_offset + 4 + 4 * deleted_words as usize,
+            size,
+            present_words,
+        })
+    }
+}
