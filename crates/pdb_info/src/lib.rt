@@ -17,7 +17,11 @@
 //!
 //! Every check is made before any memory is asked for, and no number of the stream is used as a
 //! length before it is known to fit. So a stream that announces more than it has is refused
-//! before anything is allocated. The time is linear in the length of the stream.
+//! before anything is allocated.
+//!
+//! Each bit and each number is looked at a fixed number of times. The end of a name is searched
+//! from its offset on, once to check it and once to read it; names may share bytes of the buffer,
+//! so that in a hostile stream the same bytes may be searched for every pair.
 //!
 //! What is proved: a stream that reads well *is spelled* from its values as the format says
 //! (`HasInfo` of `specs/Info`); a stream that is spelled so is refused only for want of memory;

@@ -24,7 +24,7 @@ use line::{Line, LineFault, USAGE, read_line};
 use msf_blocks::{In, Out, put_all};
 use records::run_records;
 use std::fs::File;
-use std::io::{ErrorKind, writer};
+use std::io::{self, ErrorKind, writer};
 use std::process::ExitCode;
 use std::rt::{Env, Files};
 use std::{env, fs};
@@ -89,30 +89,36 @@ fn run<R: Files + Print + AllocGlobal>(rt: &R, line: &Line) -> Result<(), Progra
     Ok(())
 }
 
-/// Says why the words are refused, or the help that they ask for.
-fn explain<R: Print + Eprint>(rt: &R, fault: &LineFault) -> bool {
-    let shown = match fault {
+/// Says why the words are refused, or prints the help that they ask for.
+fn explain<R: Print + Eprint>(rt: &R, fault: &LineFault) -> io::Result<()> {
+    match fault {
         LineFault::Refused(error) => error.print(rt),
         LineFault::Word => eprintln!(rt; "pdbmerge: wrong word"),
         LineFault::Memory => eprintln!(rt; "pdbmerge: 33 Memory"),
-    };
-    shown.is_ok()
+    }
+}
+
+/// Says why a command was refused.
+fn refuse<R: Eprint>(rt: &R, fault: &ProgramFault) -> ExitCode {
+    // Where even this can't be said, the status is all that is left.
+    let _ = eprintln!(rt; "pdbmerge: {fault}");
+    ExitCode::FAILURE
 }
 
 fn main(rt: HostRuntime) -> ExitCode {
     let line = match words(&rt).and_then(|words| read_line(rt.alloc(), &words)) {
         Ok(line) => line,
         Err(fault) => {
-            explain(&rt, &fault);
-            return ExitCode::from(fault.status());
+            return match explain(&rt, &fault) {
+                // Help that wasn't taken is a text like any other.
+                Err(_) if fault.status() == 0 => refuse(&rt, &RunFault::Write.into()),
+                _ => ExitCode::from(fault.status()),
+            };
         }
     };
     match run(&rt, &line) {
         Ok(()) => ExitCode::SUCCESS,
-        Err(fault) => {
-            let _ = eprintln!(rt; "pdbmerge: {fault}");
-            ExitCode::FAILURE
-        }
+        Err(fault) => refuse(&rt, &fault),
     }
 }
 
