@@ -38,6 +38,30 @@ fn bits_of_the_free_block_maps(rt: HostRuntime) -> Result<(), Fail> {
 }
 
 #[test]
+fn bits_of_a_map_in_use(rt: HostRuntime) -> Result<(), Fail> {
+    // Seven blocks of 4,096 bytes, as a file without types has them: all in use, and all that
+    // follow marked as free.
+    let mut file = vec![in rt.alloc(); 0u8; 28672]?;
+    put(
+        &mut file,
+        0,
+        b"Microsoft C/C++ MSF 7.00\x0d\x0a\x1aDS\0\0\0",
+    );
+    put(
+        &mut file,
+        32,
+        b"\x00\x10\0\0\x01\0\0\0\x07\0\0\0\x20\0\0\0\0\0\0\0\x03\0\0\0",
+    );
+    put(&mut file, 4096, &[0xFF; 4096]);
+    put(&mut file, 4096, b"\x80");
+    for block in 0..7 {
+        assert_eq!(rt; bit(&file, block), Ok(Some(false)));
+    }
+    assert_eq!(rt; bit(&file, 7), Ok(None));
+    Ok(())
+}
+
+#[test]
 fn each_fault_has_its_text(rt: HostRuntime) -> Result<(), Fail> {
     for (fault, want) in [
         (MsfFault::Short, "1 Short"),
