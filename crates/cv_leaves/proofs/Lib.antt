@@ -1,0 +1,10 @@
+pub mod PartLaws
+pub mod RecordLaws
+pub mod NameLaws
+pub mod PutLaws
+pub mod FoundLaws
+pub mod HoldLaws
+pub mod MadeLaws
+pub mod PlaceLaws
+pub mod KeepLaws
+pub mod FillLaws

@@ -1,0 +1,107 @@
+-- Parts one after the other: what is met in the first of them, and what in the others.
+use Rattle.std.proofs.Common.{◌≡◌, ℕ, zero, suc, ◌+◌, ◌-◌, ◌<◌, ◌≤◌, Bool, true, false, cond, List, [], ◌++◌, None, Some, refl, sym, ap, ◌∙◌, arith, inl, inr}
+use Rattle.std.proofs.lemmas.Bool.{cases_lt, lt-ltb, le-ltb}
+use Rattle.byte_fields.specs.Check.{Check, first_failing}
+use Rattle.byte_fields.proofs.CheckLaws.{first_failing-append_none, first_failing-append_some, first_failing-parts}
+use Rattle.byte_fields.specs.Number.{number_at}
+use Rattle.cv_leaves.specs.Walk.{collect, each_part}
+use Rattle.cv_leaves.specs.Part.{points_to_member, introduces, part_end, part_checks, part_places}
+use Rattle.cv_leaves.specs.Checks.{checks_from, places_from}
+use Rattle.cv_leaves.specs.declared.leaf.Rest.{Rest}
+use Rattle.cv_leaves.specs.declared.leaf.Rest.TheVariants.{Nothing, Containing, Indices, Methods}
+use Rattle.cv_leaves.specs.declared.fault.LeafFault.{LeafFault}
+
+-- ---- parts of any kind
+
+-- each part ends behind its beginning
+abbrev pub Forward : (ℕ → ℕ) → Type 0
+Forward end = (at : ℕ) → at < end at
+
+-- nothing is met where the parts have reached their stop
+collect_past : {X : Type 0} (end : ℕ → ℕ) (here : ℕ → List X) (stop n at : ℕ) → stop ≤ at → collect end here stop n at ≡ []
+unfolding collect
+collect_past end here stop zero at past = refl
+collect_past end here stop (suc n) at past = rw (le-ltb at stop past) refl
+
+-- the first of at most n + 1 parts
+collect_here : {X : Type 0} (end : ℕ → ℕ) (here : ℕ → List X) (stop n at : ℕ) → at < stop → collect end here stop (suc n) at ≡ here at ++ collect end here stop n (end at)
+unfolding collect
+collect_here end here stop n at below = rw (lt-ltb at stop below) refl
+
+-- how many parts are allowed doesn't matter, if there are enough for each byte
+collect_enough : {X : Type 0} (end : ℕ → ℕ) (here : ℕ → List X) (stop m n at : ℕ) → Forward end → stop - at ≤ m → stop - at ≤ n → collect end here stop m at ≡ collect end here stop n at
+collect_enough end here stop zero n at forward le ge = collect_past end here stop zero at (omega arith) ∙ sym (collect_past end here stop n at (omega arith))
+collect_enough end here stop (suc m) zero at forward le ge = collect_past end here stop (suc m) at (omega arith) ∙ sym (collect_past end here stop zero at (omega arith))
+collect_enough {X = X} end here stop (suc m) (suc n) at forward le ge =
+    let rest = collect_enough end here stop m n (end at) forward (omega (arith, forward at)) (omega (arith, forward at)) in
+    elim (cases_lt at stop) [
+      | inl below ↦ collect_here end here stop m at below ∙ ap (λ (xs : List X). here at ++ xs) rest ∙ sym (collect_here end here stop n at below)
+      | inr past ↦ collect_past end here stop (suc m) at past ∙ sym (collect_past end here stop (suc n) at past)
+    ]
+
+-- no part begins at the stop or behind it
+pub each_part_past : {X : Type 0} (end : ℕ → ℕ) (here : ℕ → List X) (stop at : ℕ) → stop ≤ at → each_part end here stop at ≡ []
+unfolding each_part
+each_part_past end here stop at past = collect_past end here stop (stop - at) at past
+
+-- the first part before the stop, and the others
+pub each_part_here : {X : Type 0} (end : ℕ → ℕ) (here : ℕ → List X) (stop at : ℕ) → Forward end → at < stop → each_part end here stop at ≡ here at ++ each_part end here stop (end at)
+unfolding each_part
+each_part_here {X = X} end here stop at forward below =
+    let more : stop - at ≡ suc (stop - at - 1) = omega arith in
+    let others = collect_enough end here stop (stop - at - 1) (stop - end at) (end at) forward (omega (arith, forward at)) (omega arith) in
+    rw more (collect_here end here stop (stop - at - 1) at below ∙ ap (λ (xs : List X). here at ++ xs) others)
+
+-- ---- the parts of a leaf
+
+-- a choice between two ends goes forward if both do
+either_forward : (b : Bool) (at long short : ℕ) → at < at + long → at < at + short → at < cond b (at + long) (at + short)
+either_forward true at long short l s = l
+either_forward false at long short l s = s
+
+-- each part of a leaf ends behind its beginning
+pub part_forward : (rest : Rest) (body : List ℕ) → Forward (part_end rest body)
+unfolding part_end
+part_forward Nothing body at = omega arith
+part_forward Containing body at = either_forward (points_to_member (number_at 4 body at)) at 8 4 (omega arith) (omega arith)
+part_forward Indices body at = omega arith
+part_forward Methods body at = either_forward (introduces (number_at 2 body at)) at 12 8 (omega arith) (omega arith)
+
+-- there is nothing to check where the parts have reached their stop
+pub no_checks : (rest : Rest) (body : List ℕ) (stop at : ℕ) → stop ≤ at → first_failing (checks_from rest body stop at) ≡ None
+no_checks rest body stop at past = rw (each_part_past (part_end rest body) (part_checks rest body) stop at past) refl
+
+-- there are no places where the parts have reached their stop
+pub no_places : (rest : Rest) (body : List ℕ) (stop at : ℕ) → stop ≤ at → places_from rest body stop at ≡ []
+no_places rest body stop at past = each_part_past (part_end rest body) (part_places rest body) stop at past
+
+-- the places of the first part, and those of the others
+pub places_here : (rest : Rest) (body : List ℕ) (stop at : ℕ) → at < stop → places_from rest body stop at ≡ part_places rest body at ++ places_from rest body stop (part_end rest body at)
+places_here rest body stop at below = each_part_here (part_end rest body) (part_places rest body) stop at (part_forward rest body) below
+
+-- a fault of the first part is the first one
+pub fault_here : (rest : Rest) (body : List ℕ) (stop at : ℕ) (e : LeafFault) → at < stop → first_failing (part_checks rest body at) ≡ Some e → first_failing (checks_from rest body stop at) ≡ Some e
+fault_here rest body stop at e below fails =
+    rw (each_part_here (part_end rest body) (part_checks rest body) stop at (part_forward rest body) below)
+    (first_failing-append_some (part_checks rest body at) (checks_from rest body stop (part_end rest body at)) e fails)
+
+-- where the first part has no fault, the others tell the first one
+pub held_here : (rest : Rest) (body : List ℕ) (stop at : ℕ) → at < stop → first_failing (part_checks rest body at) ≡ None
+    → first_failing (checks_from rest body stop at) ≡ first_failing (checks_from rest body stop (part_end rest body at))
+held_here rest body stop at below held =
+    rw (each_part_here (part_end rest body) (part_checks rest body) stop at (part_forward rest body) below)
+    (first_failing-append_none (part_checks rest body at) (checks_from rest body stop (part_end rest body at)) held)
+
+-- where no part has a fault, the first one has none
+pub holds_here : (rest : Rest) (body : List ℕ) (stop at : ℕ) → at < stop → first_failing (checks_from rest body stop at) ≡ None → first_failing (part_checks rest body at) ≡ None
+holds_here rest body stop at below held =
+    (first_failing-parts (part_checks rest body at) (checks_from rest body stop (part_end rest body at))
+    (rw (each_part_here (part_end rest body) (part_checks rest body) stop at (part_forward rest body) below) at held)).0
+
+-- checks that hold, and those behind them
+pub append_held : (front back : List (Check LeafFault)) → first_failing front ≡ None → first_failing (front ++ back) ≡ first_failing back
+append_held front back held = first_failing-append_none front back held
+
+-- a check that fails, and those behind it
+pub append_fails : (front back : List (Check LeafFault)) (e : LeafFault) → first_failing front ≡ Some e → first_failing (front ++ back) ≡ Some e
+append_fails front back e fails = first_failing-append_some front back e fails

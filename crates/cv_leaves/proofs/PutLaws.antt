@@ -1,0 +1,87 @@
+-- A number that is written into a text: what it leaves as it is.
+use Rattle.std.proofs.Common.{◌≡◌, ◌<◌, ◌≤◌, ◌+◌, ◌^◌, ◌++◌, ℕ, List, length, take, drop, get_or, refl, sym, ap, arith, ◌∙◌}
+use Rattle.std.proofs.lemmas.List.{append_assoc, length-append, length-take, length-drop, get_or_append_left, get_or-take, get_or-drop, drop-drop, take-append-le, drop-append-le, drop_at}
+use Rattle.std.proofs.Math.Seq.{take-append-add, drop-append-add}
+use Rattle.byte_fields.specs.Number.{number_at, four_bytes}
+use Rattle.byte_fields.proofs.NumberLaws.{length-four_bytes, number_at-drop}
+use Rattle.cv_leaves.specs.Checks.{body_of}
+use Rattle.cv_leaves.specs.Blank.{put_four}
+
+-- a number of the body stands four bytes further in the record
+pub number_in_body : (r : List ℕ) (place : ℕ) → number_at 4 (body_of r) place ≡ number_at 4 r (4 + place)
+unfolding number_at body_of
+number_in_body r place = rw (drop-drop place 4 r) refl
+
+-- the length stays
+pub put_len : (x : List ℕ) (at n : ℕ) → at + 4 ≤ length x → length (put_four x at n) ≡ length x
+unfolding put_four
+put_len x at n inside =
+    omega (arith, length-append (take at x) (four_bytes n ++ drop (at + 4) x), length-append (four_bytes n) (drop (at + 4) x), length-take at x, length-drop (at + 4) x, length-four_bytes n)
+
+-- the bytes in front of it stay
+byte_before : (x : List ℕ) (at n i : ℕ) → i < at → at ≤ length x → get_or (put_four x at n) i 0 ≡ get_or x i 0
+unfolding put_four
+byte_before x at n i below inside =
+    get_or_append_left (take at x) (four_bytes n ++ drop (at + 4) x) 0 i (omega (arith, length-take at x)) ∙ get_or-take at x i 0 below
+
+-- a number of two bytes at the front stays
+pub two_before : (x : List ℕ) (at n : ℕ) → 2 ≤ at → at ≤ length x → number_at 2 (put_four x at n) 0 ≡ number_at 2 x 0
+unfolding number_at
+two_before x at n above inside =
+    let a = byte_before x at n 0 (omega arith) inside in
+    let b = byte_before x at n 1 (omega arith) inside in
+    rw (a, b) refl
+
+-- a number of four bytes at the front stays
+pub four_before : (x : List ℕ) (at n : ℕ) → 4 ≤ at → at ≤ length x → number_at 4 (put_four x at n) 0 ≡ number_at 4 x 0
+unfolding number_at
+four_before x at n above inside =
+    let a = byte_before x at n 0 (omega arith) inside in
+    let b = byte_before x at n 1 (omega arith) inside in
+    let c = byte_before x at n 2 (omega arith) inside in
+    let d = byte_before x at n 3 (omega arith) inside in
+    rw (a, b, c, d) refl
+
+-- the kind of a record stays
+pub kind_before : (x : List ℕ) (at n : ℕ) → 4 ≤ at → at ≤ length x → number_at 2 (put_four x at n) 2 ≡ number_at 2 x 2
+unfolding number_at
+kind_before x at n above inside =
+    let y = put_four x at n in
+    let a : get_or (drop 2 y) 0 0 ≡ get_or (drop 2 x) 0 0 = get_or-drop 2 y 0 0 ∙ byte_before x at n 2 (omega arith) inside ∙ sym (get_or-drop 2 x 0 0) in
+    let b : get_or (drop 2 y) 1 0 ≡ get_or (drop 2 x) 1 0 = get_or-drop 2 y 1 0 ∙ byte_before x at n 3 (omega arith) inside ∙ sym (get_or-drop 2 x 1 0) in
+    rw (a, b) refl
+
+-- written in the first of two texts
+pub put_front : (a b : List ℕ) (p n : ℕ) → p + 4 ≤ length a → put_four (a ++ b) p n ≡ put_four a p n ++ b
+unfolding put_four
+put_front a b p n inside =
+    let t : take p (a ++ b) ≡ take p a = take-append-le p a b (omega arith) in
+    let d : drop (p + 4) (a ++ b) ≡ drop (p + 4) a ++ b = drop-append-le (p + 4) a b inside in
+    rw (t, d) (ap (λ (xs : List ℕ). take p a ++ xs) (sym (append_assoc (four_bytes n) (drop (p + 4) a) b)) ∙ sym (append_assoc (take p a) (four_bytes n ++ drop (p + 4) a) b))
+
+-- written in the second of two texts
+pub put_back : (a b : List ℕ) (p n : ℕ) → put_four (a ++ b) (length a + p) n ≡ a ++ put_four b p n
+unfolding put_four
+put_back a b p n =
+    let t : take (length a + p) (a ++ b) ≡ a ++ take p b = take-append-add a b p in
+    let e : length a + p + 4 ≡ length a + (p + 4) = omega arith in
+    let d : drop (length a + (p + 4)) (a ++ b) ≡ drop (p + 4) b = drop-append-add a b (p + 4) in
+    rw (t, e, d) (append_assoc a (take p b) (four_bytes n ++ drop (p + 4) b))
+
+-- a number of four bytes that stands in front
+number_front : (n : ℕ) (rest : List ℕ) → n < 2 ^ 32 → number_at 4 (four_bytes n ++ rest) 0 ≡ n
+unfolding number_at four_bytes
+number_front n rest small = omega arith
+
+-- what is written is read again
+put_read : (x : List ℕ) (at n : ℕ) → at + 4 ≤ length x → n < 2 ^ 32 → number_at 4 (put_four x at n) at ≡ n
+unfolding put_four
+put_read x at n inside small =
+    let long : length (take at x) ≡ at = omega (arith, length-take at x) in
+    sym (number_at-drop 4 (put_four x at n) at)
+    ∙ ap (λ (y : List ℕ). number_at 4 y 0) (drop_at (take at x) (four_bytes n ++ drop (at + 4) x) at long)
+    ∙ number_front n (drop (at + 4) x) small
+
+-- also in the body of a record
+pub body_read : (r : List ℕ) (place n : ℕ) → place + 8 ≤ length r → n < 2 ^ 32 → number_at 4 (body_of (put_four r (4 + place) n)) place ≡ n
+body_read r place n inside small = number_in_body (put_four r (4 + place) n) place ∙ put_read r (4 + place) n (omega (arith, inside)) small

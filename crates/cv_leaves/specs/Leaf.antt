@@ -1,0 +1,57 @@
+-- The table of leaves ("CodeView Type Records").
+use Rattle.std.specs.Prelude.{ℕ, ◌==◌, List, [], ◌∷◌, Option, Some, None, if◌then◌else◌, codes}
+use Rattle.cv_leaves.specs.declared.leaf.Rest.{Rest}
+use Rattle.cv_leaves.specs.declared.leaf.Rest.TheVariants.{Nothing, Containing, Indices, Methods}
+use Rattle.cv_leaves.specs.declared.leaf.Naming.{Naming}
+use Rattle.cv_leaves.specs.declared.leaf.Naming.TheVariants.{Unnamed, At, AfterNumeric}
+use Rattle.cv_leaves.specs.declared.leaf.Leaf as declared
+
+-- a leaf: what it is called, the places at fixed offsets of the body, what follows them, and where the name of the type begins
+pub record Leaf : Type 0 where
+  pub text : List ℕ
+  pub places : List ℕ
+  pub rest : Rest
+  pub naming : Naming
+
+-- a row of the table
+pub record Row : Type 0 where
+  pub kind : ℕ
+  pub leaf : Leaf
+
+-- the row of a kind
+abbrev pub row : ℕ → List ℕ → List ℕ → Rest → Naming → Row
+row kind text places rest naming = record { kind = kind; leaf = record { text = text; places = places; rest = rest; naming = naming } }
+
+-- the rows, by rising kind
+abbrev pub leaves : List Row
+leaves =
+    row 0x000A (codes "LF_VTSHAPE") [] Nothing Unnamed
+    ∷ row 0x000E (codes "LF_LABEL") [] Nothing Unnamed
+    ∷ row 0x1001 (codes "LF_MODIFIER") (0 ∷ []) Nothing Unnamed
+    ∷ row 0x1002 (codes "LF_POINTER") (0 ∷ []) Containing Unnamed
+    ∷ row 0x1008 (codes "LF_PROCEDURE") (0 ∷ 8 ∷ []) Nothing Unnamed
+    ∷ row 0x1009 (codes "LF_MFUNCTION") (0 ∷ 4 ∷ 8 ∷ 16 ∷ []) Nothing Unnamed
+    ∷ row 0x1201 (codes "LF_ARGLIST") [] Indices Unnamed
+    ∷ row 0x1205 (codes "LF_BITFIELD") (0 ∷ []) Nothing Unnamed
+    ∷ row 0x1206 (codes "LF_METHODLIST") [] Methods Unnamed
+    ∷ row 0x1503 (codes "LF_ARRAY") (0 ∷ 4 ∷ []) Nothing (AfterNumeric 8)
+    ∷ row 0x1504 (codes "LF_CLASS") (4 ∷ 8 ∷ 12 ∷ []) Nothing (AfterNumeric 16)
+    ∷ row 0x1505 (codes "LF_STRUCTURE") (4 ∷ 8 ∷ 12 ∷ []) Nothing (AfterNumeric 16)
+    ∷ row 0x1506 (codes "LF_UNION") (4 ∷ []) Nothing (AfterNumeric 8)
+    ∷ row 0x1507 (codes "LF_ENUM") (4 ∷ 8 ∷ []) Nothing (At 12)
+    ∷ row 0x1519 (codes "LF_INTERFACE") (4 ∷ 8 ∷ 12 ∷ []) Nothing (AfterNumeric 16)
+    ∷ row 0x151D (codes "LF_VFTABLE") (0 ∷ 4 ∷ []) Nothing Unnamed
+    ∷ []
+
+-- the first of these rows that has the kind
+abbrev pub find : List Row → ℕ → Option Leaf
+find [] kind = None
+find (r ∷ rs) kind = if kind == r.kind then Some r.leaf else find rs kind
+
+-- the leaf of a kind
+unfoldable pub leaf_of : ℕ → Option Leaf
+leaf_of kind = find leaves kind
+
+-- a row of the program's table, as a leaf
+abbrev pub seen : declared.Leaf → Leaf
+seen l = record { text = l.text.now; places = l.places.now; rest = l.rest; naming = l.naming }

@@ -1,0 +1,10 @@
+pub mod Field
+pub mod Leaf
+pub mod Part
+pub mod Walk
+pub mod Numeric
+pub mod Checks
+pub mod Name
+pub mod HasPlaces
+pub mod Blank
+pub mod Laws

@@ -1,0 +1,97 @@
+//! The check of a record.
+
+ghost use Rattle.std.specs.Prelude.{◌≡◌, ◌≤◌, ◌^◌, ◌<◌, List, ℕ, IsOk, IfOk, length};
+ghost use Rattle.byte_fields.specs.Check.{Makes};
+ghost use Rattle.cv_leaves.specs.Leaf.{seen};
+ghost use Rattle.cv_leaves.specs.Checks.{leaf_checks, kind_of, body_of, checks_from, fixed_checks, record_checks};
+ghost use Rattle.cv_leaves.specs.HasPlaces.{HasPlaces};
+
+use crate::fault::LeafFault;
+use crate::leaf::{Leaf, Rest, leaf_of};
+use crate::part::{extent, fits, part_at};
+use byte_fields::u16_at;
+
+/// The kind of a record, which tells its leaf.
+///
+/// It takes no memory.
+#[tactic(auto, unfolding(crate::specs::Checks::kind_of))]
+pub fn kind_of(record: &[u8]) -> u16
+    requires { 4 ≤ length «record».now }
+    ensures { result ≡ kind_of «record».now }
+{
+    u16_at(record, 2)
+}
+
+/// The bytes of a record behind its length and its kind.
+#[tactic(auto, unfolding(crate::specs::Checks::body_of))]
+pub fn body_of(record: &[u8]) -> &[u8]
+    requires { 4 ≤ length «record».now }
+    ensures bytes { result.now ≡ body_of «record».now }
+    ensures few { length result.now ≤ length «record».now }
+{
+    &record[4..]
+}
+
+/// Checks the type indices at fixed places.
+#[tactic(auto, unfolding(crate::specs::Checks::fixed_checks))]
+fn check_fixed(body: &[u8], places: &[u8]) -> Result<(), LeafFault>
+    ensures { Makes result (fixed_checks body.now places.now) }
+{
+    for &place in places {
+        fits(body, usize::from(place), 4)?;
+    }
+    Ok(())
+}
+
+/// Checks the parts from an offset on.
+#[tactic(auto, using(crate::proofs::PartLaws::no_checks, crate::proofs::PartLaws::fault_here, crate::proofs::PartLaws::held_here, crate::proofs::PartLaws::part_forward))]
+fn check_parts(rest: Rest, body: &[u8], start: usize, stop: usize) -> Result<(), LeafFault>
+    requires { (start < 2 ^ 17) × (length body.now < 2 ^ 17) }
+    ensures { Makes result (checks_from rest body.now stop start) }
+{
+    let mut at = start;
+    while at < stop {
+        at = part_at(rest, body, at)?.end;
+    }
+    Ok(())
+}
+
+/// Checks the fields of a leaf.
+#[tactic(auto, using(crate::proofs::PartLaws::append_held, crate::proofs::PartLaws::append_fails), unfolding(crate::specs::Checks::rest_checks))]
+fn check_leaf(leaf: Leaf, body: &[u8]) -> Result<(), LeafFault>
+    requires { length body.now < 2 ^ 17 }
+    ensures { Makes result (leaf_checks (seen leaf) body.now) }
+{
+    check_fixed(body, leaf.places)?;
+    let (start, stop) = extent(leaf.rest, body)?;
+    check_parts(leaf.rest, body, start, stop)
+}
+
+/// Makes each check of a record, in order.
+#[tactic(auto, using(crate::proofs::RecordLaws::checks_of_leaf, crate::proofs::RecordLaws::checks_of_no_leaf))]
+fn check_record(record: &[u8]) -> Result<(), LeafFault>
+    requires { (4 ≤ length «record».now) × (length «record».now ≤ 2 ^ 16) }
+    ensures { Makes result (record_checks «record».now) }
+{
+    let kind = kind_of(record);
+    match leaf_of(kind) {
+        None => Err(LeafFault::Leaf(kind)),
+        Some(leaf) => check_leaf(leaf, body_of(record)),
+    }
+}
+
+/// Checks that a record has a known leaf, and that each field that is looked at fits its body.
+///
+/// The kind is checked first, and then the fields in the order of their offsets: the type
+/// indices, and what says where they stand (the attributes of a pointer and of a method, the
+/// count of an argument list). The name is not looked at. It takes no memory. ("CodeView Type
+/// Records".)
+pub fn check(record: &[u8]) -> Result<(), LeafFault>
+    requires { (4 ≤ length «record».now) × (length «record».now ≤ 2 ^ 16) }
+    ensures value { IfOk result (λ _. (places : List ℕ) × HasPlaces «record».now places) }
+    // Nothing that has places is refused.
+    ensures found { (places : List ℕ) → HasPlaces «record».now places → IsOk result }
+    ensures first { Makes result (record_checks «record».now) }
+{
+    check_record(record)
+}

@@ -1,0 +1,36 @@
+//! What holds of the places of every record.
+//!
+//! Each function here does nothing: its contract is the law.
+
+ghost use Rattle.cv_leaves.specs.Laws.{OnePlaces, PlacesApart, FillKeeps, BlankKeeps, WrittenIsRead, MethodsFill};
+
+/// A record has one list of places.
+pub fn one_list_of_places()
+    ensures { OnePlaces }
+{}
+
+/// The places of a record rise, are at least four bytes apart, and the four bytes at each lie
+/// within the body.
+pub fn places_are_apart()
+    ensures { PlacesApart }
+{}
+
+/// Whatever numbers are written at the places of a record, it keeps the places.
+pub fn filling_keeps_the_places()
+    ensures { FillKeeps }
+{}
+
+/// With zeros at its places, a record keeps the places.
+pub fn blanking_keeps_the_places()
+    ensures { BlankKeeps }
+{}
+
+/// A type index that is written at a place is read there again.
+pub fn what_is_written_is_read()
+    ensures { WrittenIsRead }
+{}
+
+/// The entries of a method list stand one after the other and fill its body.
+pub fn methods_fill_the_body()
+    ensures { MethodsFill }
+{}

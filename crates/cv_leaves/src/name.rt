@@ -1,0 +1,59 @@
+//! The name of the type that a record describes.
+
+ghost use Rattle.std.specs.Prelude.{◌≡◌, ◌≤◌, ◌<◌, ◌^◌, option_map, length, drop};
+ghost use Rattle.cv_leaves.specs.Name.{name_at, name_in, name_of};
+
+use crate::checks::{body_of, kind_of};
+use crate::leaf::{Naming, leaf_of};
+use crate::numeric::after_numeric;
+use memchr::memchr;
+
+/// The bytes from an offset on.
+fn rest_from(body: &[u8], at: usize) -> &[u8]
+    requires { at ≤ length body.now }
+    ensures { result.now ≡ drop at body.now }
+{
+    &body[at..]
+}
+
+/// The name that begins at an offset, without its NUL.
+#[tactic(auto, using(crate::proofs::NameLaws::name_here, crate::proofs::NameLaws::no_name_here, crate::proofs::NameLaws::no_name_past))]
+fn name_at(body: &[u8], at: usize) -> Option<&[u8]>
+    ensures { option_map (λ n. n.now) result ≡ name_at body.now at }
+{
+    if body.len() < at {
+        return None;
+    }
+    let rest = rest_from(body, at);
+    let len = memchr(0, rest)?;
+    Some(&rest[..len])
+}
+
+/// The name in a body, by where its leaf has it.
+#[tactic(auto, unfolding(crate::specs::Name::name_in))]
+fn name_in(naming: Naming, body: &[u8]) -> Option<&[u8]>
+    requires { length body.now < 2 ^ 17 }
+    ensures { option_map (λ n. n.now) result ≡ name_in naming body.now }
+{
+    match naming {
+        Naming::Unnamed => None,
+        Naming::At(at) => name_at(body, usize::from(at)),
+        Naming::AfterNumeric(at) => name_at(body, after_numeric(body, usize::from(at))?),
+    }
+}
+
+/// The name of the type that a record describes, lent from the record.
+///
+/// There is nothing where its leaf has no name, where the numeric leaf in front of the name is
+/// not a known one or doesn't fit, or where no NUL follows. A name may be empty. It takes no
+/// memory.
+#[tactic(auto, unfolding(crate::specs::Name::name_of))]
+pub fn type_name(record: &[u8]) -> Option<&[u8]>
+    requires { (4 ≤ length «record».now) × (length «record».now ≤ 2 ^ 16) }
+    ensures { option_map (λ n. n.now) result ≡ name_of «record».now }
+{
+    match leaf_of(kind_of(record)) {
+        Some(leaf) => name_in(leaf.naming, body_of(record)),
+        None => None,
+    }
+}

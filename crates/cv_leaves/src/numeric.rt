@@ -1,0 +1,38 @@
+//! Numeric leaves: numbers that say themselves how many bytes they have.
+
+ghost use Rattle.std.specs.Prelude.{◌≡◌, ◌≤◌, ◌^◌, ◌<◌, length, Some, None, if◌then◌else◌};
+ghost use Rattle.cv_leaves.specs.Numeric.{numeric_len, numeric_end, has_numeric};
+
+use byte_fields::u16_at;
+
+/// How many bytes a numeric leaf has that begins with this number, or 0 where none does.
+fn numeric_len(first: u16) -> usize
+    ensures value { result ≡ numeric_len first }
+    ensures few { result ≤ 10 }
+{
+    match first {
+        // The number itself.
+        0..=0x7FFF => 2,
+        // A kind, and the number behind it.
+        0x8000 => 3,
+        0x8001 | 0x8002 => 4,
+        0x8003 | 0x8004 => 6,
+        0x8009 | 0x800A => 10,
+        _ => 0,
+    }
+}
+
+/// Where the numeric leaf at an offset ends, if one stands there and fits.
+#[tactic(auto, unfolding(crate::specs::Numeric::numeric_end, crate::specs::Numeric::has_numeric))]
+pub fn after_numeric(body: &[u8], at: usize) -> Option<usize>
+    requires { (at < 2 ^ 17) × (length body.now < 2 ^ 17) }
+    ensures { result ≡ (if has_numeric body.now at then Some (numeric_end body.now at) else None) }
+{
+    if at + 2 <= body.len() {
+        let len = numeric_len(u16_at(body, at));
+        if 0 < len && at + len <= body.len() {
+            return Some(at + len);
+        }
+    }
+    None
+}

@@ -1,0 +1,108 @@
+//! The parts of a body that follow the fields at fixed places.
+
+ghost use Rattle.std.specs.Prelude.{◌≡◌, ◌≤◌, ◌+◌, ◌^◌, ◌<◌, length, map, IfOk};
+ghost use Rattle.byte_fields.specs.Check.{Makes};
+ghost use Rattle.cv_leaves.specs.Field.{fits};
+ghost use Rattle.cv_leaves.specs.Part.{points_to_member, introduces, start_of, stop_of, extent_checks, part_end, part_places, part_checks};
+
+use crate::fault::LeafFault;
+use crate::leaf::Rest;
+use byte_fields::{u16_at, u32_at};
+
+/// A part: its places, counted from where it begins, and where it ends in the body.
+#[derive(Clone, Copy)]
+pub struct Part {
+    pub places: &'static [u8],
+    pub end: usize,
+}
+
+/// Checks that a field of so many bytes fits.
+pub fn fits(body: &[u8], at: usize, len: usize) -> Result<(), LeafFault>
+    requires { at + len < 2 ^ 32 }
+    ensures { Makes result (fits body.now at len) }
+{
+    if body.len() < at + len {
+        return Err(LeafFault::Body(at as u32));
+    }
+    Ok(())
+}
+
+/// Whether the attributes of a method introduce a virtual: then its offset follows.
+fn introduces(attributes: u16) -> bool
+    ensures { result ≡ introduces attributes }
+{
+    matches!(attributes >> 2 & 7, 4 | 6)
+}
+
+/// Whether the attributes of a pointer say that it points to a member of a class.
+fn points_to_member(attributes: u32) -> bool
+    ensures { result ≡ points_to_member attributes }
+{
+    matches!(attributes >> 5 & 7, 2 | 3)
+}
+
+/// Where the parts begin, and where they stop.
+#[tactic(auto, unfolding(crate::specs::Part::extent_checks))]
+pub fn extent(rest: Rest, body: &[u8]) -> Result<(usize, usize), LeafFault>
+    ensures value { IfOk result (λ e. (e.0 ≤ 4) × (e.0 ≡ start_of rest) × (e.1 ≡ stop_of rest body.now)) }
+    ensures first { Makes result (extent_checks rest body.now) }
+{
+    match rest {
+        Rest::Nothing => Ok((0, 0)),
+        Rest::Containing => Ok((4, 8)),
+        Rest::Indices => {
+            fits(body, 0, 4)?;
+            Ok((4, 4 + 4 * u32_at(body, 0) as usize))
+        }
+        Rest::Methods => Ok((0, body.len())),
+    }
+}
+
+/// The part that begins at an offset.
+#[tactic(auto, unfolding(crate::specs::Part::part_end, crate::specs::Part::part_places, crate::specs::Part::part_checks))]
+pub fn part_at(rest: Rest, body: &[u8], at: usize) -> Result<Part, LeafFault>
+    requires { (at < 2 ^ 17) × (length body.now < 2 ^ 17) }
+    ensures inside { IfOk result (λ p. p.end ≤ length body.now) }
+    ensures end { IfOk result (λ p. p.end ≡ part_end rest body.now at) }
+    ensures places { IfOk result (λ p. map (λ k. at + k) p.places.now ≡ part_places rest body.now at) }
+    ensures first { Makes result (part_checks rest body.now at) }
+{
+    match rest {
+        // Where nothing follows, parts stop where they begin, so that none is asked for.
+        Rest::Nothing => Err(LeafFault::Body(at as u32)),
+        Rest::Containing => {
+            fits(body, at, 4)?;
+            if points_to_member(u32_at(body, at)) {
+                fits(body, at + 4, 4)?;
+                Ok(Part {
+                    places: &[4],
+                    end: at + 8,
+                })
+            } else {
+                Ok(Part {
+                    places: &[],
+                    end: at + 4,
+                })
+            }
+        }
+        Rest::Indices => {
+            fits(body, at, 4)?;
+            Ok(Part {
+                places: &[0],
+                end: at + 4,
+            })
+        }
+        Rest::Methods => {
+            fits(body, at, 2)?;
+            let introduced = introduces(u16_at(body, at));
+            fits(body, at + 4, 4)?;
+            if introduced {
+                fits(body, at + 8, 4)?;
+            }
+            Ok(Part {
+                places: &[4],
+                end: if introduced { at + 12 } else { at + 8 },
+            })
+        }
+    }
+}
