@@ -2,3 +2,5 @@ pub mod InputLaws
 pub mod RecordsLaws
 pub mod StreamsLaws
 pub mod TextLaws
+pub mod IndexLaws
+pub mod RecordLaws

@@ -1,6 +1,8 @@
 pub mod Fault
+pub mod Index
 pub mod Info
 pub mod Input
+pub mod Record
 pub mod Records
 pub mod Run
 pub mod Streams

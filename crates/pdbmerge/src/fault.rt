@@ -5,6 +5,7 @@ ghost use Rattle.pdbmerge.specs.Fault.{of_read, of_msf, of_stream, of_info, of_t
 ghost use Rattle.pdbmerge.specs.declared.fault.RunFault.TheVariants.{Memory, Write};
 
 use crate::input::ReadFault;
+use cv_leaves::LeafFault;
 use msf_blocks::{MsfFault, NotTaken};
 use msf_streams::StreamFault;
 use pdb_info::InfoFault;
@@ -32,6 +33,12 @@ pub enum RunFault {
     /// The stream of type records is refused.
     #[error("{0}")]
     Tpi(TpiFault),
+    /// No type record has this index.
+    #[error("39 NoRecord {0:#x}")]
+    NoRecord(u32),
+    /// The record of this index has a leaf that is refused.
+    #[error("index {index:#x}: {fault}")]
+    Leaf { index: u32, fault: LeafFault },
     /// A growth was refused.
     #[error("33 Memory")]
     Memory,

@@ -3,6 +3,7 @@
 ghost use Rattle.std.specs.Prelude.{◌≡◌, ◌≤◌, ◌⊎◌, []};
 ghost use Rattle.pdbmerge.specs.declared.line.LineFault.TheVariants.{Refused, Memory};
 
+use crate::index::read_index;
 use clap::error::ErrorKind;
 use clap::{Arg, ArgAction, ArgMatches, Command};
 use std::alloc::{AllocError, Global};
@@ -16,6 +17,9 @@ const ABOUT: &str =
 
 /// What `records` does.
 const RECORDS: &str = "Shows each type record: its type index, its kind, its size in bytes";
+
+/// What `record` does.
+const RECORD: &str = "Shows one type record: its bytes, what it names, what it is called";
 
 /// What `info` does.
 const INFO: &str =
@@ -36,6 +40,8 @@ pub enum Line {
     Usage,
     /// `records FILE`
     Records { file: String },
+    /// `record FILE INDEX`
+    Record { file: String, index: u32 },
     /// `info FILE`
     Info { file: String },
     /// `streams FILE`
@@ -101,6 +107,15 @@ fn showing<'a>(alloc: Global, name: &'a str, about: &'a str) -> Result<Command<'
         .arg(file)
 }
 
+/// The command that reads one file and shows one type record of it.
+fn showing_record<'a>(alloc: Global) -> Result<Command<'a>, AllocError> {
+    let index = Arg::new(alloc, "INDEX")
+        .help("The type index of the record, as 0x1000")
+        .required(true)
+        .action(ArgAction::Set);
+    showing(alloc, "record", RECORD)?.arg(index)
+}
+
 /// The program with its commands.
 fn program<'a>(alloc: Global) -> Result<Command<'a>, AllocError> {
     Command::new(alloc, "pdbmerge")
@@ -110,6 +125,7 @@ fn program<'a>(alloc: Global) -> Result<Command<'a>, AllocError> {
         .no_binary_name(true)
         .subcommand_required(true)
         .subcommand(showing(alloc, "records", RECORDS)?)?
+        .subcommand(showing_record(alloc)?)?
         .subcommand(showing(alloc, "streams", STREAMS)?)?
         .subcommand(showing(alloc, "info", INFO)?)
 }
@@ -120,6 +136,14 @@ fn file_of(alloc: Global, words: &ArgMatches<'_>) -> Result<String, LineFault> {
         Some(file) => Ok(String::from_str(alloc, file)?),
         None => Err(LineFault::Word),
     }
+}
+
+/// The type index that a command names.
+fn index_of(words: &ArgMatches<'_>) -> Result<u32, LineFault> {
+    words
+        .get_str("INDEX")
+        .and_then(read_index)
+        .ok_or(LineFault::Word)
 }
 
 /// Reads the words of a command line, without the program's name.
@@ -133,6 +157,10 @@ pub fn read_line(alloc: Global, words: &[String]) -> Result<Line, LineFault>
     match matches.subcommand() {
         Some(("records", words)) => Ok(Line::Records {
             file: file_of(alloc, words)?,
+        }),
+        Some(("record", words)) => Ok(Line::Record {
+            file: file_of(alloc, words)?,
+            index: index_of(words)?,
         }),
         Some(("streams", words)) => Ok(Line::Streams {
             file: file_of(alloc, words)?,

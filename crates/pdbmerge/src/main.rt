@@ -10,9 +10,11 @@ ghost use Rattle.std.specs.Prelude.{◌≡◌};
 ghost use Rattle.pdbmerge.specs.declared.ProgramFault.TheVariants.{Run};
 
 mod fault;
+mod index;
 mod info;
 mod input;
 mod line;
+mod record;
 mod records;
 mod show;
 mod streams;
@@ -22,6 +24,7 @@ use fault::RunFault;
 use info::run_info;
 use line::{Line, LineFault, USAGE, read_line};
 use msf_blocks::{In, Out, put_all};
+use record::run_record;
 use records::run_records;
 use std::fs::File;
 use std::io::{self, ErrorKind, writer};
@@ -76,6 +79,10 @@ fn run<R: Files + Print + AllocGlobal>(rt: &R, line: &Line) -> Result<(), Progra
         Line::Records { file } => {
             let mut input = open(rt, file.as_str())?;
             run_records(rt.alloc(), &mut input, u32::MAX, &mut out)?;
+        }
+        Line::Record { file, index } => {
+            let mut input = open(rt, file.as_str())?;
+            run_record(rt.alloc(), &mut input, u32::MAX, *index, &mut out)?;
         }
         Line::Info { file } => {
             let mut input = open(rt, file.as_str())?;

@@ -9,19 +9,19 @@ ghost use Rattle.pdbmerge.specs.Run.{Prints, PrintsPart, GivesRefused, IfRead, I
 use crate::fault::RunFault;
 use crate::show::{Show, run};
 use crate::text::{push_index, push_kind};
-use byte_fields::u16_at;
+use cv_leaves::kind_of;
 use msf_blocks::{Layout, Sink, Source};
 use msf_streams::gather;
 use std::alloc::{AllocError, Allocator};
 
 /// The stream that holds the type records.
-const TPI_STREAM: u32 = 2;
+pub const TPI_STREAM: u32 = 2;
 
 /// The type index of the first record.
-const FIRST_INDEX: u32 = 0x1000;
+pub const FIRST_INDEX: u32 = 0x1000;
 
 /// Adds the line of a record, which is whole: it begins with its length field.
-#[tactic(auto, unfolding(crate::specs::Records::record_line))]
+#[tactic(auto, unfolding(crate::specs::Records::record_line, cv_leaves::specs::Checks::kind_of))]
 fn push_record<A: Allocator>(
     text: &mut String<A>,
     index: u32,
@@ -30,7 +30,7 @@ fn push_record<A: Allocator>(
     requires { IsRecord bytes.now }
     ensures { OnOk result (string_bytes text.new ≡ string_bytes text.old ++ record_line index bytes.now) }
 {
-    let kind = u16_at(bytes, 2);
+    let kind = kind_of(bytes);
     let size = bytes.len();
     push_index(text, index)?;
     text.push_str(" ")?;

@@ -1,5 +1,6 @@
 //! Words, and what they mean.
 
+use crate::index::read_index;
 use crate::line::{Line, read_line};
 use std::alloc::Global;
 use std::test::Fail;
@@ -13,6 +14,7 @@ fn meaning(alloc: Global, texts: &[&str]) -> Result<String, Fail> {
     match read_line(alloc, &words) {
         Ok(Line::Usage) => Ok(String::from_str(alloc, "usage")?),
         Ok(Line::Records { file }) => Ok(file),
+        Ok(Line::Record { file, .. }) => Ok(file),
         Ok(Line::Info { file }) => Ok(file),
         Ok(Line::Streams { file }) => Ok(file),
         Err(fault) => Ok(fault.status().to_string(alloc)?),
@@ -24,6 +26,9 @@ fn lines(rt: HostRuntime) -> Result<(), Fail> {
     for (texts, want) in [
         ([].as_slice(), "usage"),
         (["records", "x.pdb"].as_slice(), "x.pdb"),
+        (["record", "x.pdb", "0x1000"].as_slice(), "x.pdb"),
+        (["record", "x.pdb", "1000"].as_slice(), "2"),
+        (["record", "x.pdb"].as_slice(), "2"),
         (["streams", "y.pdb"].as_slice(), "y.pdb"),
         (["info", "z.pdb"].as_slice(), "z.pdb"),
         (["records"].as_slice(), "2"),
@@ -37,4 +42,22 @@ fn lines(rt: HostRuntime) -> Result<(), Fail> {
         assert_eq!(rt; meant.as_str(), want);
     }
     Ok(())
+}
+
+#[test]
+fn indices(rt: HostRuntime) {
+    for (word, index) in [
+        ("0x0", Some(0u32)),
+        ("0x1000", Some(0x1000)),
+        ("0xaBcDeF", Some(0xABCDEF)),
+        ("0xffffffff", Some(0xFFFF_FFFF)),
+        ("0x100000000", None),
+        ("0x1G", None),
+        ("0x+1", None),
+        ("0x", None),
+        ("0X1000", None),
+        ("1000", None),
+    ] {
+        assert_eq!(rt; read_index(word), index);
+    }
 }

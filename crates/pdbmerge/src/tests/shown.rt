@@ -1,6 +1,7 @@
-//! What `records` prints of the sample, of changed samples, and of bytes that are none.
+//! What the commands print of the sample, of changed samples, and of bytes that are none.
 
 use crate::info::run_info;
+use crate::record::run_record;
 use crate::records::run_records;
 use crate::streams::run_streams;
 use acceptance::{LENGTH, put, sample};
@@ -248,6 +249,86 @@ fn info_with_names(rt: HostRuntime) -> Result<(), Fail> {
         (66, 0, b"".as_slice(), "13 NamesShort 59"),
     ] {
         let text = info_with(rt.alloc(), len, at, bytes)?;
+        assert_eq!(rt; text.as_str(), want);
+    }
+    Ok(())
+}
+
+/// What `record` prints of a file, or the fault.
+fn record_of(alloc: Global, file: &[u8], index: u32) -> Result<String, Fail> {
+    let mut text = Vec::new(alloc);
+    match run_record(
+        alloc,
+        &mut In::new(file),
+        u32::MAX,
+        index,
+        &mut Out::new(&mut text),
+    ) {
+        Ok(()) => {}
+        Err(fault) => return Ok(fault.to_string(alloc)?),
+    }
+    Ok(String::from_utf8(text)?)
+}
+
+#[test]
+fn records_of_the_sample(rt: HostRuntime) -> Result<(), Fail> {
+    let file = sample(rt.alloc())?;
+    for (index, want) in [
+        (0x1000, "0a000210740000000c000100\n0 0x74\n"),
+        (0x1001, "0a000110740000000100f2f1\n0 0x74\n"),
+        (0x1002, "39 NoRecord 0x1002"),
+        (0xFFF, "39 NoRecord 0xfff"),
+    ] {
+        let text = record_of(rt.alloc(), &file, index)?;
+        assert_eq!(rt; text.as_str(), want);
+    }
+    Ok(())
+}
+
+/// The length and the bytes of a type record, and what `record` prints of it.
+type Shown = (u8, &'static [u8], &'static str);
+
+const LEAVES: [Shown; 7] = [
+    // a pointer to a member, and one to no member whose bytes look like it
+    (
+        20,
+        b"\x12\0\x02\x10\x74\0\0\0\x4c\x80\0\0\0\x10\0\0\x01\0\xf2\xf1",
+        "12000210740000004c800000001000000100f2f1\n0 0x74\n8 0x1000\n",
+    ),
+    (
+        20,
+        b"\x12\0\x02\x10\x74\0\0\0\x0c\x80\0\0\0\x10\0\0\x01\0\xf2\xf1",
+        "12000210740000000c800000001000000100f2f1\n0 0x74\n",
+    ),
+    // a method list whose first entry introduces a virtual, and one cut short
+    (
+        24,
+        b"\x16\0\x06\x12\x13\0\0\0\x74\0\0\0\0\0\0\0\x03\0\0\0\x74\0\0\0",
+        "160006121300000074000000000000000300000074000000\n4 0x74\n16 0x74\n",
+    ),
+    (
+        20,
+        b"\x12\0\x06\x12\x13\0\0\0\x74\0\0\0\0\0\0\0\x03\0\0\0",
+        "index 0x1000: 26 Body 16",
+    ),
+    // a structure with its name
+    (
+        24,
+        b"\x16\0\x05\x15\0\0\0\0\0\0\0\0\0\0\0\0\0\0\0\0\x01\0S\0",
+        "160005150000000000000000000000000000000001005300\n4 0x0\n8 0x0\n12 0x0\nname \"S\"\n",
+    ),
+    (8, b"\x06\0\x01\x12\0\0\0\0", "0600011200000000\n"),
+    (4, b"\x02\0\x0a\x15", "index 0x1000: 25 Leaf 0x150a"),
+];
+
+#[test]
+fn records_of_several_leaves(rt: HostRuntime) -> Result<(), Fail> {
+    for (len, bytes, want) in LEAVES {
+        // the sample with this as its one type record
+        let mut file = sample(rt.alloc())?;
+        put(&mut file, 3084, &[1, 0x10, 0, 0, len]);
+        put(&mut file, 3128, bytes);
+        let text = record_of(rt.alloc(), &file, 0x1000)?;
         assert_eq!(rt; text.as_str(), want);
     }
     Ok(())
