@@ -155,22 +155,27 @@ fn names_that_share_bytes(rt: HostRuntime) -> Result<(), Fail> {
     Ok(())
 }
 
-#[test]
-fn a_vector_of_many_words_with_few_bits(rt: HostRuntime) -> Result<(), Fail> {
+/// A stream with 256 present words, of whose 8192 buckets the one numbered 4 and the last are
+/// present, and two deleted words with all their bits.
+fn many_words() -> [u8; 1107] {
     let mut stream = [0; 1107];
     stream[..39].copy_from_slice(&STREAM[..39]);
     stream[39] = 2;
-    // 256 present words; of their 8192 buckets, the one numbered 4 and the last are present.
     stream[48] = 1;
     stream[51] = 0x10;
     stream[1074] = 0x80;
-    // Two deleted words, with all their bits.
     stream[1075] = 2;
     stream[1079..1087].copy_from_slice(&[0xFF; 8]);
     // The pairs of the two buckets, and the closing word.
     stream[1091] = 6;
     stream[1095] = 1;
     stream[1099] = 9;
+    stream
+}
+
+#[test]
+fn a_vector_of_many_words_with_few_bits(rt: HostRuntime) -> Result<(), Fail> {
+    let stream = many_words();
     let info = Info::read(rt.alloc(), &stream)?;
     assert_eq!(rt; info.names().len(), 2);
     assert_eq!(rt;
@@ -182,14 +187,18 @@ fn a_vector_of_many_words_with_few_bits(rt: HostRuntime) -> Result<(), Fail> {
         (b"names".as_slice(), 9)
     );
     assert_eq!(rt; info.features().len(), 0);
-    // One bit more than Size says.
+    Ok(())
+}
+
+#[test]
+fn a_bit_more_than_size_says(rt: HostRuntime) {
+    let mut stream = many_words();
     stream[600] = 1;
     let fault = InfoFault::NamesCount {
         said: 2,
         present: 3,
     };
     assert_eq!(rt; fault_of(rt.alloc(), &stream), Some(fault));
-    Ok(())
 }
 
 #[test]
