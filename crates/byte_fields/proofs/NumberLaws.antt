@@ -4,7 +4,9 @@ use Rattle.std.proofs.lemmas.List.{get_or-drop, get_or-take, get_or_past, get_or
 use Rattle.std.proofs.lemmas.Bool.{cases_lt}
 use Rattle.std.proofs.lemmas.Nat.{le_bytes_4}
 use Rattle.std.specs.List.{range_with_len}
+use Rattle.std.proofs.Math.Seq.{take-append_seam}
 use Rattle.byteorder.specs.Endian.{little_number}
+use Rattle.byteorder.specs.Numbers.{little_from-take}
 use Rattle.byte_fields.specs.Number.{number_at, four_bytes, words, word}
 
 -- ---- a number in a part of a text
@@ -14,21 +16,16 @@ pub number_at-drop : (count : ℕ) (bytes : List ℕ) (offset : ℕ) → number_
 unfolding number_at
 number_at-drop count bytes offset = refl
 
--- a number of two bytes in a text that is cut off behind it
-pub number_at-take : (bytes : List ℕ) (offset len : ℕ) → 2 ≤ len → number_at 2 (take len (drop offset bytes)) 0 ≡ number_at 2 bytes offset
+-- a number in a text that is cut off behind it
+pub number_at-take : (count : ℕ) (bytes : List ℕ) (offset len : ℕ) → count ≤ len → number_at count (take len (drop offset bytes)) 0 ≡ number_at count bytes offset
 unfolding number_at
-number_at-take bytes offset len long =
-    let a : get_or (take len (drop offset bytes)) 0 0 ≡ get_or (drop offset bytes) 0 0 = get_or-take len (drop offset bytes) 0 0 (omega arith) in
-    let b : get_or (take len (drop offset bytes)) 1 0 ≡ get_or (drop offset bytes) 1 0 = get_or-take len (drop offset bytes) 1 0 (omega arith) in
-    rw (a, b) refl
+number_at-take count bytes offset len long = little_from-take 0 count len (drop offset bytes) (omega arith)
 
--- what stands behind a number of two bytes doesn't change it
-pub number_at-append : (front back : List ℕ) → 2 ≤ length front → number_at 2 (front ++ back) 0 ≡ number_at 2 front 0
+-- what stands behind a number doesn't change it
+pub number_at-append : (count : ℕ) (front back : List ℕ) → count ≤ length front → number_at count (front ++ back) 0 ≡ number_at count front 0
 unfolding number_at
-number_at-append front back long =
-    let a : get_or (front ++ back) 0 0 ≡ get_or front 0 0 = get_or_append_left front back 0 0 (omega arith) in
-    let b : get_or (front ++ back) 1 0 ≡ get_or front 1 0 = get_or_append_left front back 0 1 (omega arith) in
-    rw (a, b) refl
+number_at-append count front back long =
+    sym (little_from-take 0 count (length front) (front ++ back) (omega arith)) ∙ ap (λ (xs : List ℕ). little_number count xs) (take-append_seam front back)
 
 -- ---- texts that are made of numbers of four bytes
 

@@ -1,56 +1,26 @@
 -- Where the checks hold, the record has the places that are met.
-use Rattle.std.proofs.Common.{◌≡◌, ◌≤◌, ◌+◌, ◌-◌, ◌++◌, ℕ, zero, suc, List, [], ◌∷◌, Option, Some, None, length, map, take, drop, get_or, refl, sym, ap, arith, ◌∙◌, inl, inr, true, false, Bool}
-use Rattle.std.specs.Prelude.{nat_le}
+use Rattle.std.proofs.Common.{◌≡◌, ◌≤◌, ◌+◌, ◌-◌, ◌++◌, ℕ, zero, suc, List, [], ◌∷◌, Option, Some, None, length, map, drop, refl, sym, ap, arith, ◌∙◌, inl, inr, true, false, Bool}
 use Rattle.std.specs.List.{concat, AllByRecursion}
-use Rattle.std.proofs.lemmas.Bool.{cases_lt, leb-true}
-use Rattle.std.proofs.lemmas.List.{drop-drop, take-append-drop, length-take, length-drop, append_assoc, get_or-take}
+use Rattle.std.proofs.lemmas.Bool.{cases_lt}
+use Rattle.std.proofs.lemmas.List.{append_assoc}
 use Rattle.byte_fields.specs.Check.{first_failing}
 use Rattle.byte_fields.specs.Number.{number_at}
-use Rattle.byte_fields.proofs.CheckLaws.{check_held, first_failing-parts}
+use Rattle.byte_fields.proofs.CheckLaws.{first_failing-parts}
 use Rattle.byte_fields.proofs.NumberLaws.{number_at-take}
 use Rattle.cv_leaves.specs.Leaf.{Leaf, leaf_of}
 use Rattle.cv_leaves.specs.Field.{fits}
-use Rattle.cv_leaves.specs.Part.{points_to_member, introduces, start_of, stop_of, extent_checks, part_end, part_places, part_checks}
+use Rattle.cv_leaves.specs.Attributes.{points_to_member, introduces}
+use Rattle.cv_leaves.specs.Part.{start_of, stop_of, extent_checks, part_end, part_places, part_checks}
 use Rattle.cv_leaves.specs.Checks.{kind_of, body_of, fixed_checks, record_checks, checks_from, places_from, places_of}
 use Rattle.cv_leaves.specs.HasPlaces.{IsPart, AreParts, HasPlaces}
 use Rattle.cv_leaves.specs.declared.leaf.Rest.{Rest}
-use Rattle.cv_leaves.specs.declared.leaf.Rest.TheVariants.{Nothing, Containing, Indices, Methods}
-use Rattle.cv_leaves.specs.declared.fault.LeafFault.TheVariants.{Body}
+use Rattle.cv_leaves.specs.declared.leaf.Rest.TheVariants.{Nothing, Containing, Indices, Methods, Members}
+use Rattle.cv_leaves.proofs.TextLaws.{text_of, cut, text_len, fits_held}
+use Rattle.cv_leaves.proofs.MemberFoundLaws.{member_found}
 use Rattle.cv_leaves.proofs.PartLaws.{no_places, places_here, held_here, holds_here, part_forward}
 use Rattle.cv_leaves.proofs.RecordLaws.{has_leaf, fixed_held, extent_held, parts_held, places_split}
 
--- ---- texts
-
--- the text from `at` up to `end`
-abbrev text_of : List ℕ → ℕ → ℕ → List ℕ
-text_of body at end = take (end - at) (drop at body)
-
--- what stands from `at` on is that text and what stands from `end` on
-cut : (body : List ℕ) (at end : ℕ) → at ≤ end → drop at body ≡ text_of body at end ++ drop end body
-cut body at end le =
-    let e : at + (end - at) ≡ end = omega arith in
-    let d : drop (end - at) (drop at body) ≡ drop end body = drop-drop (end - at) at body ∙ ap (λ (n : ℕ). drop n body) e in
-    sym (take-append-drop (end - at) (drop at body)) ∙ ap (λ (xs : List ℕ). text_of body at end ++ xs) d
-
--- its length, within the body
-text_len : (body : List ℕ) (at end : ℕ) → at ≤ end → end ≤ length body → length (text_of body at end) ≡ end - at
-text_len body at end le inside = omega (arith, length-take (end - at) (drop at body), length-drop at body)
-
--- a number of four bytes in a text that is cut off behind it
-number_of_text : (body : List ℕ) (at len : ℕ) → 4 ≤ len → number_at 4 (take len (drop at body)) 0 ≡ number_at 4 body at
-unfolding number_at
-number_of_text body at len long =
-    let a : get_or (take len (drop at body)) 0 0 ≡ get_or (drop at body) 0 0 = get_or-take len (drop at body) 0 0 (omega arith) in
-    let b : get_or (take len (drop at body)) 1 0 ≡ get_or (drop at body) 1 0 = get_or-take len (drop at body) 1 0 (omega arith) in
-    let c : get_or (take len (drop at body)) 2 0 ≡ get_or (drop at body) 2 0 = get_or-take len (drop at body) 2 0 (omega arith) in
-    let d : get_or (take len (drop at body)) 3 0 ≡ get_or (drop at body) 3 0 = get_or-take len (drop at body) 3 0 (omega arith) in
-    rw (a, b, c, d) refl
-
 -- ---- one part
-
--- a field whose check holds lies within the body
-fits_held : (body : List ℕ) (at len : ℕ) → first_failing (fits body at len) ≡ None → at + len ≤ length body
-fits_held body at len held = leb-true (at + len) (length body) (check_held (nat_le (at + len) (length body)) (Body at) held)
 
 -- what is met at `at` is a part, which ends within the body
 abbrev IsFound : Rest → List ℕ → ℕ → Type 0
@@ -63,12 +33,12 @@ unfolding part_checks part_end part_places
 containing_found body at true e held =
     let all = first_failing-parts (fits body at 4) (fits body (at + 4) 4) (rw e at held) in
     let inside : at + 8 ≤ length body = omega (arith, fits_held body (at + 4) 4 all.1) in
-    let n = number_of_text body at (at + 8 - at) (omega arith) in
+    let n = number_at-take 4 body at (at + 8 - at) (omega arith) in
     rw e (inside, (4 ∷ [], rw (n, e) (omega (arith, text_len body at (at + 8) (omega arith) inside), refl), refl))
 containing_found body at false e held =
     let all = first_failing-parts (fits body at 4) [] (rw e at held) in
     let inside : at + 4 ≤ length body = omega (arith, fits_held body at 4 all.0) in
-    let n = number_of_text body at (at + 4 - at) (omega arith) in
+    let n = number_at-take 4 body at (at + 4 - at) (omega arith) in
     rw e (inside, ([], rw (n, e) (omega (arith, text_len body at (at + 4) (omega arith) inside), refl), refl))
 
 -- an entry of a method list, by whether it introduces a virtual
@@ -78,13 +48,13 @@ entry_found body at true e held =
     let all = first_failing-parts (fits body at 2) (fits body (at + 4) 4 ++ fits body (at + 8) 4) (rw e at held) in
     let back = first_failing-parts (fits body (at + 4) 4) (fits body (at + 8) 4) all.1 in
     let inside : at + 12 ≤ length body = omega (arith, fits_held body (at + 8) 4 back.1) in
-    let n = number_at-take body at (at + 12 - at) (omega arith) in
+    let n = number_at-take 2 body at (at + 12 - at) (omega arith) in
     rw e (inside, (4 ∷ [], rw (n, e) (omega (arith, text_len body at (at + 12) (omega arith) inside), refl), refl))
 entry_found body at false e held =
     let all = first_failing-parts (fits body at 2) (fits body (at + 4) 4 ++ []) (rw e at held) in
     let back = first_failing-parts (fits body (at + 4) 4) [] all.1 in
     let inside : at + 8 ≤ length body = omega (arith, fits_held body (at + 4) 4 back.0) in
-    let n = number_at-take body at (at + 8 - at) (omega arith) in
+    let n = number_at-take 2 body at (at + 8 - at) (omega arith) in
     rw e (inside, (4 ∷ [], rw (n, e) (omega (arith, text_len body at (at + 8) (omega arith) inside), refl), refl))
 
 -- an index
@@ -100,12 +70,18 @@ nothing_found : (body : List ℕ) (at : ℕ) → first_failing (part_checks Noth
 unfolding part_checks
 nothing_found body at held = absurd cc
 
+-- a member of a field list
+members_found : (body : List ℕ) (at : ℕ) → first_failing (part_checks Members body at) ≡ None → IsFound Members body at
+unfolding part_checks part_end part_places
+members_found body at held = member_found body at held
+
 -- a part whose checks hold is a part
 part_found : (rest : Rest) (body : List ℕ) (at : ℕ) → first_failing (part_checks rest body at) ≡ None → IsFound rest body at
 part_found Nothing body at held = nothing_found body at held
 part_found Containing body at held = containing_found body at (points_to_member (number_at 4 body at)) refl held
 part_found Indices body at held = index_found body at held
 part_found Methods body at held = entry_found body at (introduces (number_at 2 body at)) refl held
+part_found Members body at held = members_found body at held
 
 -- ---- all parts
 
@@ -142,6 +118,7 @@ starts_found Containing body extent held =
     omega (arith, part.0, forward)
 starts_found Indices body extent held = fits_held body 0 4 extent
 starts_found Methods body extent held = omega arith
+starts_found Members body extent held = omega arith
 
 -- ---- the record
 

@@ -1,49 +1,24 @@
 -- Where a record has places, its checks hold, and these are the places that are met.
-use Rattle.std.proofs.Common.{◌≡◌, ◌<◌, ◌≤◌, ◌+◌, ◌++◌, ℕ, List, [], ◌∷◌, Some, None, length, map, drop, get_or, refl, sym, ap, arith, ◌∙◌, true, false, Bool}
+use Rattle.std.proofs.Common.{◌≡◌, ◌≤◌, ◌+◌, ◌++◌, ℕ, List, [], ◌∷◌, Some, None, length, map, drop, refl, sym, ap, arith, ◌∙◌, inl, true, false, Bool}
 use Rattle.std.specs.List.{concat, AllByRecursion}
-use Rattle.std.proofs.lemmas.Bool.{le-leb}
-use Rattle.std.proofs.lemmas.List.{drop-drop, drop_at, length-append, length-drop, append_assoc, get_or_append_left}
+use Rattle.std.proofs.lemmas.List.{length-append, length-drop, append_assoc}
 use Rattle.byte_fields.specs.Check.{first_failing}
 use Rattle.byte_fields.specs.Number.{number_at}
 use Rattle.byte_fields.proofs.CheckLaws.{first_failing-append_none}
-use Rattle.byte_fields.proofs.NumberLaws.{number_at-append, number_at-drop}
 use Rattle.cv_leaves.specs.Field.{fits}
-use Rattle.cv_leaves.specs.Part.{points_to_member, introduces, start_of, stop_of, extent_checks, part_end, part_places, part_checks}
+use Rattle.cv_leaves.specs.Attributes.{points_to_member, introduces}
+use Rattle.cv_leaves.specs.Part.{start_of, stop_of, extent_checks, part_end, part_places, part_checks}
 use Rattle.cv_leaves.specs.Checks.{body_of, fixed_checks, rest_checks, record_checks, checks_from, places_from, places_of}
 use Rattle.cv_leaves.specs.HasPlaces.{IsPart, AreParts, HasParts, HasPlaces, IsChecked}
 use Rattle.cv_leaves.specs.declared.leaf.Rest.{Rest}
-use Rattle.cv_leaves.specs.declared.leaf.Rest.TheVariants.{Nothing, Containing, Indices, Methods}
+use Rattle.cv_leaves.specs.declared.leaf.Rest.TheVariants.{Nothing, Containing, Indices, Methods, Members}
 use Rattle.cv_leaves.specs.declared.fault.LeafFault.{LeafFault}
+use Rattle.cv_leaves.proofs.TextLaws.{text_inside, text_behind, number_of_text, no_bytes, fits_holds}
+use Rattle.cv_leaves.proofs.MemberHoldLaws.{Unpadded, unpadded, member_holds}
 use Rattle.cv_leaves.proofs.PartLaws.{no_checks, no_places, places_here, held_here}
 use Rattle.cv_leaves.proofs.RecordLaws.{checks_of_leaf, places_split}
 
 -- ---- one part
-
--- the check of a field that lies within the body holds
-fits_holds : (body : List ℕ) (at len : ℕ) → at + len ≤ length body → first_failing (fits body at len) ≡ None
-fits_holds body at len inside = rw (le-leb (at + len) (length body) inside) refl
-
--- a text that is met lies within the body
-text_inside : (body : List ℕ) (at : ℕ) (t back : List ℕ) → drop at body ≡ t ++ back → 0 < length t → at + length t ≤ length body
-text_inside body at t back is some = omega (arith, length-drop at body, ap length is, length-append t back)
-
--- its first number of two bytes is that of the body
-two_of_text : (body : List ℕ) (at : ℕ) (t back : List ℕ) → drop at body ≡ t ++ back → 2 ≤ length t → number_at 2 body at ≡ number_at 2 t 0
-two_of_text body at t back is long = sym (number_at-drop 2 body at) ∙ ap (λ (x : List ℕ). number_at 2 x 0) is ∙ number_at-append t back long
-
--- what stands behind a number of four bytes doesn't change it
-four-append : (t back : List ℕ) → 4 ≤ length t → number_at 4 (t ++ back) 0 ≡ number_at 4 t 0
-unfolding number_at
-four-append t back long =
-    let a : get_or (t ++ back) 0 0 ≡ get_or t 0 0 = get_or_append_left t back 0 0 (omega arith) in
-    let b : get_or (t ++ back) 1 0 ≡ get_or t 1 0 = get_or_append_left t back 0 1 (omega arith) in
-    let c : get_or (t ++ back) 2 0 ≡ get_or t 2 0 = get_or_append_left t back 0 2 (omega arith) in
-    let d : get_or (t ++ back) 3 0 ≡ get_or t 3 0 = get_or_append_left t back 0 3 (omega arith) in
-    rw (a, b, c, d) refl
-
--- its first number of four bytes is that of the body
-four_of_text : (body : List ℕ) (at : ℕ) (t back : List ℕ) → drop at body ≡ t ++ back → 4 ≤ length t → number_at 4 body at ≡ number_at 4 t 0
-four_of_text body at t back is long = sym (number_at-drop 4 body at) ∙ ap (λ (x : List ℕ). number_at 4 x 0) is ∙ four-append t back long
 
 -- the part at `at` passes its checks, is so long, and has these places
 abbrev Holds : Rest → List ℕ → ℕ → ℕ → List ℕ → Type 0
@@ -56,13 +31,13 @@ unfolding part_checks part_end part_places
 containing_holds body at t back here true e is part =
     let p : (length t ≡ 8) × (here ≡ 4 ∷ []) = rw e at part in
     let inside = text_inside body at t back is (omega (arith, p.0)) in
-    let n : points_to_member (number_at 4 body at) ≡ true = ap points_to_member (four_of_text body at t back is (omega (arith, p.0))) ∙ e in
+    let n : points_to_member (number_at 4 body at) ≡ true = ap points_to_member (number_of_text 4 body at t back is (omega (arith, p.0))) ∙ e in
     rw (n, p.0, p.1)
     (first_failing-append_none (fits body at 4) (fits body (at + 4) 4) (fits_holds body at 4 (omega (arith, p.0))) ∙ fits_holds body (at + 4) 4 (omega (arith, p.0)), refl, refl)
 containing_holds body at t back here false e is part =
     let p : (length t ≡ 4) × (here ≡ []) = rw e at part in
     let inside = text_inside body at t back is (omega (arith, p.0)) in
-    let n : points_to_member (number_at 4 body at) ≡ false = ap points_to_member (four_of_text body at t back is (omega (arith, p.0))) ∙ e in
+    let n : points_to_member (number_at 4 body at) ≡ false = ap points_to_member (number_of_text 4 body at t back is (omega (arith, p.0))) ∙ e in
     rw (n, p.0, p.1)
     (first_failing-append_none (fits body at 4) [] (fits_holds body at 4 (omega (arith, p.0))), refl, refl)
 
@@ -72,7 +47,7 @@ unfolding part_checks part_end part_places
 entry_holds body at t back here true e is part =
     let p : (length t ≡ 12) × (here ≡ 4 ∷ []) = rw e at part in
     let inside = text_inside body at t back is (omega (arith, p.0)) in
-    let n : introduces (number_at 2 body at) ≡ true = ap introduces (two_of_text body at t back is (omega (arith, p.0))) ∙ e in
+    let n : introduces (number_at 2 body at) ≡ true = ap introduces (number_of_text 2 body at t back is (omega (arith, p.0))) ∙ e in
     rw (n, p.0, p.1) (
       first_failing-append_none (fits body at 2) (fits body (at + 4) 4 ++ fits body (at + 8) 4) (fits_holds body at 2 (omega (arith, p.0)))
           ∙ first_failing-append_none (fits body (at + 4) 4) (fits body (at + 8) 4) (fits_holds body (at + 4) 4 (omega (arith, p.0)))
@@ -83,7 +58,7 @@ entry_holds body at t back here true e is part =
 entry_holds body at t back here false e is part =
     let p : (length t ≡ 8) × (here ≡ 4 ∷ []) = rw e at part in
     let inside = text_inside body at t back is (omega (arith, p.0)) in
-    let n : introduces (number_at 2 body at) ≡ false = ap introduces (two_of_text body at t back is (omega (arith, p.0))) ∙ e in
+    let n : introduces (number_at 2 body at) ≡ false = ap introduces (number_of_text 2 body at t back is (omega (arith, p.0))) ∙ e in
     rw (n, p.0, p.1) (
       first_failing-append_none (fits body at 2) (fits body (at + 4) 4 ++ []) (fits_holds body at 2 (omega (arith, p.0)))
           ∙ first_failing-append_none (fits body (at + 4) 4) [] (fits_holds body (at + 4) 4 (omega (arith, p.0))),
@@ -99,27 +74,67 @@ index_holds body at t back here is part =
     let zero_more : at + 0 ≡ at = omega arith in
     rw (part.0, part.1, zero_more) (fits_holds body at 4 (omega (arith, part.0)), refl, refl)
 
+-- a member of a field list, behind which no padding begins
+members_hold : (body : List ℕ) (at : ℕ) (t back here : List ℕ) → drop at body ≡ t ++ back → Unpadded back → IsPart Members t here → Holds Members body at (length t) here
+unfolding part_checks part_end part_places
+members_hold body at t back here is unpadded part = member_holds body at t back here is unpadded part
+
+-- what may stand behind a part: anything, but no padding behind a member, to which it would belong
+abbrev Follows : Rest → List ℕ → Type 0
+Follows Members back = Unpadded back
+Follows _ back = Unit {0}
+
 -- what is a part passes its checks
-part_holds : (rest : Rest) (body : List ℕ) (at : ℕ) (t back here : List ℕ) → drop at body ≡ t ++ back → IsPart rest t here → Holds rest body at (length t) here
-part_holds Nothing body at t back here is part = absurd part
-part_holds Containing body at t back here is part = containing_holds body at t back here (points_to_member (number_at 4 t 0)) refl is part
-part_holds Indices body at t back here is part = index_holds body at t back here is part
-part_holds Methods body at t back here is part = entry_holds body at t back here (introduces (number_at 2 t 0)) refl is part
+part_holds : (rest : Rest) (body : List ℕ) (at : ℕ) (t back here : List ℕ) → drop at body ≡ t ++ back → Follows rest back → IsPart rest t here → Holds rest body at (length t) here
+part_holds Nothing body at t back here is follows part = absurd part
+part_holds Containing body at t back here is follows part = containing_holds body at t back here (points_to_member (number_at 4 t 0)) refl is part
+part_holds Indices body at t back here is follows part = index_holds body at t back here is part
+part_holds Methods body at t back here is follows part = entry_holds body at t back here (introduces (number_at 2 t 0)) refl is part
+part_holds Members body at t back here is follows part = members_hold body at t back here is follows part
 
 -- ---- all parts
 
+-- how far parts reach: members, to the end of the body
+abbrev Reaches : Rest → List ℕ → ℕ → Type 0
+Reaches Members body stop = length body ≤ stop
+Reaches _ body stop = Unit {0}
+
+-- the parts of a leaf reach so far
+stop_reaches : (rest : Rest) (body : List ℕ) → Reaches rest body (stop_of rest body)
+stop_reaches Members body = omega arith
+stop_reaches Nothing body = tt
+stop_reaches Containing body = tt
+stop_reaches Indices body = tt
+stop_reaches Methods body = tt
+
+-- behind a member stands the next one, or nothing
+member_follows : (body : List ℕ) (stop at : ℕ) (t : List ℕ) (ts : List (List ℕ)) (back others : List ℕ) → drop at body ≡ t ++ (concat ts ++ back) → length body ≤ stop → AreParts Members stop (at + length t) ts others → Unpadded (concat ts ++ back)
+member_follows body stop at t [] back others is reaches parts =
+    let none : length back ≤ 0 = omega (arith, reaches, parts.0, length-drop at body, ap length is, length-append t back) in
+    rw (no_bytes back none) (inl (omega arith))
+member_follows body stop at t (u ∷ us) back others is reaches parts =
+    rw (append_assoc u (concat us) back) (unpadded u parts.1.0 (concat us ++ back) parts.1.2)
+
+-- what stands behind a part may
+part_follows : (rest : Rest) (body : List ℕ) (stop at : ℕ) (t : List ℕ) (ts : List (List ℕ)) (back others : List ℕ) → drop at body ≡ t ++ (concat ts ++ back) → Reaches rest body stop → AreParts rest stop (at + length t) ts others
+    → Follows rest (concat ts ++ back)
+part_follows Members body stop at t ts back others is reaches parts = member_follows body stop at t ts back others is reaches parts
+part_follows Nothing body stop at t ts back others is reaches parts = tt
+part_follows Containing body stop at t ts back others is reaches parts = tt
+part_follows Indices body stop at t ts back others is reaches parts = tt
+part_follows Methods body stop at t ts back others is reaches parts = tt
+
 -- parts pass their checks, and their places are those that are met
-parts_hold : (rest : Rest) (body : List ℕ) (stop at : ℕ) (texts : List (List ℕ)) (back places : List ℕ) → drop at body ≡ concat texts ++ back → AreParts rest stop at texts places
+parts_hold : (rest : Rest) (body : List ℕ) (stop at : ℕ) (texts : List (List ℕ)) (back places : List ℕ) → drop at body ≡ concat texts ++ back → Reaches rest body stop → AreParts rest stop at texts places
     → (first_failing (checks_from rest body stop at) ≡ None) × (places ≡ places_from rest body stop at)
-parts_hold rest body stop at [] back places is parts = (no_checks rest body stop at parts.0, parts.1 ∙ sym (no_places rest body stop at parts.0))
-parts_hold rest body stop at (t ∷ ts) back places is parts =
+parts_hold rest body stop at [] back places is reaches parts = (no_checks rest body stop at parts.0, parts.1 ∙ sym (no_places rest body stop at parts.0))
+parts_hold rest body stop at (t ∷ ts) back places is reaches parts =
     let here = parts.1.0 in
     let others = parts.1.1 in
     let all : drop at body ≡ t ++ (concat ts ++ back) = is ∙ append_assoc t (concat ts) back in
-    let holds = part_holds rest body at t (concat ts ++ back) here all parts.1.2 in
-    let next : drop (at + length t) body ≡ concat ts ++ back =
-    sym (drop-drop (length t) at body) ∙ ap (λ (x : List ℕ). drop (length t) x) all ∙ drop_at t (concat ts ++ back) (length t) refl in
-    let later = parts_hold rest body stop (at + length t) ts back others next parts.1.3 in (
+    let holds = part_holds rest body at t (concat ts ++ back) here all (part_follows rest body stop at t ts back others all reaches parts.1.3) parts.1.2 in
+    let next : drop (at + length t) body ≡ concat ts ++ back = text_behind body at (at + length t) t (concat ts ++ back) all refl in
+    let later = parts_hold rest body stop (at + length t) ts back others next reaches parts.1.3 in (
       held_here rest body stop at parts.0 holds.0 ∙ ap (λ (k : ℕ). first_failing (checks_from rest body stop k)) holds.1 ∙ later.0,
       rw (places_here rest body stop at parts.0, holds.1, holds.2, ← later.1) parts.1.4,
     )
@@ -139,13 +154,14 @@ extent_holds Nothing body starts = refl
 extent_holds Containing body starts = refl
 extent_holds Indices body starts = fits_holds body 0 4 starts
 extent_holds Methods body starts = refl
+extent_holds Members body starts = refl
 
 -- and so does all that follows the fixed places
 rest_holds : (rest : Rest) (body places : List ℕ) → HasParts rest body places → first_failing (rest_checks rest body) ≡ None
 unfolding rest_checks
 rest_holds rest body places has =
     first_failing-append_none (extent_checks rest body) (checks_from rest body (stop_of rest body) (start_of rest)) (extent_holds rest body has.starts)
-    ∙ (parts_hold rest body (stop_of rest body) (start_of rest) has.texts has.back places has.parts has.parts_are).0
+    ∙ (parts_hold rest body (stop_of rest body) (start_of rest) has.texts has.back places has.parts (stop_reaches rest body) has.parts_are).0
 
 -- a record that has these places passes its checks
 has_holds : (r places : List ℕ) → HasPlaces r places → first_failing (record_checks r) ≡ None
@@ -166,7 +182,7 @@ not_refused r places fault has fails = let holds = has_holds r places has in cc
 pub places_met : (r places : List ℕ) → HasPlaces r places → places ≡ places_of r
 places_met r places has =
     has.places_are
-    ∙ ap (λ (xs : List ℕ). has.leaf.places ++ xs) (parts_hold has.leaf.rest (body_of r) (stop_of has.leaf.rest (body_of r)) (start_of has.leaf.rest) has.rest.texts has.rest.back has.others has.rest.parts has.rest.parts_are).1
+    ∙ ap (λ (xs : List ℕ). has.leaf.places ++ xs) (parts_hold has.leaf.rest (body_of r) (stop_of has.leaf.rest (body_of r)) (start_of has.leaf.rest) has.rest.texts has.rest.back has.others has.rest.parts (stop_reaches has.leaf.rest (body_of r)) has.rest.parts_are).1
     ∙ sym (places_split r has.leaf (sym has.kind))
 
 -- a record has one list of places

@@ -1,16 +1,18 @@
 -- A number that is written at a place of a record leaves its places as they are.
-use Rattle.std.proofs.Common.{◌≡◌, ◌<◌, ◌^◌, ◌≤◌, ◌+◌, ◌-◌, ◌*◌, ◌++◌, ℕ, List, [], ◌∷◌, length, map, take, drop, refl, sym, ap, subst, arith, ◌∙◌, inl, inr, true, false, Bool}
+use Rattle.std.proofs.Common.{◌≡◌, ◌<◌, ◌^◌, ◌≤◌, ◌+◌, ◌-◌, ◌*◌, ◌++◌, ℕ, zero, suc, List, [], ◌∷◌, length, map, take, drop, refl, sym, ap, subst, arith, ◌∙◌, inl, inr, true, false, Bool}
 use Rattle.std.specs.Prelude.{◌⊎◌}
 use Rattle.std.specs.List.{concat, AllByRecursion}
 use Rattle.std.proofs.lemmas.List.{length-append, length-take, length-drop, take-append-drop, drop_at}
 use Rattle.byte_fields.specs.Number.{number_at}
 use Rattle.cv_leaves.specs.Leaf.{leaf_of}
-use Rattle.cv_leaves.specs.Part.{points_to_member, introduces, start_of, stop_of}
+use Rattle.cv_leaves.specs.Attributes.{points_to_member, introduces}
+use Rattle.cv_leaves.specs.Part.{start_of, stop_of}
 use Rattle.cv_leaves.specs.Checks.{kind_of, body_of}
 use Rattle.cv_leaves.specs.Blank.{put_four}
 use Rattle.cv_leaves.specs.HasPlaces.{IsPart, AreParts, HasParts, HasPlaces, IsPlace}
 use Rattle.cv_leaves.specs.declared.leaf.Rest.{Rest}
-use Rattle.cv_leaves.specs.declared.leaf.Rest.TheVariants.{Nothing, Containing, Indices, Methods}
+use Rattle.cv_leaves.specs.declared.leaf.Rest.TheVariants.{Nothing, Containing, Indices, Methods, Members}
+use Rattle.cv_leaves.proofs.MemberLaws.{member_long}
 use Rattle.cv_leaves.proofs.HoldLaws.{one_places}
 use Rattle.cv_leaves.proofs.PutLaws.{body_read, put_len, two_before, four_before, kind_before, put_front, put_back}
 use Rattle.cv_leaves.proofs.PlaceLaws.{Among, among, among_inside, fixed_end, fixed_apart, nothing_follows, places_apart}
@@ -57,12 +59,63 @@ index_keeps t here p n part in_here =
     let inside : p + 4 ≤ length t = omega (arith, part.0) in
     (inside, (put_len t p n inside ∙ part.0, part.1))
 
+-- what is among no places
+nowhere : (i p : ℕ) → Among p (take i []) → ⊥
+nowhere zero p in_none = in_none
+nowhere (suc i) p in_none = in_none
+
+-- where the indices of a member stand
+index_place : (i p : ℕ) → Among p (take i (4 ∷ 8 ∷ [])) → (4 ≤ p) × (p ≤ 4 * i)
+index_place zero p in_here = absurd in_here
+index_place (suc zero) p (inl e) = (omega (arith, e), omega (arith, e))
+index_place (suc zero) p (inr in_here) = absurd in_here
+index_place (suc (suc i)) p (inl e) = (omega (arith, e), omega (arith, e))
+index_place (suc (suc i)) p (inr (inl e)) = (omega (arith, e), omega (arith, e))
+index_place (suc (suc i)) p (inr (inr in_here)) = absurd (nowhere i p in_here)
+
+-- a member of a field list: nothing of its indices is looked at
+member_keeps : PartKeeps Members
+member_keeps t here p n part in_here =
+    let tail = part.virtual ++ (part.numerics ++ (part.name ++ part.padding)) in
+    let place = index_place part.member.indices p (rw part.places_are at in_here) in
+    let inside : p + 4 ≤ length t = omega (arith, place.1, member_long t here part) in
+    let at : p ≡ length part.front + (p - 4) = omega (arith, place.0, part.front_long) in
+    let near : p - 4 + 4 ≤ length part.indices = omega (arith, place.0, place.1, part.indices_long) in
+    let bytes : put_four t p n ≡ part.front ++ (put_four part.indices (p - 4) n ++ tail) =
+    ap (λ (x : List ℕ). put_four x p n) part.parts
+    ∙ ap (λ (k : ℕ). put_four (part.front ++ (part.indices ++ tail)) k n) at
+    ∙ put_back part.front (part.indices ++ tail) (p - 4) n
+    ∙ ap (λ (x : List ℕ). part.front ++ x) (put_front part.indices tail (p - 4) n near) in
+    let kind = two_before t p n (omega (arith, place.0)) (omega (arith, inside)) in
+    let attributes = kind_before t p n place.0 (omega (arith, inside)) in (
+      inside,
+      record {
+        member = part.member;
+        kind = rw kind part.kind;
+        front = part.front;
+        indices = put_four part.indices (p - 4) n;
+        virtual = part.virtual;
+        numerics = part.numerics;
+        name = part.name;
+        padding = part.padding;
+        parts = bytes;
+        front_long = part.front_long;
+        indices_long = put_len part.indices (p - 4) n near ∙ part.indices_long;
+        virtual_long = rw attributes part.virtual_long;
+        numerics_are = part.numerics_are;
+        name_is = part.name_is;
+        padding_is = part.padding_is;
+        places_are = part.places_are;
+      },
+    )
+
 -- it does so for each kind of part
 part_keeps : (rest : Rest) → PartKeeps rest
 part_keeps Nothing t here p n part in_here = absurd part
 part_keeps Containing t here p n part in_here = containing_keeps t here p n (points_to_member (number_at 4 t 0)) refl part in_here
 part_keeps Indices t here p n part in_here = index_keeps t here p n part in_here
 part_keeps Methods t here p n part in_here = entry_keeps t here p n (introduces (number_at 2 t 0)) refl part in_here
+part_keeps Members t here p n part in_here = member_keeps t here p n part in_here
 
 -- ---- all parts
 
@@ -144,6 +197,7 @@ stop_kept Nothing body p n behind inside = refl
 stop_kept Containing body p n behind inside = refl
 stop_kept Indices body p n behind inside = ap (λ (k : ℕ). 4 + 4 * k) (four_before body p n behind (omega (arith, inside)))
 stop_kept Methods body p n behind inside = put_len body p n inside
+stop_kept Members body p n behind inside = put_len body p n inside
 
 -- written at a place of the parts
 parts_kept : (rest : Rest) (body places : List ℕ) (p n : ℕ) → p + 4 ≤ length body → Among p places → HasParts rest body places → HasParts rest (put_four body p n) places
@@ -178,6 +232,7 @@ fixed_kept Containing body places p n inside fixed has = record {
 }
 fixed_kept Indices body places p n inside fixed has = absurd (omega (arith, fixed))
 fixed_kept Methods body places p n inside fixed has = absurd (omega (arith, fixed))
+fixed_kept Members body places p n inside fixed has = absurd (omega (arith, fixed))
 
 -- ---- the record
 

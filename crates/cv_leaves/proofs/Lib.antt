@@ -1,6 +1,12 @@
+pub mod TestLaws
+pub mod TextLaws
+pub mod MemberLaws
+pub mod MemberFoundLaws
+pub mod MemberHoldLaws
 pub mod PartLaws
 pub mod RecordLaws
 pub mod NameLaws
+pub mod NumericLaws
 pub mod PutLaws
 pub mod FoundLaws
 pub mod HoldLaws

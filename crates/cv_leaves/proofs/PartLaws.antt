@@ -5,10 +5,12 @@ use Rattle.byte_fields.specs.Check.{Check, first_failing}
 use Rattle.byte_fields.proofs.CheckLaws.{first_failing-append_none, first_failing-append_some, first_failing-parts}
 use Rattle.byte_fields.specs.Number.{number_at}
 use Rattle.cv_leaves.specs.Walk.{collect, each_part}
-use Rattle.cv_leaves.specs.Part.{points_to_member, introduces, part_end, part_checks, part_places}
+use Rattle.cv_leaves.specs.Attributes.{points_to_member, introduces}
+use Rattle.cv_leaves.specs.Part.{part_end, part_checks, part_places}
 use Rattle.cv_leaves.specs.Checks.{checks_from, places_from}
+use Rattle.cv_leaves.proofs.MemberLaws.{member_forward}
 use Rattle.cv_leaves.specs.declared.leaf.Rest.{Rest}
-use Rattle.cv_leaves.specs.declared.leaf.Rest.TheVariants.{Nothing, Containing, Indices, Methods}
+use Rattle.cv_leaves.specs.declared.leaf.Rest.TheVariants.{Nothing, Containing, Indices, Methods, Members}
 use Rattle.cv_leaves.specs.declared.fault.LeafFault.{LeafFault}
 
 -- ---- parts of any kind
@@ -66,6 +68,7 @@ part_forward Nothing body at = omega arith
 part_forward Containing body at = either_forward (points_to_member (number_at 4 body at)) at 8 4 (omega arith) (omega arith)
 part_forward Indices body at = omega arith
 part_forward Methods body at = either_forward (introduces (number_at 2 body at)) at 12 8 (omega arith) (omega arith)
+part_forward Members body at = member_forward body at
 
 -- there is nothing to check where the parts have reached their stop
 pub no_checks : (rest : Rest) (body : List ℕ) (stop at : ℕ) → stop ≤ at → first_failing (checks_from rest body stop at) ≡ None

@@ -1,15 +1,19 @@
 -- The places of a record rise, are four bytes apart, and lie within its body.
-use Rattle.std.proofs.Common.{◌≡◌, ◌∙◌, ◌<◌, ◌≤◌, ◌+◌, ◌++◌, ℕ, zero, suc, List, [], ◌∷◌, Option, Some, length, map, get_or, cond, refl, sym, ap, arith, inl, inr, true, false, Bool}
-use Rattle.std.specs.Prelude.{◌⊎◌, ◌&&◌, ◌==◌, nat_le}
+use Rattle.std.proofs.Common.{◌≡◌, ◌∙◌, ◌<◌, ◌≤◌, ◌+◌, ◌++◌, ℕ, zero, suc, List, [], ◌∷◌, Some, length, map, get_or, refl, sym, ap, arith, inl, inr, true, false, Bool}
+use Rattle.std.specs.Prelude.{◌⊎◌, ◌&&◌, nat_le}
 use Rattle.std.specs.List.{concat, AllByRecursion, Contains}
 use Rattle.std.proofs.lemmas.Bool.{leb-true}
 use Rattle.std.proofs.lemmas.List.{append-nil, length-append, length-drop}
-use Rattle.cv_leaves.specs.Leaf.{Leaf, Row, leaves, find, leaf_of}
-use Rattle.cv_leaves.specs.Part.{points_to_member, introduces, start_of, stop_of}
+use Rattle.cv_leaves.specs.Leaf.{Leaf, leaves, leaf_of}
+use Rattle.cv_leaves.proofs.TestLaws.{and_both, found_passes}
+use Rattle.cv_leaves.proofs.TextLaws.{no_bytes}
+use Rattle.cv_leaves.proofs.MemberLaws.{member_apart}
+use Rattle.cv_leaves.specs.Attributes.{points_to_member, introduces}
+use Rattle.cv_leaves.specs.Part.{start_of, stop_of}
 use Rattle.cv_leaves.specs.Checks.{kind_of, body_of}
 use Rattle.cv_leaves.specs.HasPlaces.{IsPart, AreParts, HasParts, HasPlaces, Apart}
 use Rattle.cv_leaves.specs.declared.leaf.Rest.{Rest}
-use Rattle.cv_leaves.specs.declared.leaf.Rest.TheVariants.{Nothing, Containing, Indices, Methods}
+use Rattle.cv_leaves.specs.declared.leaf.Rest.TheVariants.{Nothing, Containing, Indices, Methods, Members}
 use Rattle.byte_fields.specs.Number.{number_at}
 
 -- ---- lists of places
@@ -70,16 +74,12 @@ fixed_end Nothing = 20
 fixed_end Containing = 4
 fixed_end Indices = 0
 fixed_end Methods = 0
+fixed_end Members = 0
 
 -- the test of that
 abbrev are_apart : ℕ → List ℕ → ℕ → Bool
 are_apart from [] end = nat_le from end
 are_apart from (p ∷ ps) end = nat_le from p && are_apart (p + 4) ps end
-
--- where both hold, each holds
-and_both : (a b : Bool) → (a && b) ≡ true → (a ≡ true) × (b ≡ true)
-and_both true b e = (refl, e)
-and_both false b e = absurd cc
 
 -- places that pass the test are apart
 apart_told : (from : ℕ) (ps : List ℕ) (end : ℕ) → are_apart from ps end ≡ true → Apart from ps end
@@ -88,27 +88,10 @@ apart_told from (p ∷ ps) end e =
     let both = and_both (nat_le from p) (are_apart (p + 4) ps end) e in
     (leb-true from p both.0, apart_told (p + 4) ps end both.1)
 
--- each row of a table passes a test
-abbrev each_row : (Leaf → Bool) → List Row → Bool
-each_row test [] = true
-each_row test (r ∷ rs) = test r.leaf && each_row test rs
-
--- the row that is found is the first one or one of the others
-found_first : (test : Leaf → Bool) (b : Bool) (l : Leaf) (others : Option Leaf) (found : Leaf) → test l ≡ true → (others ≡ Some found → test found ≡ true) → cond b (Some l) others ≡ Some found → test found ≡ true
-found_first test true l others found here later is = let same : l ≡ found = cc in rw (← same) here
-found_first test false l others found here later is = later is
-
--- so the row that is found does
-found_passes : (test : Leaf → Bool) (rows : List Row) (kind : ℕ) (found : Leaf) → each_row test rows ≡ true → find rows kind ≡ Some found → test found ≡ true
-found_passes test [] kind found each is = absurd cc
-found_passes test (r ∷ rs) kind found each is =
-    let both = and_both (test r.leaf) (each_row test rs) each in
-    found_first test (kind == r.kind) r.leaf (find rs kind) found both.0 (λ later. found_passes test rs kind found both.1 later) is
-
 -- the fixed places of a leaf of the table rise, and end before what follows them
 pub fixed_apart : (kind : ℕ) (l : Leaf) → leaf_of kind ≡ Some l → Apart 0 l.places (fixed_end l.rest)
 unfolding leaf_of
-fixed_apart kind l is = apart_told 0 l.places (fixed_end l.rest) (found_passes (λ l. are_apart 0 l.places (fixed_end l.rest)) leaves kind l refl is)
+fixed_apart kind l is = apart_told 0 l.places (fixed_end l.rest) (found_passes (λ k l. are_apart 0 l.places (fixed_end l.rest)) leaves kind l refl is)
 
 -- ---- parts
 
@@ -120,6 +103,7 @@ part_apart_by false c Containing t here e f part = let p : (length t ≡ 4) × (
 part_apart_by b c Indices t here e f part = rw (part.0, part.1) (omega arith, omega arith)
 part_apart_by b true Methods t here e f part = let p : (length t ≡ 12) × (here ≡ 4 ∷ []) = rw f at part in rw (p.0, p.1) (omega arith, omega arith)
 part_apart_by b false Methods t here e f part = let p : (length t ≡ 8) × (here ≡ 4 ∷ []) = rw f at part in rw (p.0, p.1) (omega arith, omega arith)
+part_apart_by b c Members t here e f part = member_apart t here part
 
 -- the places of a part lie in its text
 pub part_apart : (rest : Rest) (t here : List ℕ) → IsPart rest t here → Apart 0 here (length t)
@@ -159,12 +143,13 @@ record_apart Nothing body fixed others apart each has =
 record_apart Containing body fixed others apart each has = apart_append 0 fixed 4 others (length body) apart (rest_apart Containing body others has)
 record_apart Indices body fixed others apart each has = apart_append 0 fixed 4 others (length body) (apart_longer 0 fixed 0 4 apart (omega arith)) (rest_apart Indices body others has)
 record_apart Methods body fixed others apart each has = apart_append 0 fixed 0 others (length body) apart (rest_apart Methods body others has)
+record_apart Members body fixed others apart each has = apart_append 0 fixed 0 others (length body) apart (rest_apart Members body others has)
 
 -- the places of a record rise, are four bytes apart, and lie within its body
 pub places_apart : (r places : List ℕ) → HasPlaces r places → Apart 0 places (length (body_of r))
 places_apart r places has = rw has.places_are (record_apart has.leaf.rest (body_of r) has.leaf.places has.others (fixed_apart (kind_of r) has.leaf has.kind) has.fixed has.rest)
 
--- ---- method lists
+-- ---- lists that fill the body
 
 -- parts reach their stop
 parts_reach : (rest : Rest) (stop at : ℕ) (texts : List (List ℕ)) (places : List ℕ) → AreParts rest stop at texts places → stop ≤ at + length (concat texts)
@@ -172,14 +157,20 @@ parts_reach rest stop at [] places parts = omega (arith, parts.0)
 parts_reach rest stop at (t ∷ ts) places parts =
     omega (arith, parts_reach rest stop (at + length t) ts parts.1.1 parts.1.3, length-append t (concat ts))
 
--- a text without bytes is empty
-no_bytes : (x : List ℕ) → length x ≤ 0 → x ≡ []
-no_bytes [] none = refl
-no_bytes (b ∷ x) none = absurd (omega (arith, none))
+-- parts that reach from the beginning of the body to its end fill it
+parts_fill : (rest : Rest) (body places : List ℕ) → start_of rest ≡ 0 → stop_of rest body ≡ length body → HasParts rest body places
+    → (texts : List (List ℕ)) × (body ≡ concat texts) × AreParts rest (length body) 0 texts places
+parts_fill rest body places starts stops has =
+    let parts_are : AreParts rest (length body) 0 has.texts places = rw (starts, stops) at has.parts_are in
+    let parts : body ≡ concat has.texts ++ has.back = rw starts at has.parts in
+    let reach = parts_reach rest (length body) 0 has.texts places parts_are in
+    let none : has.back ≡ [] = no_bytes has.back (omega (arith, reach, ap length parts, length-append (concat has.texts) has.back)) in
+    (has.texts, parts ∙ ap (λ (x : List ℕ). concat has.texts ++ x) none ∙ append-nil (concat has.texts), parts_are)
 
 -- the entries of a method list fill its body
 pub methods_fill : (body places : List ℕ) → HasParts Methods body places → (entries : List (List ℕ)) × (body ≡ concat entries) × AreParts Methods (length body) 0 entries places
-methods_fill body places has =
-    let reach = parts_reach Methods (length body) 0 has.texts places has.parts_are in
-    let none : has.back ≡ [] = no_bytes has.back (omega (arith, reach, ap length has.parts, length-append (concat has.texts) has.back)) in
-    (has.texts, has.parts ∙ ap (λ (x : List ℕ). concat has.texts ++ x) none ∙ append-nil (concat has.texts), has.parts_are)
+methods_fill body places has = parts_fill Methods body places refl refl has
+
+-- the members of a field list fill its body
+pub members_fill : (body places : List ℕ) → HasParts Members body places → (members : List (List ℕ)) × (body ≡ concat members) × AreParts Members (length body) 0 members places
+members_fill body places has = parts_fill Members body places refl refl has

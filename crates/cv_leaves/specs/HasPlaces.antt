@@ -1,12 +1,16 @@
 -- Where a record names other types: what it is made of, and the places in it ("CodeView Type Records").
-use Rattle.std.specs.Prelude.{ℕ, ◌≡◌, ◌+◌, ◌≤◌, ◌<◌, Bool, true, false, List, [], ◌∷◌, ◌++◌, Some, length, map, drop}
+use Rattle.std.specs.Prelude.{ℕ, zero, suc, ◌≡◌, ◌⊎◌, ◌+◌, ◌*◌, ◌≤◌, ◌<◌, Bool, true, false, List, [], ◌∷◌, ◌++◌, Some, length, map, drop, slice_index, if◌then◌else◌}
 use Rattle.std.specs.List.{concat, AllByRecursion, Contains}
 use Rattle.byte_fields.specs.Number.{number_at}
 use Rattle.cv_leaves.specs.Leaf.{Leaf, leaf_of}
-use Rattle.cv_leaves.specs.Part.{points_to_member, introduces, start_of, stop_of}
+use Rattle.cv_leaves.specs.Attributes.{points_to_member, introduces}
+use Rattle.cv_leaves.specs.Numeric.{numeric_len}
+use Rattle.cv_leaves.specs.Terminated.{name_len}
+use Rattle.cv_leaves.specs.Member.{Member, member_of, has_virtual, index_places}
+use Rattle.cv_leaves.specs.Part.{start_of, stop_of}
 use Rattle.cv_leaves.specs.Checks.{kind_of, body_of}
 use Rattle.cv_leaves.specs.declared.leaf.Rest.{Rest}
-use Rattle.cv_leaves.specs.declared.leaf.Rest.TheVariants.{Nothing, Containing, Indices, Methods}
+use Rattle.cv_leaves.specs.declared.leaf.Rest.TheVariants.{Nothing, Containing, Indices, Methods, Members}
 
 -- the text is the attributes of a pointer, and where it points to a member the containing class
 abbrev pub IsContaining : Bool → List ℕ → List ℕ → Type 0
@@ -18,12 +22,50 @@ abbrev pub IsEntry : Bool → List ℕ → List ℕ → Type 0
 IsEntry true text places = (length text ≡ 12) × (places ≡ 4 ∷ [])
 IsEntry false text places = (length text ≡ 8) × (places ≡ 4 ∷ [])
 
+-- the text is a numeric leaf: a known one, whole
+abbrev pub IsNumeric : List ℕ → Type 0
+IsNumeric text = (2 ≤ length text) × (length text ≡ numeric_len (number_at 2 text 0))
+
+-- the text is so many numeric leaves, one after the other
+abbrev pub AreNumerics : ℕ → List ℕ → Type 0
+AreNumerics zero text = text ≡ []
+AreNumerics (suc n) text = (first : List ℕ) × (others : List ℕ) × (text ≡ first ++ others) × IsNumeric first × AreNumerics n others
+
+-- where there is to be a name, the text is a name and its NUL, the only NUL in it; else it is empty
+abbrev pub IsNamed : Bool → List ℕ → Type 0
+IsNamed true text = name_len text + 1 ≡ length text
+IsNamed false text = text ≡ []
+
+-- the text is padding, of 1 to 15 bytes, of which the first is 0xF0 and their number; or there is none
+abbrev pub IsPadding : List ℕ → Type 0
+IsPadding text = (text ≡ []) ⊎ ((0 < length text) × (length text ≤ 15) × (slice_index text 0 ≡ 0xF0 + length text))
+
+-- the text is a member of a field list with its padding: kind and two bytes, indices, four bytes where it introduces a virtual, numeric leaves, a name, padding; and these are the places in it
+pub record IsMember (text places : List ℕ) : Type 0 where
+  pub member : Member
+  pub kind : member_of (number_at 2 text 0) ≡ Some member
+  pub front : List ℕ
+  pub indices : List ℕ
+  pub virtual : List ℕ
+  pub numerics : List ℕ
+  pub name : List ℕ
+  pub padding : List ℕ
+  pub parts : text ≡ front ++ (indices ++ (virtual ++ (numerics ++ (name ++ padding))))
+  pub front_long : length front ≡ 4
+  pub indices_long : length indices ≡ 4 * member.indices
+  pub virtual_long : length virtual ≡ (if has_virtual member text 0 then 4 else 0)
+  pub numerics_are : AreNumerics member.numerics numerics
+  pub name_is : IsNamed member.named name
+  pub padding_is : IsPadding padding
+  pub places_are : places ≡ index_places member
+
 -- the text is one part of what follows the fixed places, and these are the places in it
 abbrev pub IsPart : Rest → List ℕ → List ℕ → Type 0
 IsPart Nothing text places = ⊥
 IsPart Containing text places = IsContaining (points_to_member (number_at 4 text 0)) text places
 IsPart Indices text places = (length text ≡ 4) × (places ≡ 0 ∷ [])
 IsPart Methods text places = IsEntry (introduces (number_at 2 text 0)) text places
+IsPart Members text places = IsMember text places
 
 -- the texts are parts, of which the first begins at `at` and the last reaches `stop`, and these are the places in them
 abbrev pub AreParts : Rest → ℕ → ℕ → List (List ℕ) → List ℕ → Type 0

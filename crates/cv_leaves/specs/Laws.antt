@@ -5,7 +5,7 @@ use Rattle.byte_fields.specs.Number.{number_at}
 use Rattle.cv_leaves.specs.Checks.{body_of}
 use Rattle.cv_leaves.specs.Blank.{put_four, fill, blank}
 use Rattle.cv_leaves.specs.HasPlaces.{AreParts, HasParts, HasPlaces, IsPlace, Apart}
-use Rattle.cv_leaves.specs.declared.leaf.Rest.TheVariants.{Methods}
+use Rattle.cv_leaves.specs.declared.leaf.Rest.TheVariants.{Methods, Members}
 
 -- a record has one list of places
 abbrev pub OnePlaces : Type 0
@@ -30,3 +30,7 @@ WrittenIsRead = (r : List ℕ) (place n : ℕ) → IsPlace r place → n < 2 ^ 3
 -- the entries of a method list fill its body
 abbrev pub MethodsFill : Type 0
 MethodsFill = (body places : List ℕ) → HasParts Methods body places → (entries : List (List ℕ)) × (body ≡ concat entries) × AreParts Methods (length body) 0 entries places
+
+-- the members of a field list fill its body
+abbrev pub MembersFill : Type 0
+MembersFill = (body places : List ℕ) → HasParts Members body places → (members : List (List ℕ)) × (body ≡ concat members) × AreParts Members (length body) 0 members places

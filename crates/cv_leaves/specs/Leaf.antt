@@ -1,7 +1,8 @@
 -- The table of leaves ("CodeView Type Records").
-use Rattle.std.specs.Prelude.{ℕ, ◌==◌, List, [], ◌∷◌, Option, Some, None, if◌then◌else◌, codes}
+use Rattle.std.specs.Prelude.{ℕ, List, [], ◌∷◌, Option, codes}
+use Rattle.cv_leaves.specs.Table.{Row, find}
 use Rattle.cv_leaves.specs.declared.leaf.Rest.{Rest}
-use Rattle.cv_leaves.specs.declared.leaf.Rest.TheVariants.{Nothing, Containing, Indices, Methods}
+use Rattle.cv_leaves.specs.declared.leaf.Rest.TheVariants.{Nothing, Containing, Indices, Methods, Members}
 use Rattle.cv_leaves.specs.declared.leaf.Naming.{Naming}
 use Rattle.cv_leaves.specs.declared.leaf.Naming.TheVariants.{Unnamed, At, AfterNumeric}
 use Rattle.cv_leaves.specs.declared.leaf.Leaf as declared
@@ -13,17 +14,12 @@ pub record Leaf : Type 0 where
   pub rest : Rest
   pub naming : Naming
 
--- a row of the table
-pub record Row : Type 0 where
-  pub kind : ℕ
-  pub leaf : Leaf
-
 -- the row of a kind
-abbrev pub row : ℕ → List ℕ → List ℕ → Rest → Naming → Row
-row kind text places rest naming = record { kind = kind; leaf = record { text = text; places = places; rest = rest; naming = naming } }
+abbrev pub row : ℕ → List ℕ → List ℕ → Rest → Naming → Row Leaf
+row kind text places rest naming = record { kind = kind; item = record { text = text; places = places; rest = rest; naming = naming } }
 
 -- the rows, by rising kind
-abbrev pub leaves : List Row
+abbrev pub leaves : List (Row Leaf)
 leaves =
     row 0x000A (codes "LF_VTSHAPE") [] Nothing Unnamed
     ∷ row 0x000E (codes "LF_LABEL") [] Nothing Unnamed
@@ -32,6 +28,7 @@ leaves =
     ∷ row 0x1008 (codes "LF_PROCEDURE") (0 ∷ 8 ∷ []) Nothing Unnamed
     ∷ row 0x1009 (codes "LF_MFUNCTION") (0 ∷ 4 ∷ 8 ∷ 16 ∷ []) Nothing Unnamed
     ∷ row 0x1201 (codes "LF_ARGLIST") [] Indices Unnamed
+    ∷ row 0x1203 (codes "LF_FIELDLIST") [] Members Unnamed
     ∷ row 0x1205 (codes "LF_BITFIELD") (0 ∷ []) Nothing Unnamed
     ∷ row 0x1206 (codes "LF_METHODLIST") [] Methods Unnamed
     ∷ row 0x1503 (codes "LF_ARRAY") (0 ∷ 4 ∷ []) Nothing (AfterNumeric 8)
@@ -42,11 +39,6 @@ leaves =
     ∷ row 0x1519 (codes "LF_INTERFACE") (4 ∷ 8 ∷ 12 ∷ []) Nothing (AfterNumeric 16)
     ∷ row 0x151D (codes "LF_VFTABLE") (0 ∷ 4 ∷ []) Nothing Unnamed
     ∷ []
-
--- the first of these rows that has the kind
-abbrev pub find : List Row → ℕ → Option Leaf
-find [] kind = None
-find (r ∷ rs) kind = if kind == r.kind then Some r.leaf else find rs kind
 
 -- the leaf of a kind
 unfoldable pub leaf_of : ℕ → Option Leaf

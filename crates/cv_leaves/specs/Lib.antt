@@ -1,8 +1,13 @@
 pub mod Field
+pub mod Attributes
+pub mod Table
 pub mod Leaf
 pub mod Part
 pub mod Walk
 pub mod Numeric
+pub mod Terminated
+pub mod Padding
+pub mod Member
 pub mod Checks
 pub mod Name
 pub mod HasPlaces

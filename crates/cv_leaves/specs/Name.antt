@@ -1,20 +1,12 @@
 -- The name of the type that a record describes.
-use Rattle.std.specs.Prelude.{ℕ, ◌==◌, nat_lt, List, Option, Some, None, length, take, drop, if◌then◌else◌}
+use Rattle.std.specs.Prelude.{ℕ, List, Option, None, if◌then◌else◌}
 use Rattle.std.specs.Option.{option_map_or}
-use Rattle.std.specs.List.{position_or_len}
 use Rattle.cv_leaves.specs.Leaf.{leaf_of}
 use Rattle.cv_leaves.specs.Numeric.{has_numeric, numeric_end}
+use Rattle.cv_leaves.specs.Terminated.{name_at}
 use Rattle.cv_leaves.specs.Checks.{kind_of, body_of}
 use Rattle.cv_leaves.specs.declared.leaf.Naming.{Naming}
 use Rattle.cv_leaves.specs.declared.leaf.Naming.TheVariants.{Unnamed, At, AfterNumeric}
-
--- how many bytes stand before the first NUL
-abbrev pub name_len : List ℕ → ℕ
-name_len bytes = position_or_len (λ b. b == 0) bytes
-
--- the name at `at`: the bytes up to the first NUL, if one follows
-unfoldable pub name_at : List ℕ → ℕ → Option (List ℕ)
-name_at body at = if nat_lt (name_len (drop at body)) (length (drop at body)) then Some (take (name_len (drop at body)) (drop at body)) else None
 
 -- the name in a body, by where its leaf has it
 unfoldable pub name_in : Naming → List ℕ → Option (List ℕ)

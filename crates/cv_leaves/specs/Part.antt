@@ -1,20 +1,14 @@
 -- The parts of a body that follow the fixed places ("CodeView Type Records").
-use Rattle.std.specs.Prelude.{ℕ, ◌+◌, ◌*◌, ◌/◌, ◌%◌, ◌==◌, ◌||◌, Bool, false, List, [], ◌∷◌, ◌++◌, length, if◌then◌else◌}
+use Rattle.std.specs.Prelude.{ℕ, ◌+◌, ◌*◌, false, List, [], ◌∷◌, ◌++◌, length, if◌then◌else◌}
 use Rattle.byte_fields.specs.Check.{Check}
 use Rattle.byte_fields.specs.Number.{number_at}
+use Rattle.cv_leaves.specs.Attributes.{points_to_member, introduces}
 use Rattle.cv_leaves.specs.Field.{fits}
+use Rattle.cv_leaves.specs.Member.{member_end, member_places, member_checks}
 use Rattle.cv_leaves.specs.declared.leaf.Rest.{Rest}
-use Rattle.cv_leaves.specs.declared.leaf.Rest.TheVariants.{Nothing, Containing, Indices, Methods}
+use Rattle.cv_leaves.specs.declared.leaf.Rest.TheVariants.{Nothing, Containing, Indices, Methods, Members}
 use Rattle.cv_leaves.specs.declared.fault.LeafFault.{LeafFault}
 use Rattle.cv_leaves.specs.declared.fault.LeafFault.TheVariants.{Body}
-
--- the attributes of a pointer say that it points to a member: bits 5 to 7 are 2 or 3
-abbrev pub points_to_member : ℕ → Bool
-points_to_member attributes = let mode = attributes / 32 % 8 in mode == 2 || mode == 3
-
--- the attributes of a method say that it introduces a virtual: bits 2 to 4 are 4 or 6
-abbrev pub introduces : ℕ → Bool
-introduces attributes = let property = attributes / 4 % 8 in property == 4 || property == 6
 
 -- the offset at which the parts begin
 abbrev pub start_of : Rest → ℕ
@@ -22,6 +16,7 @@ start_of Nothing = 0
 start_of Containing = 4
 start_of Indices = 4
 start_of Methods = 0
+start_of Members = 0
 
 -- the offset that the parts reach
 abbrev pub stop_of : Rest → List ℕ → ℕ
@@ -29,6 +24,7 @@ stop_of Nothing body = 0
 stop_of Containing body = 8
 stop_of Indices body = 4 + 4 * number_at 4 body 0
 stop_of Methods body = length body
+stop_of Members body = length body
 
 -- the checks of what tells how far the parts reach
 unfoldable pub extent_checks : Rest → List ℕ → List (Check LeafFault)
@@ -41,6 +37,7 @@ part_end Nothing body at = at + 4
 part_end Containing body at = if points_to_member (number_at 4 body at) then at + 8 else at + 4
 part_end Indices body at = at + 4
 part_end Methods body at = if introduces (number_at 2 body at) then at + 12 else at + 8
+part_end Members body at = member_end body at
 
 -- the places of the part at `at`
 unfoldable pub part_places : Rest → List ℕ → ℕ → List ℕ
@@ -48,6 +45,7 @@ part_places Nothing body at = []
 part_places Containing body at = if points_to_member (number_at 4 body at) then (at + 4) ∷ [] else []
 part_places Indices body at = at ∷ []
 part_places Methods body at = (at + 4) ∷ []
+part_places Members body at = member_places body at
 
 -- the checks of the part at `at`, in order
 unfoldable pub part_checks : Rest → List ℕ → ℕ → List (Check LeafFault)
@@ -56,3 +54,4 @@ part_checks Containing body at = fits body at 4 ++ (if points_to_member (number_
 part_checks Indices body at = fits body at 4
 part_checks Methods body at =
     fits body at 2 ++ (fits body (at + 4) 4 ++ (if introduces (number_at 2 body at) then fits body (at + 8) 4 else []))
+part_checks Members body at = member_checks body at

@@ -84,8 +84,8 @@ fn check_record(record: &[u8]) -> Result<(), LeafFault>
 ///
 /// The kind is checked first, and then the fields in the order of their offsets: the type
 /// indices, and what says where they stand (the attributes of a pointer and of a method, the
-/// count of an argument list). The name is not looked at. It takes no memory. ("CodeView Type
-/// Records".)
+/// count of an argument list, all fields of the members of a field list). The name of the type is
+/// not looked at. It takes no memory. ("CodeView Type Records".)
 pub fn check(record: &[u8]) -> Result<(), LeafFault>
     requires { (4 ≤ length «record».now) × (length «record».now ≤ 2 ^ 16) }
     ensures value { IfOk result (λ _. (places : List ℕ) × HasPlaces «record».now places) }

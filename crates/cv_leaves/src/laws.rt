@@ -2,7 +2,7 @@
 //!
 //! Each function here does nothing: its contract is the law.
 
-ghost use Rattle.cv_leaves.specs.Laws.{OnePlaces, PlacesApart, FillKeeps, BlankKeeps, WrittenIsRead, MethodsFill};
+ghost use Rattle.cv_leaves.specs.Laws.{OnePlaces, PlacesApart, FillKeeps, BlankKeeps, WrittenIsRead, MethodsFill, MembersFill};
 
 /// A record has one list of places.
 pub fn one_list_of_places()
@@ -33,4 +33,10 @@ pub fn what_is_written_is_read()
 /// The entries of a method list stand one after the other and fill its body.
 pub fn methods_fill_the_body()
     ensures { MethodsFill }
+{}
+
+/// The members of a field list, each with its padding, stand one after the other and fill its
+/// body.
+pub fn members_fill_the_body()
+    ensures { MembersFill }
 {}

@@ -14,6 +14,8 @@ pub enum Rest {
     Indices,
     /// The entries of a method list, to the end of the body.
     Methods,
+    /// The members of a field list, to the end of the body.
+    Members,
 }
 
 /// Where the name of the type begins.
@@ -55,6 +57,7 @@ pub fn leaf_of(kind: u16) -> Option<Leaf>
             Naming::Unnamed,
         ),
         0x1201 => ("LF_ARGLIST", &[], Rest::Indices, Naming::Unnamed),
+        0x1203 => ("LF_FIELDLIST", &[], Rest::Members, Naming::Unnamed),
         0x1205 => ("LF_BITFIELD", &[0], Rest::Nothing, Naming::Unnamed),
         0x1206 => ("LF_METHODLIST", &[], Rest::Methods, Naming::Unnamed),
         0x1503 => ("LF_ARRAY", &[0, 4], Rest::Nothing, Naming::AfterNumeric(8)),

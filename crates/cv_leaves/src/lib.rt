@@ -15,10 +15,11 @@
 //! - [`kind_of`] and [`leaf_text`] give the kind and what its leaf is called.
 //!
 //! A leaf is one row of the table in `leaf`: the places at fixed offsets, and in one word what
-//! follows them, as the indices of an argument list or the entries of a method list. That is a
-//! run of *parts* one after the other, and one step, `part_at` of `part`, finds for each kind of
-//! part the places in it, where it ends, and whether it fits. The check and the places are two
-//! loops over that step.
+//! follows them, as the indices of an argument list, the entries of a method list or the members
+//! of a field list. That is a run of *parts* one after the other, and one step, `part_at` of
+//! `part`, finds for each kind of part the places in it, where it ends, and whether it fits. The
+//! check and the places are two loops over that step. A kind of member is one row of the table in
+//! `member`.
 //!
 //! What is proved: a record is accepted exactly where it has places (`HasPlaces` of
 //! `specs/HasPlaces`: the record is made of these parts, and these are the places in them); a
@@ -26,15 +27,18 @@
 //! one of them leaves the places of the record as they are. What holds of the places of every
 //! record stands in [`laws`]: there is one list of them, they are at least four bytes apart and
 //! lie within the body, a record that is filled with other numbers keeps them, and the entries of
-//! a method list fill its body. No call takes memory. ("CodeView Type Records".)
+//! a method list and the members of a field list fill its body. No call takes memory. ("CodeView
+//! Type Records".)
 #![tactic(auto)]
 
 mod checks;
 mod fault;
 pub mod laws;
 mod leaf;
+mod member;
 mod name;
 mod numeric;
+mod padding;
 mod part;
 mod place;
 mod reference;

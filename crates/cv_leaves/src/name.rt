@@ -1,9 +1,12 @@
 //! The name of the type that a record describes.
 
-ghost use Rattle.std.specs.Prelude.{◌≡◌, ◌≤◌, ◌<◌, ◌^◌, option_map, length, drop};
-ghost use Rattle.cv_leaves.specs.Name.{name_at, name_in, name_of};
+ghost use Rattle.std.specs.Prelude.{◌≡◌, ◌≤◌, ◌<◌, ◌^◌, option_map, length, drop, IfOk};
+ghost use Rattle.byte_fields.specs.Check.{Makes};
+ghost use Rattle.cv_leaves.specs.Terminated.{name_at, name_end, name_checks};
+ghost use Rattle.cv_leaves.specs.Name.{name_in, name_of};
 
 use crate::checks::{body_of, kind_of};
+use crate::fault::LeafFault;
 use crate::leaf::{Naming, leaf_of};
 use crate::numeric::after_numeric;
 use memchr::memchr;
@@ -27,6 +30,20 @@ fn name_at(body: &[u8], at: usize) -> Option<&[u8]>
     let rest = rest_from(body, at);
     let len = memchr(0, rest)?;
     Some(&rest[..len])
+}
+
+/// Where the name at an offset ends, its NUL counted.
+#[tactic(auto, using(crate::proofs::NameLaws::name_ends, crate::proofs::NameLaws::name_holds, crate::proofs::NameLaws::name_fails))]
+pub fn after_name(body: &[u8], at: usize) -> Result<usize, LeafFault>
+    requires { (at ≤ length body.now) × (length body.now < 2 ^ 17) }
+    ensures inside { IfOk result (λ e. e ≤ length body.now) }
+    ensures end { IfOk result (λ e. e ≡ name_end body.now at) }
+    ensures first { Makes result (name_checks body.now at) }
+{
+    match name_at(body, at) {
+        Some(name) => Ok(at + name.len() + 1),
+        None => Err(LeafFault::Name(at as u32)),
+    }
 }
 
 /// The name in a body, by where its leaf has it.

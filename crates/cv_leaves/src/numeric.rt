@@ -1,8 +1,10 @@
 //! Numeric leaves: numbers that say themselves how many bytes they have.
 
-ghost use Rattle.std.specs.Prelude.{◌≡◌, ◌≤◌, ◌^◌, ◌<◌, length, Some, None, if◌then◌else◌};
-ghost use Rattle.cv_leaves.specs.Numeric.{numeric_len, numeric_end, has_numeric};
+ghost use Rattle.std.specs.Prelude.{◌≡◌, ◌≤◌, ◌^◌, ◌<◌, length, Some, None, IfOk, if◌then◌else◌};
+ghost use Rattle.byte_fields.specs.Check.{Makes};
+ghost use Rattle.cv_leaves.specs.Numeric.{numeric_len, numeric_end, numeric_checks, has_numeric, numerics_end, numerics_checks};
 
+use crate::fault::LeafFault;
 use byte_fields::u16_at;
 
 /// How many bytes a numeric leaf has that begins with this number, or 0 where none does.
@@ -35,4 +37,34 @@ pub fn after_numeric(body: &[u8], at: usize) -> Option<usize>
         }
     }
     None
+}
+
+/// Where the numeric leaf that is to stand at an offset ends.
+fn end_of_numeric(body: &[u8], at: usize) -> Result<usize, LeafFault>
+    requires { (at ≤ length body.now) × (length body.now < 2 ^ 17) }
+    ensures inside { IfOk result (λ e. e ≤ length body.now) }
+    ensures end { IfOk result (λ e. e ≡ numeric_end body.now at) }
+    ensures first { Makes result (numeric_checks body.now at) }
+{
+    match after_numeric(body, at) {
+        Some(end) => Ok(end),
+        None => Err(LeafFault::Numeric(at as u32)),
+    }
+}
+
+/// Where so many numeric leaves end, of which the first stands at an offset.
+#[tactic(auto, using(crate::proofs::NumericLaws::numerics_more, crate::proofs::NumericLaws::numerics_held, crate::proofs::NumericLaws::numerics_fail, crate::proofs::NumericLaws::numerics_end_none, crate::proofs::NumericLaws::numerics_checks_none))]
+pub fn after_numerics(count: u8, body: &[u8], at: usize) -> Result<usize, LeafFault>
+    requires { (at ≤ length body.now) × (length body.now < 2 ^ 17) }
+    ensures inside { IfOk result (λ e. e ≤ length body.now) }
+    ensures end { IfOk result (λ e. e ≡ numerics_end count body.now at) }
+    ensures first { Makes result (numerics_checks count body.now at) }
+{
+    let mut end = at;
+    let mut left = count;
+    'leaves: while 0 < left {
+        end = end_of_numeric(body, end)?;
+        left -= 1;
+    }
+    Ok(end)
 }

@@ -3,10 +3,12 @@
 ghost use Rattle.std.specs.Prelude.{◌≡◌, ◌≤◌, ◌+◌, ◌^◌, ◌<◌, length, map, IfOk};
 ghost use Rattle.byte_fields.specs.Check.{Makes};
 ghost use Rattle.cv_leaves.specs.Field.{fits};
-ghost use Rattle.cv_leaves.specs.Part.{points_to_member, introduces, start_of, stop_of, extent_checks, part_end, part_places, part_checks};
+ghost use Rattle.cv_leaves.specs.Attributes.{points_to_member, introduces};
+ghost use Rattle.cv_leaves.specs.Part.{start_of, stop_of, extent_checks, part_end, part_places, part_checks};
 
 use crate::fault::LeafFault;
 use crate::leaf::Rest;
+use crate::member::member_at;
 use byte_fields::{u16_at, u32_at};
 
 /// A part: its places, counted from where it begins, and where it ends in the body.
@@ -28,7 +30,7 @@ pub fn fits(body: &[u8], at: usize, len: usize) -> Result<(), LeafFault>
 }
 
 /// Whether the attributes of a method introduce a virtual: then its offset follows.
-fn introduces(attributes: u16) -> bool
+pub fn introduces(attributes: u16) -> bool
     ensures { result ≡ introduces attributes }
 {
     matches!(attributes >> 2 & 7, 4 | 6)
@@ -54,7 +56,7 @@ pub fn extent(rest: Rest, body: &[u8]) -> Result<(usize, usize), LeafFault>
             fits(body, 0, 4)?;
             Ok((4, 4 + 4 * u32_at(body, 0) as usize))
         }
-        Rest::Methods => Ok((0, body.len())),
+        Rest::Methods | Rest::Members => Ok((0, body.len())),
     }
 }
 
@@ -104,5 +106,6 @@ pub fn part_at(rest: Rest, body: &[u8], at: usize) -> Result<Part, LeafFault>
                 end: if introduced { at + 12 } else { at + 8 },
             })
         }
+        Rest::Members => member_at(body, at),
     }
 }

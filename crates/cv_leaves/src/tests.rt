@@ -9,6 +9,16 @@ fn each_fault_has_its_text(rt: HostRuntime) -> Result<(), Fail> {
     for (fault, text) in [
         (LeafFault::Leaf(0x150A), "25 Leaf 0x150a"),
         (LeafFault::Body(16), "26 Body 16"),
+        (
+            LeafFault::Member {
+                at: 0,
+                kind: 0x999A,
+            },
+            "27 Member at 0 kind 0x999a",
+        ),
+        (LeafFault::Numeric(4), "28 Numeric 4"),
+        (LeafFault::Name(6), "29 Name 6"),
+        (LeafFault::Pad(8), "30 Pad 8"),
     ] {
         let shown = fault.to_string(rt.alloc())?;
         assert_eq!(rt; shown.as_str(), text);
@@ -19,7 +29,6 @@ fn each_fault_has_its_text(rt: HostRuntime) -> Result<(), Fail> {
 #[test]
 fn records_that_are_refused(rt: HostRuntime) {
     assert_eq!(rt; check(&[2, 0, 0x0A, 0x15]), Err(LeafFault::Leaf(0x150A)));
-    assert_eq!(rt; check(&[2, 0, 0x03, 0x12]), Err(LeafFault::Leaf(0x1203)));
     assert_eq!(rt; check(&[2, 0, 0x01, 0x10]), Err(LeafFault::Body(0)));
     assert_eq!(rt;
         check(&[6, 0, 0x02, 0x10, 0x74, 0, 0, 0]),
@@ -79,7 +88,9 @@ fn each_leaf_at_its_smallest(rt: HostRuntime) {
     for low in [0x0Au8, 0x0E] {
         assert_eq!(rt; check(&[2, 0, low, 0]), Ok(()));
     }
-    assert_eq!(rt; check(&[2, 0, 0x06, 0x12]), Ok(()));
+    for low in [0x03u8, 0x06] {
+        assert_eq!(rt; check(&[2, 0, low, 0x12]), Ok(()));
+    }
 }
 
 #[test]
@@ -213,7 +224,8 @@ fn each_form_of_a_numeric_leaf(rt: HostRuntime) {
 fn what_leaves_are_called(rt: HostRuntime) {
     assert_eq!(rt; leaf_text(0x1002), Some("LF_POINTER"));
     assert_eq!(rt; leaf_text(0x1519), Some("LF_INTERFACE"));
-    assert_eq!(rt; leaf_text(0x1203), None);
+    assert_eq!(rt; leaf_text(0x1203), Some("LF_FIELDLIST"));
+    assert_eq!(rt; leaf_text(0x1502), None);
 }
 
 #[test]
@@ -229,4 +241,336 @@ fn an_index_that_is_written(rt: HostRuntime) {
         record,
         [10, 0, 0x01, 0x10, 0x78, 0x56, 0x34, 0x12, 1, 0, 0xF2, 0xF1]
     );
+}
+
+#[test]
+fn field_lists_that_are_refused(rt: HostRuntime) {
+    assert_eq!(rt;
+        check(&[6, 0, 0x03, 0x12, 0x99, 0x99, 0, 0]),
+        Err(LeafFault::Member {
+            at: 0,
+            kind: 0x9999
+        })
+    );
+    assert_eq!(rt;
+        check(&[10, 0, 0x03, 0x12, 0x02, 0x15, 3, 0, 0x05, 0x80, 0x41, 0]),
+        Err(LeafFault::Numeric(4))
+    );
+    assert_eq!(rt;
+        check(&[10, 0, 0x03, 0x12, 0x02, 0x15, 3, 0, 0, 0, 0x41, 0x42]),
+        Err(LeafFault::Name(6))
+    );
+    for first in [0xF5u8, 0xF0] {
+        assert_eq!(rt;
+            check(&[
+                14, 0, 0x03, 0x12, 0x02, 0x15, 3, 0, 0, 0, 0x41, 0, first, 0xF3, 0xF2, 0xF1,
+            ]),
+            Err(LeafFault::Pad(8))
+        );
+    }
+}
+
+/// Room for a field list with one member of the smallest size and the longest padding.
+const ROOM: usize = 40;
+
+/// A field list with one member of a kind, whose other bytes are 0.
+fn one_member(kind: u16) -> [u8; ROOM] {
+    let mut record = [0u8; ROOM];
+    record[2] = 0x03;
+    record[3] = 0x12;
+    record[4] = (kind & 0xFF) as u8;
+    record[5] = (kind >> 8) as u8;
+    record
+}
+
+#[test]
+fn each_member_at_its_smallest(rt: HostRuntime) {
+    // kind, the length of the smallest member, and for the length of each shorter body that is
+    // cut from it, in turn, until which length which fault is met
+    let body = LeafFault::Body;
+    let number = LeafFault::Numeric;
+    let name = LeafFault::Name;
+    for (kind, len, faults) in [
+        (
+            0x1400u16,
+            10u8,
+            [
+                (2u8, body(0)),
+                (4, body(2)),
+                (8, body(4)),
+                (10, number(8)),
+                (0, body(0)),
+            ],
+        ),
+        (
+            0x1401,
+            16,
+            [
+                (4, body(2)),
+                (8, body(4)),
+                (12, body(8)),
+                (14, number(12)),
+                (16, number(14)),
+            ],
+        ),
+        (
+            0x1402,
+            16,
+            [
+                (4, body(2)),
+                (8, body(4)),
+                (12, body(8)),
+                (14, number(12)),
+                (16, number(14)),
+            ],
+        ),
+        (
+            0x1404,
+            8,
+            [
+                (2, body(0)),
+                (4, body(2)),
+                (8, body(4)),
+                (0, body(0)),
+                (0, body(0)),
+            ],
+        ),
+        (
+            0x1409,
+            8,
+            [
+                (2, body(0)),
+                (4, body(2)),
+                (8, body(4)),
+                (0, body(0)),
+                (0, body(0)),
+            ],
+        ),
+        (
+            0x1502,
+            7,
+            [
+                (2, body(0)),
+                (4, body(2)),
+                (6, number(4)),
+                (7, name(6)),
+                (0, body(0)),
+            ],
+        ),
+        (
+            0x150D,
+            11,
+            [
+                (2, body(0)),
+                (4, body(2)),
+                (8, body(4)),
+                (10, number(8)),
+                (11, name(10)),
+            ],
+        ),
+        (
+            0x150E,
+            9,
+            [
+                (2, body(0)),
+                (4, body(2)),
+                (8, body(4)),
+                (9, name(8)),
+                (0, body(0)),
+            ],
+        ),
+        (
+            0x150F,
+            9,
+            [
+                (2, body(0)),
+                (4, body(2)),
+                (8, body(4)),
+                (9, name(8)),
+                (0, body(0)),
+            ],
+        ),
+        (
+            0x1510,
+            9,
+            [
+                (2, body(0)),
+                (4, body(2)),
+                (8, body(4)),
+                (9, name(8)),
+                (0, body(0)),
+            ],
+        ),
+        (
+            0x1511,
+            9,
+            [
+                (2, body(0)),
+                (4, body(2)),
+                (8, body(4)),
+                (9, name(8)),
+                (0, body(0)),
+            ],
+        ),
+        (
+            0x151A,
+            10,
+            [
+                (2, body(0)),
+                (4, body(2)),
+                (8, body(4)),
+                (10, number(8)),
+                (0, body(0)),
+            ],
+        ),
+    ] {
+        let record = one_member(kind);
+        assert_eq!(rt;
+            check_first(&record, 4 + usize::from(len)),
+            Some(Ok(())),
+            "{kind:#x}"
+        );
+        for cut in 2..len {
+            let mut wanted = None;
+            for (below, fault) in faults {
+                if wanted.is_none() && cut < below {
+                    wanted = Some(Err(fault));
+                }
+            }
+            assert_eq!(rt;
+                check_first(&record, 4 + usize::from(cut)),
+                wanted,
+                "{kind:#x} cut to {cut}"
+            );
+        }
+        // One byte is no kind.
+        assert_eq!(rt; check_first(&record, 5), Some(Err(body(0))));
+    }
+}
+
+#[test]
+fn each_property_of_a_member(rt: HostRuntime) {
+    for property in 0..8u8 {
+        let mut record = one_member(0x1511);
+        record[6] = 3 + 4 * property;
+        // where the name begins
+        let at = if property == 4 || property == 6 {
+            12usize
+        } else {
+            8
+        };
+        assert_eq!(rt; check_first(&record, 4 + at + 1), Some(Ok(())));
+        assert_eq!(rt;
+            check_first(&record, 4 + at),
+            Some(Err(LeafFault::Name(at as u32)))
+        );
+        if at == 12 {
+            assert_eq!(rt; check_first(&record, 4 + 11), Some(Err(LeafFault::Body(8))));
+        }
+    }
+}
+
+#[test]
+fn each_byte_of_padding(rt: HostRuntime) {
+    for low in 0..16usize {
+        // so many bytes are left behind a member that ends at 8
+        for left in 1..17usize {
+            let mut record = one_member(0x1404);
+            record[12] = 0xF0 + low as u8;
+            // what is left behind the padding is a member cut short, or nothing
+            let wanted = if low == 0 || left < low {
+                Err(LeafFault::Pad(8))
+            } else if left == low {
+                Ok(())
+            } else if left < low + 2 {
+                Err(LeafFault::Body(8 + low as u32))
+            } else {
+                Err(LeafFault::Member {
+                    at: 8 + low as u32,
+                    kind: 0,
+                })
+            };
+            assert_eq!(rt;
+                check_first(&record, 12 + left),
+                Some(wanted),
+                "0x{low:x} of {left}"
+            );
+        }
+    }
+    // a byte below begins the next member
+    let mut record = one_member(0x1404);
+    record[12] = 0xEF;
+    assert_eq!(rt;
+        check_first(&record, 14),
+        Some(Err(LeafFault::Member {
+            at: 8,
+            kind: 0x00EF
+        }))
+    );
+}
+
+/// A field list with a member of each kind.
+const MEMBERS: [u8; 148] = [
+    0x92, 0x00, 0x03, 0x12, //
+    0x00, 0x14, 0x03, 0x00, 0x74, 0x00, 0x00, 0x00, 0x00, 0x00, 0xF2, 0xF1, //
+    0x01, 0x14, 0x03, 0x00, 0x74, 0x00, 0x00, 0x00, 0x74, 0x00, 0x00, 0x00, 0x00, 0x00, 0x04, 0x00, //
+    0x02, 0x14, 0x03, 0x00, 0x74, 0x00, 0x00, 0x00, 0x74, 0x00, 0x00, 0x00, 0x00, 0x00, 0x04, 0x00, //
+    0x04, 0x14, 0x00, 0x00, 0x74, 0x00, 0x00, 0x00, //
+    0x09, 0x14, 0x00, 0x00, 0x74, 0x00, 0x00, 0x00, //
+    0x02, 0x15, 0x03, 0x00, 0x00, 0x00, 0x41, 0x00, //
+    0x0D, 0x15, 0x03, 0x00, 0x74, 0x00, 0x00, 0x00, 0x00, 0x00, 0x42, 0x00, //
+    0x0E, 0x15, 0x03, 0x00, 0x74, 0x00, 0x00, 0x00, 0x43, 0x00, 0xF2, 0xF1, //
+    0x0F, 0x15, 0x02, 0x00, 0x74, 0x00, 0x00, 0x00, 0x44, 0x00, 0xF2, 0xF1, //
+    0x10, 0x15, 0x00, 0x00, 0x74, 0x00, 0x00, 0x00, 0x45, 0x00, 0xF2, 0xF1, //
+    0x11, 0x15, 0x13, 0x00, 0x74, 0x00, 0x00, 0x00, 0x00, 0x00, 0x00, 0x00, 0x46, 0x00, 0xF2, 0xF1, //
+    0x1A, 0x15, 0x03, 0x00, 0x74, 0x00, 0x00, 0x00, 0x00, 0x00, 0xF2, 0xF1,
+];
+
+#[test]
+fn the_places_of_every_member(rt: HostRuntime) -> Result<(), Fail> {
+    let mut record = MEMBERS;
+    let mut wanted = MEMBERS;
+    for (k, place) in [4usize, 16, 20, 32, 36, 48, 56, 72, 84, 96, 108, 120, 136]
+        .iter()
+        .enumerate()
+    {
+        wanted[4 + place..8 + place].copy_from_slice(&[0xF4, 0xF3, 0xF2, 0xF1]);
+        check(&record)?;
+        let found = places(&record).nth(k);
+        assert_eq!(rt; found, Some(*place));
+        if let Some(at) = found {
+            set_ref(&mut record, at, 0xF1F2F3F4);
+        }
+        assert_eq!(rt; record, wanted);
+    }
+    check(&record)?;
+    assert_eq!(rt; places(&record).nth(13), None);
+    Ok(())
+}
+
+#[test]
+fn a_char_and_padding_in_a_member(rt: HostRuntime) -> Result<(), Fail> {
+    let record = [
+        18, 0, 0x03, 0x12, 0x0D, 0x15, 3, 0, 0x74, 0, 0, 0, 0x00, 0x80, 0x05, 0x41, 0x00, 0xF3,
+        0xF2, 0xF1,
+    ];
+    check(&record)?;
+    let mut left = places(&record);
+    assert_eq!(rt; left.next(), Some(4));
+    assert_eq!(rt; left.next(), None);
+    Ok(())
+}
+
+#[test]
+fn a_list_that_goes_on_in_another(rt: HostRuntime) -> Result<(), Fail> {
+    let record = [
+        22, 0, 0x03, 0x12, 0x02, 0x15, 3, 0, 1, 0, 0x41, 0x42, 0x43, 0, 0xF2, 0xF1, 0x04, 0x14, 0,
+        0, 0, 0x10, 0, 0,
+    ];
+    check(&record)?;
+    let mut left = places(&record);
+    assert_eq!(rt; left.next(), Some(16));
+    assert_eq!(rt; left.next(), None);
+    assert_eq!(rt; ref_at(&record, 16), 0x1000);
+    Ok(())
 }

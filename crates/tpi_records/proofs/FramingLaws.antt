@@ -22,7 +22,7 @@ is_record bytes start whole field long words inside =
     record {
       long = omega (arith, all);
       padded = rw all words;
-      len = omega (arith, all, number_at-take bytes start whole (omega arith));
+      len = omega (arith, all, number_at-take 2 bytes start whole (omega arith));
     }
 
 -- the records so far, and the one that stands next
@@ -45,7 +45,7 @@ same_front : (r s x y : List ℕ) → IsRecord r → IsRecord s → r ++ x ≡ s
 same_front r s x y is_r is_s e =
     let first : number_at 2 (r ++ x) 0 ≡ number_at 2 (s ++ y) 0 = ap (λ (t : List ℕ). number_at 2 t 0) e in
     let long : length s ≡ length r =
-    omega (arith, first, number_at-append r x (omega (arith, is_r.long)), number_at-append s y (omega (arith, is_s.long)), is_r.len, is_s.len) in (
+    omega (arith, first, number_at-append 2 r x (omega (arith, is_r.long)), number_at-append 2 s y (omega (arith, is_s.long)), is_r.len, is_s.len) in (
       sym (take_at r x (length r) refl) ∙ ap (take (length r)) e ∙ take_at s y (length r) long,
       sym (drop_at r x (length r) refl) ∙ ap (drop (length r)) e ∙ drop_at s y (length r) long,
     )
@@ -61,9 +61,9 @@ one_framing (r ∷ rs) (s ∷ ss) each_r each_s e =
 -- a record at the front of some bytes has no fault
 no_flaw : (r rest : List ℕ) (index : ℕ) (fault : TpiFault) → IsRecord r → IsFlaw (r ++ rest) index fault → ⊥
 no_flaw r rest index (RecordShort at) is (same, inl short) = omega (arith, length-append r rest, is.long)
-no_flaw r rest index (RecordShort at) is (same, inr (len, short)) = omega (arith, length-append r rest, number_at-append r rest (omega (arith, is.long)), is.len, short)
+no_flaw r rest index (RecordShort at) is (same, inr (len, short)) = omega (arith, length-append r rest, number_at-append 2 r rest (omega (arith, is.long)), is.len, short)
 no_flaw r rest index (RecordLen at len) is (same, long, field, bad) =
-    let whole : len + 2 ≡ length r = omega (arith, field, number_at-append r rest (omega (arith, is.long)), is.len) in
+    let whole : len + 2 ≡ length r = omega (arith, field, number_at-append 2 r rest (omega (arith, is.long)), is.len) in
     bad (omega (arith, whole, is.long), rw whole is.padded)
 no_flaw r rest index Short is flaw = flaw
 no_flaw r rest index (Version _) is flaw = flaw
