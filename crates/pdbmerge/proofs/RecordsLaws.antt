@@ -10,7 +10,7 @@ use Rattle.tpi_records.specs.declared.fault.TpiFault.TheVariants as tpi
 use Rattle.pdbmerge.specs.Fault.{of_tpi}
 use Rattle.pdbmerge.specs.Records.{record_line, record_lines, HasNoTypeRecords}
 use Rattle.pdbmerge.specs.declared.fault.RunFault.{RunFault}
-use Rattle.pdbmerge.specs.declared.fault.RunFault.TheVariants.{Memory}
+use Rattle.pdbmerge.specs.declared.fault.RunFault.TheVariants.{Tpi, Memory}
 
 -- one line more
 pub lines_more : (text new : List ℕ) (index : ℕ) (bytes : List ℕ) (left others : List (List ℕ)) (all : List ℕ) → text ++ record_lines index left ≡ all → left ≡ bytes ∷ others → new ≡ text ++ record_line index bytes
@@ -28,9 +28,10 @@ pub lines_whole : (text : List ℕ) (index : ℕ) (left : List (List ℕ)) (all 
 unfolding record_lines
 lines_whole text index left all so_far none = sym (append-nil text) ∙ rw none at so_far
 
--- a fault of the stream of type records is the file's
-pub stream_refused : (file : List ℕ) (layout : LayoutView) (stream : List ℕ) (inner : TpiFault) (fault : RunFault) → HasLayout file layout → stream_text file layout 2 ≡ Some stream → fault ≡ of_tpi inner
-    → IsFirstFault stream inner ⊎ ((inner ≡ tpi.Memory) × ((records : List (List ℕ)) × HasRecords stream records)) → HasNoTypeRecords file fault ⊎ (fault ≡ Memory)
-stream_refused file layout stream tpi.Memory fault has is made refused = inr made
-stream_refused file layout stream inner fault has is made (inl first) = inl (rw made (layout, stream, has, is, first))
-stream_refused file layout stream inner fault has is made (inr want) = inr (made ∙ ap of_tpi want.0)
+-- a fault of the stream of type records is the first on the way to whatever stands behind these records
+pub stream_refused : (Refuses : RunFault → Type 0) (file : List ℕ) (layout : LayoutView) (stream : List ℕ) (inner : TpiFault) (fault : RunFault) → ((inner : TpiFault) → HasNoTypeRecords file (Tpi inner) → Refuses (Tpi inner))
+    → HasLayout file layout → stream_text file layout 2 ≡ Some stream → fault ≡ of_tpi inner
+    → IsFirstFault stream inner ⊎ ((inner ≡ tpi.Memory) × ((records : List (List ℕ)) × HasRecords stream records)) → Refuses fault ⊎ (fault ≡ Memory)
+stream_refused Refuses file layout stream tpi.Memory fault passes has is made refused = inr made
+stream_refused Refuses file layout stream inner fault passes has is made (inl first) = inl (rw made (passes inner (layout, stream, has, is, first)))
+stream_refused Refuses file layout stream inner fault passes has is made (inr want) = inr (made ∙ ap of_tpi want.0)

@@ -1,12 +1,11 @@
 use Rattle.std.proofs.lemmas.Result.{err_from_is_err_and}
+use Rattle.pdbmerge.specs.Record.{HasNoRecord}
 use Rattle.pdbmerge.proofs.RecordsLaws.{stream_refused}
-use Rattle.pdbmerge.proofs.RecordLaws.{refused_before}
 use Rattle.pdbmerge.proofs.record.RecordShow.text.Goals as goal
 
 pub returns-in_err-records-clause-first : goal.returns-in_err-records-clause-first
 returns-in_err-records-clause-first g c =
     let p = err_from_is_err_and c.from_residual-in_err-records.result c.from_residual-in_err-records.ensures.1 in
     rw p.1
-    (refused_before c.args.self.now.index c.args.file.now p.0
-    (stream_refused c.args.file.now c.in_ok-layout.layout c.in_ok-stream.stream.items c.in_err-records.field-0.0 p.0 c.in_ok-layout.ensures.value c.in_ok-stream.ensures.value p.2
-    (rw c.deref.ensures.value at c.in_err-records.ensures.first)))
+    (stream_refused (HasNoRecord c.args.self.now.index c.args.file.now) c.args.file.now c.in_ok-layout.layout c.in_ok-stream.stream.items c.in_err-records.field-0.0 p.0 (λ inner refused. refused)
+    c.in_ok-layout.ensures.value c.in_ok-stream.ensures.value p.2 (rw c.deref.ensures.value at c.in_err-records.ensures.first))
