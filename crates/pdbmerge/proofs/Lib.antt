@@ -4,3 +4,4 @@ pub mod StreamsLaws
 pub mod TextLaws
 pub mod IndexLaws
 pub mod RecordLaws
+pub mod TypesLaws

@@ -7,3 +7,4 @@ pub mod Records
 pub mod Run
 pub mod Streams
 pub mod Text
+pub mod Types

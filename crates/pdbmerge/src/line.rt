@@ -21,6 +21,9 @@ const RECORDS: &str = "Shows each type record: its type index, its kind, its siz
 /// What `record` does.
 const RECORD: &str = "Shows one type record: its bytes, what it names, what it is called";
 
+/// What `types` does.
+const TYPES: &str = "Shows each type record: its leaf, its size, the types that it names, its name";
+
 /// What `info` does.
 const INFO: &str =
     "Shows what identifies the file: version, signature, age, GUID, named streams, feature codes";
@@ -42,6 +45,8 @@ pub enum Line {
     Records { file: String },
     /// `record FILE INDEX`
     Record { file: String, index: u32 },
+    /// `types FILE`
+    Types { file: String },
     /// `info FILE`
     Info { file: String },
     /// `streams FILE`
@@ -126,6 +131,7 @@ fn program<'a>(alloc: Global) -> Result<Command<'a>, AllocError> {
         .subcommand_required(true)
         .subcommand(showing(alloc, "records", RECORDS)?)?
         .subcommand(showing_record(alloc)?)?
+        .subcommand(showing(alloc, "types", TYPES)?)?
         .subcommand(showing(alloc, "streams", STREAMS)?)?
         .subcommand(showing(alloc, "info", INFO)?)
 }
@@ -161,6 +167,9 @@ pub fn read_line(alloc: Global, words: &[String]) -> Result<Line, LineFault>
         Some(("record", words)) => Ok(Line::Record {
             file: file_of(alloc, words)?,
             index: index_of(words)?,
+        }),
+        Some(("types", words)) => Ok(Line::Types {
+            file: file_of(alloc, words)?,
         }),
         Some(("streams", words)) => Ok(Line::Streams {
             file: file_of(alloc, words)?,

@@ -19,6 +19,7 @@ mod records;
 mod show;
 mod streams;
 mod text;
+mod types;
 
 use fault::RunFault;
 use info::run_info;
@@ -33,6 +34,7 @@ use std::rt::{Env, Files};
 use std::{env, fs};
 use streams::run_streams;
 use thiserror::Error;
+use types::run_types;
 
 /// Why the program didn't do what the words ask for.
 #[derive(Debug, PartialEq, Eq, Drop, Error)]
@@ -83,6 +85,10 @@ fn run<R: Files + Print + AllocGlobal>(rt: &R, line: &Line) -> Result<(), Progra
         Line::Record { file, index } => {
             let mut input = open(rt, file.as_str())?;
             run_record(rt.alloc(), &mut input, u32::MAX, *index, &mut out)?;
+        }
+        Line::Types { file } => {
+            let mut input = open(rt, file.as_str())?;
+            run_types(rt.alloc(), &mut input, u32::MAX, &mut out)?;
         }
         Line::Info { file } => {
             let mut input = open(rt, file.as_str())?;

@@ -4,6 +4,7 @@ use crate::info::run_info;
 use crate::record::run_record;
 use crate::records::run_records;
 use crate::streams::run_streams;
+use crate::types::run_types;
 use acceptance::{LENGTH, put, sample};
 use msf_blocks::{In, Out};
 use std::alloc::Global;
@@ -321,14 +322,85 @@ const LEAVES: [Shown; 7] = [
     (4, b"\x02\0\x0a\x15", "index 0x1000: 25 Leaf 0x150a"),
 ];
 
+/// The sample with these bytes as its one type record.
+fn sample_with(alloc: Global, len: u8, bytes: &[u8]) -> Result<Vec<u8>, Fail> {
+    let mut file = sample(alloc)?;
+    put(&mut file, 3084, &[1, 0x10, 0, 0, len]);
+    put(&mut file, 3128, bytes);
+    Ok(file)
+}
+
 #[test]
 fn records_of_several_leaves(rt: HostRuntime) -> Result<(), Fail> {
     for (len, bytes, want) in LEAVES {
-        // the sample with this as its one type record
-        let mut file = sample(rt.alloc())?;
-        put(&mut file, 3084, &[1, 0x10, 0, 0, len]);
-        put(&mut file, 3128, bytes);
+        let file = sample_with(rt.alloc(), len, bytes)?;
         let text = record_of(rt.alloc(), &file, 0x1000)?;
+        assert_eq!(rt; text.as_str(), want);
+    }
+    Ok(())
+}
+
+/// What `types` prints of a file, or the fault.
+fn types_of(alloc: Global, file: &[u8]) -> Result<String, Fail> {
+    let mut text = Vec::new(alloc);
+    match run_types(
+        alloc,
+        &mut In::new(file),
+        u32::MAX,
+        &mut Out::new(&mut text),
+    ) {
+        Ok(()) => {}
+        Err(fault) => return Ok(fault.to_string(alloc)?),
+    }
+    Ok(String::from_utf8(text)?)
+}
+
+#[test]
+fn types_of_the_sample(rt: HostRuntime) -> Result<(), Fail> {
+    let mut file = sample(rt.alloc())?;
+    let text = types_of(rt.alloc(), &file)?;
+    assert_eq!(rt;
+        text.as_str(),
+        "0x1000 LF_POINTER 12 0x74\n0x1001 LF_MODIFIER 12 0x74\n"
+    );
+    // the second record with a kind that isn't in the table
+    put(&mut file, 3142, b"\x0a\x15");
+    let text = types_of(rt.alloc(), &file)?;
+    assert_eq!(rt; text.as_str(), "index 0x1001: 25 Leaf 0x150a");
+    // no records
+    put(&mut file, 3084, b"\0\x10\0\0\0\0\0\0");
+    let text = types_of(rt.alloc(), &file)?;
+    assert_eq!(rt; text.as_str(), "");
+    put(&mut file, 2048, b"\x01");
+    let text = types_of(rt.alloc(), &file)?;
+    assert_eq!(rt; text.as_str(), "11 NoStream 2");
+    Ok(())
+}
+
+const TYPES: [Shown; 5] = [
+    // a structure with its name
+    (
+        24,
+        b"\x16\0\x05\x15\0\0\x80\0\0\0\0\0\0\0\0\0\0\0\0\0\0\0S\0",
+        "0x1000 LF_STRUCTURE 24 0x0 0x0 0x0 \"S\"\n",
+    ),
+    // an empty name
+    (
+        24,
+        b"\x16\0\x05\x15\0\0\x80\0\0\0\0\0\0\0\0\0\0\0\0\0\0\0\0\0",
+        "0x1000 LF_STRUCTURE 24 0x0 0x0 0x0 \"\"\n",
+    ),
+    // neither types that it names nor a name
+    (8, b"\x06\0\x01\x12\0\0\0\0", "0x1000 LF_ARGLIST 8\n"),
+    (4, b"\x02\0\x0a\x15", "index 0x1000: 25 Leaf 0x150a"),
+    (8, b"\x06\0\x01\x12\x01\0\0\0", "index 0x1000: 26 Body 4"),
+];
+
+#[test]
+fn types_of_several_leaves(rt: HostRuntime) -> Result<(), Fail> {
+    for (len, bytes, want) in TYPES {
+        let file = sample_with(rt.alloc(), len, bytes)?;
+        let text = types_of(rt.alloc(), &file)?;
         assert_eq!(rt; text.as_str(), want);
     }
     Ok(())
