@@ -6,12 +6,13 @@ BLOCK = 4096
 
 def records(size):
     """Record bytes of at least this length, and how many records they are: pointers, modifiers and
-    argument lists in turn, each a whole number of words."""
+    argument lists in turn, each a whole number of words. An argument list says how many it has."""
     parts, length, count = [], 0, 0
     while length < size:
         body = 8 + 4 * (count * 7 % 13)
         kind = (0x1002, 0x1001, 0x1201)[count % 3]
-        record = struct.pack('<HH', 2 + body, kind) + struct.pack('<I', count & 0xFFF) + bytes(body - 4)
+        first = (body - 4) // 4 if kind == 0x1201 else count & 0xFFF
+        record = struct.pack('<HH', 2 + body, kind) + struct.pack('<I', first) + bytes(body - 4)
         parts.append(record)
         length += len(record)
         count += 1
@@ -19,8 +20,9 @@ def records(size):
 
 
 def tpi(body, count):
-    """A TPI stream of these record bytes."""
-    return struct.pack('<5I', 20040203, 56, 0x1000, 0x1000 + count, len(body)) + bytes(36) + body
+    """A TPI stream of these record bytes, without hashes (their keys have four bytes)."""
+    hashes = struct.pack('<HHII', 0xFFFF, 0xFFFF, 4, 0x1000) + bytes(24)
+    return struct.pack('<5I', 20040203, 56, 0x1000, 0x1000 + count, len(body)) + hashes + body
 
 
 def pdb(stream, order=lambda blocks: blocks):
