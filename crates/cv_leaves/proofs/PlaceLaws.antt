@@ -41,6 +41,16 @@ apart_within : (from : ℕ) (ps : List ℕ) (end other : ℕ) → Apart from ps 
 apart_within from [] end other apart each le = le
 apart_within from (p ∷ ps) end other apart each le = (apart.0, apart_within (p + 4) ps end other apart.1 each.1 each.0)
 
+-- places end before their end
+pub ends_behind : (from : ℕ) (ps : List ℕ) (end : ℕ) → Apart from ps end → from ≤ end
+ends_behind from [] end apart = apart
+ends_behind from (p ∷ ps) end apart = omega (arith, apart.0, ends_behind (p + 4) ps end apart.1)
+
+-- each of them lies within so many bytes
+all_fit : (from : ℕ) (ps : List ℕ) (end len : ℕ) → end + 4 ≤ len → Apart from ps end → AllByRecursion (λ p. p + 8 ≤ len) ps
+all_fit from [] end len le apart = tt
+all_fit from (p ∷ ps) end len le apart = (omega (arith, le, ends_behind (p + 4) ps end apart.1), all_fit (p + 4) ps end len le apart.1)
+
 -- p is one of these places
 abbrev pub Among : ℕ → List ℕ → Type 0
 Among p [] = ⊥
@@ -59,11 +69,7 @@ among p qs contains = among_at p qs contains.0 contains.1 contains.2
 -- each of them ends before the end
 pub among_inside : (p from : ℕ) (qs : List ℕ) (end : ℕ) → Apart from qs end → Among p qs → (from ≤ p) × (p + 4 ≤ end)
 among_inside p from [] end apart in_qs = absurd in_qs
-among_inside p from (q ∷ qs) end apart (inl is) = (omega (arith, apart.0, is), omega (arith, is, end_behind (q + 4) qs end apart.1))
-  where
-    end_behind : (from : ℕ) (qs : List ℕ) (end : ℕ) → Apart from qs end → from ≤ end
-    end_behind from [] end apart = apart
-    end_behind from (q ∷ qs) end apart = omega (arith, apart.0, end_behind (q + 4) qs end apart.1)
+among_inside p from (q ∷ qs) end apart (inl is) = (omega (arith, apart.0, is), omega (arith, is, ends_behind (q + 4) qs end apart.1))
 among_inside p from (q ∷ qs) end apart (inr in_qs) = let later = among_inside p (q + 4) qs end apart.1 in_qs in (omega (arith, apart.0, later.0), later.1)
 
 -- ---- the table
@@ -148,6 +154,11 @@ record_apart Members body fixed others apart each has = apart_append 0 fixed 0 o
 -- the places of a record rise, are four bytes apart, and lie within its body
 pub places_apart : (r places : List ℕ) → HasPlaces r places → Apart 0 places (length (body_of r))
 places_apart r places has = rw has.places_are (record_apart has.leaf.rest (body_of r) has.leaf.places has.others (fixed_apart (kind_of r) has.leaf has.kind) has.fixed has.rest)
+
+-- the bytes of each place of a record lie within it
+pub places_fit : (r places : List ℕ) → 4 ≤ length r → HasPlaces r places → AllByRecursion (λ p. p + 8 ≤ length r) places
+unfolding body_of
+places_fit r places long has = all_fit 0 places (length (body_of r)) (length r) (omega (arith, length-drop 4 r)) (places_apart r places has)
 
 -- ---- lists that fill the body
 

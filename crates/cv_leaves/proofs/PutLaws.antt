@@ -1,6 +1,6 @@
 -- A number that is written into a text: what it leaves as it is.
 use Rattle.std.proofs.Common.{◌≡◌, ◌<◌, ◌≤◌, ◌+◌, ◌^◌, ◌++◌, ℕ, List, length, take, drop, get_or, refl, sym, ap, arith, ◌∙◌}
-use Rattle.std.proofs.lemmas.List.{append_assoc, length-append, length-take, length-drop, get_or_append_left, get_or-take, get_or-drop, drop-drop, take-append-le, drop-append-le, drop_at}
+use Rattle.std.proofs.lemmas.List.{append_assoc, length-append, length-take, length-drop, get_or_append_left, get_or-take, get_or-drop, drop-drop, take-append-le, drop-append-le, drop_at, take-take, take-append-drop}
 use Rattle.std.proofs.Math.Seq.{take-append-add, drop-append-add}
 use Rattle.byte_fields.specs.Number.{number_at, four_bytes}
 use Rattle.byte_fields.proofs.NumberLaws.{length-four_bytes, number_at-drop}
@@ -85,3 +85,30 @@ put_read x at n inside small =
 -- also in the body of a record
 pub body_read : (r : List ℕ) (place n : ℕ) → place + 8 ≤ length r → n < 2 ^ 32 → number_at 4 (body_of (put_four r (4 + place) n)) place ≡ n
 body_read r place n inside small = number_in_body (put_four r (4 + place) n) place ∙ put_read r (4 + place) n (omega (arith, inside)) small
+
+-- written twice at one place, the second number stays
+pub put_twice : (x : List ℕ) (p m n : ℕ) → p + 4 ≤ length x → put_four (put_four x p m) p n ≡ put_four x p n
+unfolding put_four
+put_twice x p m n inside =
+    let long : length (take p x) ≡ p = omega (arith, length-take p x) in
+    let rest = four_bytes m ++ drop (p + 4) x in
+    let front : take p (take p x ++ rest) ≡ take p x = take-append-le p (take p x) rest (omega (arith, long)) ∙ take-take p p x (omega arith) in
+    let behind : drop (p + 4) (take p x ++ rest) ≡ drop (p + 4) x =
+    sym (drop-drop 4 p (take p x ++ rest)) ∙ ap (λ (y : List ℕ). drop 4 y) (drop_at (take p x) rest p long) ∙ drop_at (four_bytes m) (drop (p + 4) x) 4 (length-four_bytes m) in
+    rw (front, behind) refl
+
+-- written at two places, in either order
+pub put_swap : (x : List ℕ) (p q m n : ℕ) → p + 4 ≤ q → q + 4 ≤ length x → put_four (put_four x q m) p n ≡ put_four (put_four x p n) q m
+put_swap x p q m n apart inside =
+    let a = take q x in
+    let b = drop q x in
+    let long : length a ≡ q = omega (arith, length-take q x) in
+    let near : p + 4 ≤ length a = omega (arith, long) in
+    let whole : x ≡ a ++ b = sym (take-append-drop q x) in
+    let at : q ≡ length a + 0 = omega (arith, long) in
+    let after : q ≡ length (put_four a p n) + 0 = omega (arith, long, put_len a p n near) in
+    let second : put_four x q m ≡ a ++ put_four b 0 m = ap (λ (y : List ℕ). put_four y q m) whole ∙ ap (λ (k : ℕ). put_four (a ++ b) k m) at ∙ put_back a b 0 m in
+    let first : put_four x p n ≡ put_four a p n ++ b = ap (λ (y : List ℕ). put_four y p n) whole ∙ put_front a b p n near in
+    ap (λ (y : List ℕ). put_four y p n) second
+    ∙ put_front a (put_four b 0 m) p n near
+    ∙ sym (ap (λ (y : List ℕ). put_four y q m) first ∙ ap (λ (k : ℕ). put_four (put_four a p n ++ b) k m) after ∙ put_back (put_four a p n) b 0 m)

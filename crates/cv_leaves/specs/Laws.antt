@@ -1,5 +1,5 @@
 -- What holds of the places of every record.
-use Rattle.std.specs.Prelude.{ℕ, ◌≡◌, ◌+◌, ◌^◌, ◌<◌, List, length}
+use Rattle.std.specs.Prelude.{ℕ, ◌≡◌, ◌+◌, ◌^◌, ◌<◌, ◌≤◌, List, length}
 use Rattle.std.specs.List.{concat}
 use Rattle.byte_fields.specs.Number.{number_at}
 use Rattle.cv_leaves.specs.Checks.{body_of}
@@ -22,6 +22,10 @@ FillKeeps = (r places ns : List ℕ) → HasPlaces r places → HasPlaces (fill 
 -- a record with zeros at its places keeps the places
 abbrev pub BlankKeeps : Type 0
 BlankKeeps = (r places : List ℕ) → HasPlaces r places → HasPlaces (blank r places) places
+
+-- a record with zeros at its places stays as it is where they are written again
+abbrev pub BlankStays : Type 0
+BlankStays = (r places : List ℕ) → HasPlaces r places → 4 ≤ length r → blank (blank r places) places ≡ blank r places
 
 -- a number that is written at a place is read there again
 abbrev pub WrittenIsRead : Type 0

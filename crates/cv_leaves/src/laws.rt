@@ -2,7 +2,7 @@
 //!
 //! Each function here does nothing: its contract is the law.
 
-ghost use Rattle.cv_leaves.specs.Laws.{OnePlaces, PlacesApart, FillKeeps, BlankKeeps, WrittenIsRead, MethodsFill, MembersFill};
+ghost use Rattle.cv_leaves.specs.Laws.{OnePlaces, PlacesApart, FillKeeps, BlankKeeps, BlankStays, WrittenIsRead, MethodsFill, MembersFill};
 
 /// A record has one list of places.
 pub fn one_list_of_places()
@@ -23,6 +23,11 @@ pub fn filling_keeps_the_places()
 /// With zeros at its places, a record keeps the places.
 pub fn blanking_keeps_the_places()
     ensures { BlankKeeps }
+{}
+
+/// Zeros that are written again at the places of a record change nothing.
+pub fn blanking_again_changes_nothing()
+    ensures { BlankStays }
 {}
 
 /// A type index that is written at a place is read there again.

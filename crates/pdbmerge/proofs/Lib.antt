@@ -3,5 +3,4 @@ pub mod RecordsLaws
 pub mod StreamsLaws
 pub mod TextLaws
 pub mod IndexLaws
-pub mod RecordLaws
 pub mod TypesLaws

@@ -118,14 +118,15 @@ pub struct Records<'a, A: Allocator = Global> {
 }
 
 impl<'a, A: Allocator> Model for Records<'a, A> {
-    ghost use Rattle.std.specs.Prelude.{List, ℕ};
+    ghost use Rattle.std.specs.Prelude.{List, ℕ, ◌≡◌};
+    ghost use Rattle.std.specs.List.{concat};
     ghost use Rattle.tpi_records.specs.Records.{IsTable, records_at};
 
     ghost Value = { List (List ℕ) };
 
     ghost view = { λ r. records_at r.bytes.now r.starts.items };
 
-    ghost invariant = { λ r. IsTable r.bytes.now r.starts.items };
+    ghost invariant = { λ r. IsTable r.bytes.now r.starts.items × (concat (records_at r.bytes.now r.starts.items) ≡ r.bytes.now) };
 }
 
 impl<'a, A: Allocator + Copy> Records<'a, A> {
@@ -159,6 +160,13 @@ impl<'a, A: Allocator> Records<'a, A> {
         ensures few { result < 2 ^ 30 }
     {
         self.starts.len()
+    }
+
+    /// How many bytes the records have together, their length fields included.
+    pub fn bytes_len(&self) -> u32
+        ensures { result ≡ length (concat self.now) }
+    {
+        self.bytes.len() as u32
     }
 
     /// Whether there are no records.

@@ -1,5 +1,5 @@
 use Rattle.std.proofs.Common.{◌≡◌, refl, rules}
-use Rattle.pdbmerge.proofs.RecordLaws.{places_fit}
+use Rattle.cv_leaves.proofs.PlaceLaws.{places_fit}
 use Rattle.pdbmerge.proofs.types.push_references.Goals as goal
 
 pub loop-place-init : goal.loop-place-init

@@ -1,0 +1,4 @@
+pub mod ReferenceLaws
+pub mod TreeLaws
+pub mod DepthLaws
+pub mod CheckLaws

@@ -1,0 +1,134 @@
+-- Exactly one tree stands at each position of records that have a rank, and it is closed.
+use Rattle.std.proofs.Common.{◌≡◌, ◌≤◌, ℕ, zero, suc, ◌-◌, ◌<◌, List, [], ◌∷◌, length, get_or, refl, sym, ap, ◌∙◌, subst, arith, inl, inr}
+use Rattle.std.proofs.lemmas.Bool.{cases_lt}
+use Rattle.std.specs.List.{AllByRecursion}
+use Rattle.cv_leaves.specs.Checks.{places_of}
+use Rattle.cv_leaves.specs.HasPlaces.{IsChecked}
+use Rattle.type_trees.specs.References.{references, blanked}
+use Rattle.type_trees.specs.Tree.{Tree, Branches, tree, no_branch, simple, branch, count, trees_in, IsClosed, AreClosed, Stands, AreBranches, IsType, IsRanked, NamesLower}
+use Rattle.type_trees.specs.Laws.{OneTreeEach, BranchesAreTypes}
+use Rattle.type_trees.proofs.ReferenceLaws.{reference_each, blanked_has, blanked_places, blanked_stays}
+
+-- ---- at most one
+
+mutual
+  -- two trees that stand at one position are one
+  pub one : (records : List (List ℕ)) (i : ℕ) (t u : Tree) → Stands records i t → Stands records i u → t ≡ u
+  one records i (tree b bs) (tree c cs) h k =
+      let e : bs ≡ cs = same records (references (get_or records i [])) bs cs h.2 k.2 in
+      let f : b ≡ c = sym h.1 ∙ k.1 in
+      rw (e, f) refl
+
+  -- the same references have the same branches
+  same : (records : List (List ℕ)) (ns : List ℕ) (bs cs : Branches) → AreBranches records ns bs → AreBranches records ns cs → bs ≡ cs
+  same records ns no_branch no_branch h k = refl
+  same records ns no_branch (simple m cs) h k = let e : ns ≡ k.0 ∷ k.1 = k.2 in absurd cc
+  same records ns no_branch (branch t cs) h k = let e : ns ≡ k.0 ∷ k.1 = k.2 in absurd cc
+  same records ns (simple m bs) no_branch h k = let e : ns ≡ h.0 ∷ h.1 = h.2 in absurd cc
+  same records ns (branch t bs) no_branch h k = let e : ns ≡ h.0 ∷ h.1 = h.2 in absurd cc
+  same records ns (simple m bs) (simple l cs) h k =
+      let e : h.0 ∷ h.1 ≡ k.0 ∷ k.1 = sym h.2 ∙ k.2 in
+      let n : h.0 ≡ k.0 = cc in
+      let rest : h.1 ≡ k.1 = cc in
+      let tail : bs ≡ cs = same records h.1 bs cs h.5 (subst (λ (x : List ℕ). AreBranches records x cs) (sym rest) k.5) in
+      let head : m ≡ l = sym h.4 ∙ n ∙ k.4 in
+      rw (tail, head) refl
+  same records ns (simple m bs) (branch t cs) h k =
+      let e : h.0 ∷ h.1 ≡ k.0 ∷ k.1 = sym h.2 ∙ k.2 in
+      let n : h.0 ≡ k.0 = cc in
+      absurd (omega (arith, n, h.3, k.3))
+  same records ns (branch t bs) (simple l cs) h k =
+      let e : h.0 ∷ h.1 ≡ k.0 ∷ k.1 = sym h.2 ∙ k.2 in
+      let n : h.0 ≡ k.0 = cc in
+      absurd (omega (arith, n, h.3, k.3))
+  same records ns (branch t bs) (branch u cs) h k =
+      let e : h.0 ∷ h.1 ≡ k.0 ∷ k.1 = sym h.2 ∙ k.2 in
+      let n : h.0 ≡ k.0 = cc in
+      let rest : h.1 ≡ k.1 = cc in
+      let tail : bs ≡ cs = same records h.1 bs cs h.5 (subst (λ (x : List ℕ). AreBranches records x cs) (sym rest) k.5) in
+      let head : t ≡ u = one records (h.0 - 0x1000) t u h.4 (subst (λ (x : ℕ). Stands records (x - 0x1000) u) (sym n) k.4) in
+      rw (tail, head) refl
+
+-- ---- at least one
+
+-- the branches of references for each of which, at lower rank, a tree stands
+grown : (records : List (List ℕ)) (rank : ℕ → ℕ) (i : ℕ) (below : (j : ℕ) → j < length records → rank j < rank i → (t : Tree) × Stands records j t) (ns : List ℕ) → AllByRecursion (NamesLower records rank i) ns
+    → (bs : Branches) × AreBranches records ns bs
+grown records rank i below [] h = (no_branch, refl)
+grown records rank i below (n ∷ ns) h =
+    let rest = grown records rank i below ns h.1 in
+    elim (cases_lt n 0x1000) [
+      | inl small ↦ (simple n rest.0, (n, ns, refl, small, refl, rest.1))
+      | inr large ↦ elim h.0 [
+        | inl small ↦ absurd (omega (arith, small, large))
+        | inr lower ↦ let t = below (n - 0x1000) lower.0 lower.1 in (branch t.0 rest.0, (n, ns, refl, large, t.1, rest.1))
+      ]
+    ]
+
+-- a tree at each position of rank below k, by induction on k
+some_below : (records : List (List ℕ)) (rank : ℕ → ℕ) (ranked : IsRanked records rank) (k i : ℕ) → rank i < k → i < length records → (t : Tree) × Stands records i t
+some_below records rank ranked zero i lt inside = absurd (omega (arith, lt))
+some_below records rank ranked (suc k) i lt inside =
+    let below : (j : ℕ) → j < length records → rank j < rank i → (t : Tree) × Stands records j t = λ j in_records l. some_below records rank ranked k j (omega (arith, l, lt)) in_records in
+    let bs = grown records rank i below (references (get_or records i [])) (ranked i inside) in
+    (tree (blanked (get_or records i [])) bs.0, (inside, refl, bs.1))
+
+-- a tree at each position of records that name lower ones
+pub tree_there : (records : List (List ℕ)) (i : ℕ) → IsRanked records (λ k. k) → i < length records → (t : Tree) × Stands records i t
+tree_there records i ranked inside = some_below records (λ k. k) ranked (suc i) i (omega arith) inside
+
+-- ---- closed
+
+-- a record of a list of which each holds
+pub at_position : (P : List ℕ → Type 0) (records : List (List ℕ)) (i : ℕ) → AllByRecursion P records → i < length records → P (get_or records i [])
+at_position P [] i each inside = absurd (omega (arith, inside))
+at_position P (r ∷ rs) zero each inside = each.0
+at_position P (r ∷ rs) (suc i) each inside = at_position P rs i each.1 (omega (arith, inside))
+
+-- there is a branch for each reference
+branch_each : (records : List (List ℕ)) (ns : List ℕ) (bs : Branches) → AreBranches records ns bs → length ns ≡ count bs
+branch_each records ns no_branch h = ap length h
+branch_each records ns (simple m bs) h = omega (arith, branch_each records h.1 bs h.5, ap length h.2)
+branch_each records ns (branch t bs) h = omega (arith, branch_each records h.1 bs h.5, ap length h.2)
+
+-- a record with at least four bytes that has places
+abbrev IsWhole : List ℕ → Type 0
+IsWhole r = IsChecked r × (4 ≤ length r)
+
+mutual
+  -- a tree that stands in such records is closed
+  closed : (records : List (List ℕ)) (i : ℕ) (t : Tree) → AllByRecursion IsWhole records → Stands records i t → IsClosed t
+  closed records i (tree b bs) each h =
+      let r = get_or records i [] in
+      let whole = at_position IsWhole records i each h.0 in
+      let many : length (places_of (blanked r)) ≡ count bs = ap length (blanked_places r whole.0) ∙ sym (reference_each r) ∙ branch_each records (references r) bs h.2 in
+      subst (λ (y : List ℕ). IsClosed (tree y bs)) h.1 ((places_of r, blanked_has r whole.0), blanked_stays r whole.0 whole.1, many, all_closed records (references r) bs each h.2)
+
+  -- and so are its branches
+  all_closed : (records : List (List ℕ)) (ns : List ℕ) (bs : Branches) → AllByRecursion IsWhole records → AreBranches records ns bs → AreClosed bs
+  all_closed records ns no_branch each h = tt
+  all_closed records ns (simple m bs) each h = (subst (λ (k : ℕ). k < 0x1000) h.4 h.3, all_closed records h.1 bs each h.5)
+  all_closed records ns (branch t bs) each h = (closed records (h.0 - 0x1000) t each h.4, all_closed records h.1 bs each h.5)
+
+-- ---- the laws
+
+-- records that have places and four bytes each
+both : (records : List (List ℕ)) → AllByRecursion IsChecked records → AllByRecursion (λ r. 4 ≤ length r) records → AllByRecursion IsWhole records
+both [] checked long = tt
+both (r ∷ rs) checked long = ((checked.0, long.0), both rs checked.1 long.1)
+
+-- exactly one tree stands at each position, and it is closed
+pub one_tree_each : OneTreeEach
+one_tree_each records rank checked long ranked i inside =
+    let t = some_below records rank ranked (suc (rank i)) i (omega arith) inside in
+    (t.0, closed records i t.0 (both records checked long) t.1, t.1, λ u k. one records i t.0 u t.1 k)
+
+-- the branches stand
+named_stand : (records : List (List ℕ)) (ns : List ℕ) (bs : Branches) → AreBranches records ns bs → AllByRecursion (IsType records) (trees_in bs)
+named_stand records ns no_branch h = tt
+named_stand records ns (simple m bs) h = named_stand records h.1 bs h.5
+named_stand records ns (branch t bs) h = ((h.0 - 0x1000, h.4), named_stand records h.1 bs h.5)
+
+-- the branches of a type are types
+pub branches_are_types : BranchesAreTypes
+branches_are_types records (tree b bs) (i, stands) = named_stand records (references (get_or records i [])) bs stands.2

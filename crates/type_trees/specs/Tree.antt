@@ -1,0 +1,67 @@
+-- Closed trees, and where they stand in a list of records. The record at position i has the type index 0x1000 + i.
+use Rattle.std.specs.Prelude.{ℕ, suc, ◌≡◌, ◌+◌, ◌-◌, ◌<◌, ◌≤◌, ◌⊎◌, List, [], ◌∷◌, length, get_or}
+use Rattle.std.specs.List.{AllByRecursion}
+use Rattle.cv_leaves.specs.Checks.{places_of}
+use Rattle.cv_leaves.specs.HasPlaces.{IsChecked}
+use Rattle.type_trees.specs.References.{references, blanked}
+
+mutual
+  -- a type: a blank record, and a branch for each of its places
+  pub data Tree : Type 0 where
+    tree : List ℕ → Branches → Tree
+
+  -- branches in the order of places, each a simple number or a tree
+  pub data Branches : Type 0 where
+    no_branch : Branches
+    simple : ℕ → Branches → Branches
+    branch : Tree → Branches → Branches
+
+-- the branches of a tree
+abbrev pub branches_of : Tree → Branches
+branches_of (tree b bs) = bs
+
+-- how many branches there are
+abbrev pub count : Branches → ℕ
+count no_branch = 0
+count (simple n bs) = suc (count bs)
+count (branch t bs) = suc (count bs)
+
+-- the branches that are trees
+abbrev pub trees_in : Branches → List Tree
+trees_in no_branch = []
+trees_in (simple n bs) = trees_in bs
+trees_in (branch t bs) = t ∷ trees_in bs
+
+abbrev mutual
+  -- the tree is closed: a record that has places, with zeros there, and a branch for each, a number below 0x1000 or a closed tree
+  pub IsClosed : Tree → Type 0
+  IsClosed (tree b bs) = IsChecked b × (blanked b ≡ b) × (length (places_of b) ≡ count bs) × AreClosed bs
+
+  -- so are the trees among the branches, and the numbers are simple
+  pub AreClosed : Branches → Type 0
+  AreClosed no_branch = Unit {0}
+  AreClosed (simple n bs) = (n < 0x1000) × AreClosed bs
+  AreClosed (branch t bs) = IsClosed t × AreClosed bs
+
+abbrev mutual
+  -- at position i of the records stands this tree: the record with zeros at its places, and its branches
+  pub Stands : List (List ℕ) → ℕ → Tree → Type 0
+  Stands records i (tree b bs) = (i < length records) × (blanked (get_or records i []) ≡ b) × AreBranches records (references (get_or records i [])) bs
+
+  -- each reference below 0x1000 is a simple branch, and every other one names a position at which its branch stands
+  pub AreBranches : List (List ℕ) → List ℕ → Branches → Type 0
+  AreBranches records ns no_branch = ns ≡ []
+  AreBranches records ns (simple m bs) = (n : ℕ) × (rest : List ℕ) × (ns ≡ n ∷ rest) × (n < 0x1000) × (n ≡ m) × AreBranches records rest bs
+  AreBranches records ns (branch t bs) = (n : ℕ) × (rest : List ℕ) × (ns ≡ n ∷ rest) × (0x1000 ≤ n) × Stands records (n - 0x1000) t × AreBranches records rest bs
+
+-- the tree is one of the types of these records: it stands at one of their positions
+abbrev pub IsType : List (List ℕ) → Tree → Type 0
+IsType records t = (i : ℕ) × Stands records i t
+
+-- the reference is simple, or names a record of lower rank than the one at i
+abbrev pub NamesLower : List (List ℕ) → (ℕ → ℕ) → ℕ → ℕ → Type 0
+NamesLower records rank i n = (n < 0x1000) ⊎ ((n - 0x1000 < length records) × (rank (n - 0x1000) < rank i))
+
+-- each record has a higher rank than those that it names
+abbrev pub IsRanked : List (List ℕ) → (ℕ → ℕ) → Type 0
+IsRanked records rank = (i : ℕ) → i < length records → AllByRecursion (NamesLower records rank i) (references (get_or records i []))
