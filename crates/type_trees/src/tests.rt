@@ -15,7 +15,7 @@ fn stream_of<A: Allocator>(alloc: A, count: u32, records: &[u8]) -> Result<Vec<u
         56,
         0x1000,
         0x1000u32.wrapping_add(count),
-        records.len() as u32,
+        u32::try_from(records.len()).unwrap_or(0),
     ] {
         stream.extend_from_slice(&number.to_le_bytes())?;
     }

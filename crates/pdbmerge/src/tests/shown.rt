@@ -325,6 +325,7 @@ const LEAVES: [Shown; 7] = [
 /// The sample with these bytes as its one type record.
 fn sample_with(alloc: Global, len: u8, bytes: &[u8]) -> Result<Vec<u8>, Fail> {
     let mut file = sample(alloc)?;
+    put(&mut file, 2060, &[len.saturating_add(56)]);
     put(&mut file, 3084, &[1, 0x10, 0, 0, len]);
     put(&mut file, 3128, bytes);
     Ok(file)
@@ -377,7 +378,7 @@ fn types_of_the_sample(rt: HostRuntime) -> Result<(), Fail> {
     Ok(())
 }
 
-const TYPES: [Shown; 5] = [
+const TYPES: [Shown; 6] = [
     // a structure with its name
     (
         24,
@@ -392,6 +393,24 @@ const TYPES: [Shown; 5] = [
     ),
     // neither types that it names nor a name
     (8, b"\x06\0\x01\x12\0\0\0\0", "0x1000 LF_ARGLIST 8\n"),
+    // a field list with a member of each kind
+    (
+        148,
+        b"\x92\0\x03\x12\
+          \x00\x14\x03\0\x74\0\0\0\0\0\xf2\xf1\
+          \x01\x14\x03\0\x74\0\0\0\x74\0\0\0\0\0\x04\0\
+          \x02\x14\x03\0\x74\0\0\0\x74\0\0\0\0\0\x04\0\
+          \x04\x14\0\0\x74\0\0\0\
+          \x09\x14\0\0\x74\0\0\0\
+          \x02\x15\x03\0\0\0\x41\0\
+          \x0d\x15\x03\0\x74\0\0\0\0\0\x42\0\
+          \x0e\x15\x03\0\x74\0\0\0\x43\0\xf2\xf1\
+          \x0f\x15\x02\0\x74\0\0\0\x44\0\xf2\xf1\
+          \x10\x15\0\0\x74\0\0\0\x45\0\xf2\xf1\
+          \x11\x15\x13\0\x74\0\0\0\0\0\0\0\x46\0\xf2\xf1\
+          \x1a\x15\x03\0\x74\0\0\0\0\0\xf2\xf1",
+        "0x1000 LF_FIELDLIST 148 0x74 0x74 0x74 0x74 0x74 0x74 0x74 0x74 0x74 0x74 0x74 0x74 0x74\n",
+    ),
     (4, b"\x02\0\x0a\x15", "index 0x1000: 25 Leaf 0x150a"),
     (8, b"\x06\0\x01\x12\x01\0\0\0", "index 0x1000: 26 Body 4"),
 ];
