@@ -1,5 +1,5 @@
 -- Map blocks, and the blocks between them.
-use Rattle.std.proofs.Common.{◌≡◌, ◌⊎◌, ℕ, zero, suc, ◌+◌, ◌-◌, ◌*◌, ◌/◌, ◌%◌, ◌<◌, true, false, not, [], ◌∷◌, ◌++◌, length, map, refl, sym, ap, ◌∙◌, subst, arith, inl, inr}
+use Rattle.std.proofs.Common.{◌≡◌, ◌⊎◌, ℕ, zero, suc, ◌+◌, ◌-◌, ◌*◌, ◌/◌, ◌%◌, ◌<◌, ◌≤◌, true, false, not, [], ◌∷◌, ◌++◌, length, map, refl, sym, ap, ◌∙◌, subst, arith, inl, inr}
 use Rattle.std.specs.List.{range_with_len, filter}
 use Rattle.std.proofs.lemmas.Nat.{div-mul-add, mod-mul-add, div-add-mod', mod_below}
 use Rattle.std.proofs.lemmas.Bool.{cases_lt}
@@ -39,7 +39,6 @@ map_at b q p lt h = rw (mod-mul-add q b p lt) (grind (arith, nat_tests))
 
 -- the interval of the j-th data block, and its place among the interval's data blocks
 split_at : (b j : ℕ) → 3 < b → (j ≡ j / (b - 2) * (b - 2) + j % (b - 2)) × (j % (b - 2) < b - 2)
--- the interval of the j-th data block, and its place among the interval's data blocks
 split_at b j big = (omega (arith, div-add-mod' j (b - 2)), mod_below j (b - 2) (omega arith))
 
 -- no data block is a map block
@@ -58,10 +57,10 @@ nth_is_data b j big =
     ]
 
 -- from one data block to the next it is one step, or three over two map blocks
-abbrev Next : ℕ → ℕ → ℕ → Type 0
+abbrev pub Next : ℕ → ℕ → ℕ → Type 0
 Next b a c = (c ≡ a + 1) ⊎ ((c ≡ a + 3) × (is_map_block b (a + 1) ≡ true) × (is_map_block b (a + 2) ≡ true))
 
-next_nth : (b j : ℕ) → 3 < b → Next b (nth_block b j) (nth_block b (j + 1))
+pub next_nth : (b j : ℕ) → 3 < b → Next b (nth_block b j) (nth_block b (j + 1))
 next_nth b j big =
     let q = j / (b - 2) in
     let r = j % (b - 2) in
@@ -85,19 +84,18 @@ next_nth b j big =
     ]
 
 -- one number more
-range_more : (n : ℕ) → range_with_len 0 (n + 1) ≡ range_with_len 0 n ++ n ∷ []
--- one number more
+pub range_more : (n : ℕ) → range_with_len 0 (n + 1) ≡ range_with_len 0 n ++ n ∷ []
 range_more n = sym (map-id (range_with_len 0 (n + 1))) ∙ map-range_with_len_more (λ x. x) 0 n n (omega arith) ∙ rw (map-id (range_with_len 0 n)) refl
 
 -- a data block is one more
-data_more : (b n : ℕ) → is_map_block b n ≡ false → data_blocks b (n + 1) ≡ data_blocks b n ++ n ∷ []
+pub data_more : (b n : ℕ) → is_map_block b n ≡ false → data_blocks b (n + 1) ≡ data_blocks b n ++ n ∷ []
 unfolding data_blocks
 data_more b n e =
     let f = λ (k : ℕ). not (is_map_block b k) in
     ap (filter f) (range_more n) ∙ filter-append f (range_with_len 0 n) (n ∷ []) ∙ rw e refl
 
 -- a map block is none
-data_same : (b n : ℕ) → is_map_block b n ≡ true → data_blocks b (n + 1) ≡ data_blocks b n
+pub data_same : (b n : ℕ) → is_map_block b n ≡ true → data_blocks b (n + 1) ≡ data_blocks b n
 unfolding data_blocks
 data_same b n e =
     let f = λ (k : ℕ). not (is_map_block b k) in
@@ -105,7 +103,6 @@ data_same b n e =
 
 -- the step to the next data block
 below_more : (b j : ℕ) → 3 < b → data_blocks b (nth_block b j) ≡ map (nth_block b) (range_with_len 0 j) → data_blocks b (nth_block b (j + 1)) ≡ map (nth_block b) (range_with_len 0 (j + 1))
--- the step to the next data block
 below_more b j big before =
     let a = nth_block b j in
     let here : data_blocks b (a + 1) ≡ map (nth_block b) (range_with_len 0 (j + 1)) =
@@ -131,6 +128,51 @@ data_below b (suc j) big =
 -- they are j
 pub rank_is : (b j : ℕ) → 3 < b → length (data_blocks b (nth_block b j)) ≡ j
 rank_is b j big = ap length (data_below b j big) ∙ length-map-range_with_len (nth_block b) 0 j
+
+-- ---- data blocks rise
+
+nth_next : (b j : ℕ) → 3 < b → nth_block b j < nth_block b (j + 1)
+nth_next b j big = elim (next_nth b j big) [ inl one ↦ omega (arith, one) | inr over ↦ omega (arith, over.0) ]
+
+nth_rises : (b i k : ℕ) → 3 < b → nth_block b i + k ≤ nth_block b (i + k)
+nth_rises b i zero big = let e : i + 0 ≡ i = omega arith in rw e (omega arith)
+nth_rises b i (suc k) big = let e : i + suc k ≡ i + k + 1 = omega arith in rw e (omega (arith, nth_rises b i k big, nth_next b (i + k) big))
+
+-- a later data block has a greater number
+pub nth_monotone : (b i j : ℕ) → 3 < b → i < j → nth_block b i < nth_block b j
+nth_monotone b i j big lt = let e : j ≡ i + (j - i) = omega arith in rw e (omega (arith, nth_rises b i (j - i) big))
+
+-- the first one is the superblock's
+pub nth_zero : (b : ℕ) → 3 < b → nth_block b 0 ≡ 0
+nth_zero b big = nth_first b 0 0 big (omega arith) ∙ omega arith
+
+-- at least as many blocks as data blocks stand in front of one
+pub nth_ge : (b j : ℕ) → 3 < b → j ≤ nth_block b j
+nth_ge b j big = let e : j ≡ 0 + j = omega arith in rw e (omega (arith, nth_rises b 0 j big))
+
+-- at most two map blocks stand in front of each data block
+pub nth_few : (b j : ℕ) → 3 < b → nth_block b j ≤ 3 * j
+nth_few b zero big = omega (arith, nth_zero b big)
+nth_few b (suc j) big =
+    let one : suc j ≡ j + 1 = omega arith in
+    elim (next_nth b j big) [
+      | inl next ↦ rw one (omega (arith, next, nth_few b j big))
+      | inr over ↦ rw one (omega (arith, over.0, nth_few b j big))
+    ]
+
+-- no other block than a map block is left out
+pub nth_onto : (b k : ℕ) → 3 < b → is_map_block b k ≡ false → (j : ℕ) × (nth_block b j ≡ k)
+nth_onto b k big e =
+    let q = k / b in
+    let p = k % b in
+    let whole : k ≡ q * b + p = omega (arith, div-add-mod' k b) in
+    let lt : p < b = mod_below k b (omega arith) in
+    elim (cases_lt 0 p) [
+      | inl pos ↦
+          let high : 2 < p = grind (arith, nat_tests) in
+          (q * (b - 2) + (p - 2), nth_other b q (p - 2) (q * (b - 2) + (p - 2)) big (omega arith) (omega arith) refl ∙ omega arith)
+      | inr none ↦ (q * (b - 2), nth_first b q (q * (b - 2)) big refl ∙ omega arith)
+    ]
 
 -- every block size leaves room for more than the map blocks
 pub big_enough : (b : ℕ) → IsBlockSize b → 3 < b

@@ -1,2 +1,4 @@
 pub mod RangeLaws
 pub mod PieceLaws
+pub mod ImageLaws
+pub mod BackLaws

@@ -17,22 +17,25 @@ use Rattle.msf_streams.proofs.RangeLaws.{map-range_with_len_parts, map-same_rang
 
 -- ---- how many blocks so many bytes need
 
--- a block has bytes, and what a directory can list needs few of them
+-- a block has bytes enough for a superblock and whole numbers of four bytes, and what a directory can list needs few of them
 pub record SizeFacts (block_size : ℕ) : Type 0 where
   pub some : 0 < block_size
+  pub least : 512 ≤ block_size
+  pub most : block_size ≤ 4096
+  pub quarters : 4 * (block_size / 4) ≡ block_size
   pub few : (bytes : ℕ) → bytes < 2 ^ 32 → blocks_for block_size bytes ≤ 2 ^ 23
 
 -- these hold of each size that a block may have
 pub size_facts : (block_size : ℕ) → IsBlockSize block_size → SizeFacts block_size
 size_facts block_size size = elim size [
-  | inl e ↦ rw e (record { some = omega arith; few = λ bytes short. omega arith })
-  | inr (inl e) ↦ rw e (record { some = omega arith; few = λ bytes short. omega arith })
-  | inr (inr (inl e)) ↦ rw e (record { some = omega arith; few = λ bytes short. omega arith })
-  | inr (inr (inr e)) ↦ rw e (record { some = omega arith; few = λ bytes short. omega arith })
+  | inl e ↦ rw e (record { some = omega arith; least = omega arith; most = omega arith; quarters = omega arith; few = λ bytes short. omega arith })
+  | inr (inl e) ↦ rw e (record { some = omega arith; least = omega arith; most = omega arith; quarters = omega arith; few = λ bytes short. omega arith })
+  | inr (inr (inl e)) ↦ rw e (record { some = omega arith; least = omega arith; most = omega arith; quarters = omega arith; few = λ bytes short. omega arith })
+  | inr (inr (inr e)) ↦ rw e (record { some = omega arith; least = omega arith; most = omega arith; quarters = omega arith; few = λ bytes short. omega arith })
 ]
 
 -- only no bytes need no block
-none_for : (block_size bytes : ℕ) → 0 < block_size → 0 ≡ blocks_for block_size bytes → bytes ≡ 0
+pub none_for : (block_size bytes : ℕ) → 0 < block_size → 0 ≡ blocks_for block_size bytes → bytes ≡ 0
 none_for block_size bytes some e = elim (cases_lt 0 bytes) [
   | inl more ↦ absurd (omega (arith, e, le-div 1 (bytes + block_size - 1) block_size some (omega arith)))
   | inr none ↦ omega arith
@@ -45,7 +48,7 @@ one_more_for block_size bytes some le =
     rw e ((next_block block_size (bytes - block_size + block_size - 1) some).0)
 
 -- what fits in a block needs no second one
-at_most_one_for : (block_size bytes : ℕ) → 0 < block_size → bytes ≤ block_size → blocks_for block_size bytes ≤ 1
+pub at_most_one_for : (block_size bytes : ℕ) → 0 < block_size → bytes ≤ block_size → blocks_for block_size bytes ≤ 1
 at_most_one_for block_size bytes some le =
     let below : (bytes + block_size - 1) / block_size < 2 = div_below (bytes + block_size - 1) block_size 2 some (omega arith) in omega arith
 
@@ -56,7 +59,7 @@ abbrev pub IsWhole : List ℕ → ℕ → ℕ → Type 0
 IsWhole file block_size block = (block + 1) * block_size ≤ length file
 
 -- the first bytes of a text stand in its first block
-gathered_first : (file : List ℕ) (block_size block n : ℕ) (blocks : List ℕ) → n ≤ block_size → IsWhole file block_size block
+pub gathered_first : (file : List ℕ) (block_size block n : ℕ) (blocks : List ℕ) → n ≤ block_size → IsWhole file block_size block
     → map (λ i. get_or file (get_or (block ∷ blocks) (i / block_size) 0 * block_size + i % block_size) 0) (range_with_len 0 n) ≡ take n (drop (block * block_size) file)
 gathered_first file block_size block n blocks le fits =
     map-same_ranges (λ i. get_or file (get_or (block ∷ blocks) (i / block_size) 0 * block_size + i % block_size) 0) (λ i. get_or file (block * block_size + i) 0) 0 0 n (λ i below.

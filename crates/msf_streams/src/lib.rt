@@ -24,6 +24,8 @@
 
 mod by_block;
 mod fault;
+mod image;
+pub mod laws;
 mod lent;
 #[cfg(test)]
 mod tests;
@@ -31,5 +33,6 @@ mod whole;
 
 pub use by_block::pieces;
 pub use fault::StreamFault;
+pub use image::image_len;
 pub use lent::Pieces;
 pub use whole::gather;

@@ -1,0 +1,77 @@
+//! How long the image of some texts is.
+
+ghost use Rattle.std.specs.Prelude.{◌≡◌, ◌+◌, ◌*◌, ◌/◌, ◌^◌, ◌<◌, ◌≤◌, IfSome, IfNone};
+ghost use Rattle.msf_blocks.specs.BlockNumber.{IsBlockSize, blocks_for};
+ghost use Rattle.msf_streams.specs.Image.{Fits, blocks_of_all, directory_len, directory_count, image_blocks, image_length};
+
+use msf_blocks::nth_block;
+
+/// The size of a block in the files that are written, in bytes.
+pub(crate) const BLOCK_SIZE: u32 = 4096;
+
+/// How many blocks the streams of these sizes take.
+#[tactic(auto, using(crate::proofs::PieceLaws::size_facts))]
+pub(crate) fn stream_blocks(block_size: u32, sizes: &[u32; 5]) -> u32
+    requires { IsBlockSize block_size }
+    ensures value { result ≡ blocks_of_all block_size sizes.now }
+    ensures few { result ≤ 5 * 2 ^ 23 }
+{
+    let mut blocks = 0;
+    for size in sizes {
+        blocks += size.div_ceil(block_size);
+    }
+    blocks
+}
+
+/// How long the directory is that lists streams of so many blocks.
+pub(crate) fn directory_len(blocks: u32) -> u32
+    requires { blocks ≤ 5 * 2 ^ 23 }
+    ensures { result ≡ 4 * (6 + blocks) }
+{
+    4 * (6 + blocks)
+}
+
+/// How many blocks the directory takes that lists streams of so many blocks.
+pub(crate) fn directory_blocks(block_size: u32, blocks: u32) -> u32
+    requires size { IsBlockSize block_size }
+    requires few { blocks ≤ 5 * 2 ^ 23 }
+    ensures { result ≡ blocks_for block_size (4 * (6 + blocks)) }
+{
+    directory_len(blocks).div_ceil(block_size)
+}
+
+/// How many blocks the image has that holds streams of these sizes, where the block map has room
+/// for the directory.
+pub(crate) fn image_blocks(block_size: u32, sizes: &[u32; 5]) -> Option<u32>
+    requires { IsBlockSize block_size }
+    ensures some { IfSome result (λ n. (directory_count block_size sizes.now ≤ block_size / 4)
+        × (n ≡ image_blocks block_size sizes.now) × (n < 2 ^ 28)) }
+    ensures none { IfNone result (block_size / 4 < directory_count block_size sizes.now) }
+{
+    let blocks = stream_blocks(block_size, sizes);
+    let directory = directory_blocks(block_size, blocks);
+    if directory > block_size / 4 {
+        return None;
+    }
+    Some(nth_block(block_size, 1 + directory + blocks) + 1)
+}
+
+/// How long the image is, in blocks of any size.
+fn image_len_by(block_size: u32, sizes: &[u32; 5]) -> Option<u32>
+    requires { IsBlockSize block_size }
+    ensures some { IfSome result (λ n. Fits block_size sizes.now × (n ≡ image_length block_size sizes.now)) }
+    ensures none { IfNone result (Fits block_size sizes.now → ⊥) }
+{
+    image_blocks(block_size, sizes)?.checked_mul(block_size)
+}
+
+/// How long the image is that holds streams of these sizes, in bytes.
+///
+/// `None` where the directory needs more than 1,024 blocks, which one block of the block map
+/// can't list, or where the file would pass 4,294,967,295 bytes. It takes no memory.
+pub fn image_len(sizes: &[u32; 5]) -> Option<u32>
+    ensures some { IfSome result (λ n. Fits 4096 sizes.now × (n ≡ image_length 4096 sizes.now)) }
+    ensures none { IfNone result (Fits 4096 sizes.now → ⊥) }
+{
+    image_len_by(BLOCK_SIZE, sizes)
+}
