@@ -34,7 +34,7 @@ data_at : (b q p : ℕ) → p < b → (p ≡ 0) ⊎ (2 < p) → is_map_block b (
 data_at b q p lt h = rw (mod-mul-add q b p lt) (grind (arith, nat_tests))
 
 -- a map block, by its place in its interval
-map_at : (b q p : ℕ) → p < b → (p ≡ 1) ⊎ (p ≡ 2) → is_map_block b (q * b + p) ≡ true
+pub map_at : (b q p : ℕ) → p < b → (p ≡ 1) ⊎ (p ≡ 2) → is_map_block b (q * b + p) ≡ true
 map_at b q p lt h = rw (mod-mul-add q b p lt) (grind (arith, nat_tests))
 
 -- the interval of the j-th data block, and its place among the interval's data blocks

@@ -7,6 +7,7 @@ use Rattle.msf_blocks.specs.Superblock.{Fields, magic}
 use Rattle.msf_blocks.specs.Directory.{Listed}
 use Rattle.msf_blocks.specs.Layout.{LayoutView, HasLayout}
 use Rattle.msf_streams.specs.Stream.{stream_text}
+use Rattle.std.specs.Borrow.{Bor}
 use lib.ListN.{replicate}
 
 -- ---- blocks
@@ -94,6 +95,10 @@ parts block_size texts =
 -- the image of these texts
 unfoldable pub image : ℕ → List (List ℕ) → List ℕ
 image block_size texts = laid_out block_size (image_blocks block_size (map length texts)) (flat_map (filled block_size) (parts block_size texts))
+
+-- the texts that are lent to a writer
+abbrev pub texts_of : List (Bor (List ℕ)) → List (List ℕ)
+texts_of streams = map (λ s. s.now) streams
 
 -- streams of these sizes fit in a file: one block lists the blocks of the directory, and the file's length is a number of four bytes
 pub record Fits (block_size : ℕ) (sizes : List ℕ) : Type 0 where

@@ -1,2 +1,3 @@
 pub mod Stream
 pub mod Image
+pub mod Woven

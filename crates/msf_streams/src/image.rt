@@ -57,7 +57,7 @@ pub(crate) fn image_blocks(block_size: u32, sizes: &[u32; 5]) -> Option<u32>
 }
 
 /// How long the image is, in blocks of any size.
-fn image_len_by(block_size: u32, sizes: &[u32; 5]) -> Option<u32>
+pub(crate) fn image_len_by(block_size: u32, sizes: &[u32; 5]) -> Option<u32>
     requires { IsBlockSize block_size }
     ensures some { IfSome result (λ n. Fits block_size sizes.now × (n ≡ image_length block_size sizes.now)) }
     ensures none { IfNone result (Fits block_size sizes.now → ⊥) }

@@ -1,0 +1,89 @@
+-- The parts in front of the streams, number by number.
+use Rattle.std.proofs.Common.{◌≡◌, ℕ, ◌+◌, ◌*◌, ◌<◌, ◌≤◌, ◌^◌, List, [], ◌∷◌, ◌++◌, length, map, take, get_or, refl, sym, ap, ◌∙◌, arith, append_assoc}
+use Rattle.std.specs.Prelude.{All}
+use Rattle.std.proofs.lemmas.List.Elements.{All-push, All-map, All-get_or}
+use Rattle.std.specs.Borrow.{Bor}
+use lib.ListN.{set}
+use Rattle.std.proofs.lemmas.List.{append-nil, take_more, take_more_set, take_all, map-append, length-map, get_or-map}
+use Rattle.std.proofs.lemmas.List.FromFn.{map-range_with_len_more}
+use Rattle.std.proofs.lemmas.List.Concat.{flat_map-append}
+use Rattle.byte_fields.specs.Number.{four_bytes, words}
+use Rattle.msf_blocks.specs.BlockNumber.{IsBlockSize, blocks_for, nth_block}
+use Rattle.msf_blocks.specs.Superblock.{magic}
+use Rattle.msf_blocks.proofs.BlockLaws.{nth_few, big_enough}
+use Rattle.msf_streams.specs.Image.{texts_of, numbers, blocks_of_all, directory_len, directory_count, image_blocks, superblock_part, block_map_part, directory_part}
+use Rattle.msf_streams.proofs.ImageLaws.{five_streams}
+
+-- one number more
+words_push : (ns : List ℕ) (n : ℕ) → words (ns ++ n ∷ []) ≡ words ns ++ four_bytes n
+words_push ns n = flat_map-append four_bytes ns (n ∷ []) ∙ rw (append-nil (four_bytes n)) refl
+
+-- one block more
+numbers_more : (b first j : ℕ) → words (numbers b first (j + 1)) ≡ words (numbers b first j) ++ four_bytes (nth_block b (first + j))
+numbers_more b first j = ap words (map-range_with_len_more (nth_block b) first j (first + j) refl) ∙ words_push (numbers b first j) (nth_block b (first + j))
+
+-- one number of a list more
+pub words_more : (ns : List ℕ) (i : ℕ) → i < length ns → words (take (i + 1) ns) ≡ words (take i ns) ++ four_bytes (get_or ns i 0)
+words_more ns i lt = ap words (take_more ns i 0 lt) ∙ words_push (take i ns) (get_or ns i 0)
+
+-- the number of a data block that isn't far behind is a number of four bytes
+pub small_number : (b j : ℕ) → IsBlockSize b → j < 2 ^ 28 → nth_block b j < 2 ^ 32
+small_number b j size few = omega (arith, nth_few b j (big_enough b size))
+
+pub block_pushed : (b first j block : ℕ) (old before new : List ℕ) → before ≡ old ++ words (numbers b first j) → block ≡ nth_block b (first + j) → new ≡ before ++ four_bytes block
+    → new ≡ old ++ words (numbers b first (j + 1))
+block_pushed b first j block old before new so_far is pushed =
+    pushed ∙ rw (so_far, is, numbers_more b first j) (append_assoc old (words (numbers b first j)) (four_bytes (nth_block b (first + j))))
+
+-- ---- the parts in front
+
+-- the superblock
+pub superblock_is : (b n blocks len addr : ℕ) (sizes bytes : List ℕ) → length sizes ≡ 5 → n ≡ image_blocks b sizes → blocks ≡ blocks_of_all b sizes → len ≡ 4 * (6 + blocks) → addr ≡ nth_block b 1
+    → bytes ≡ magic ++ words (b ∷ 1 ∷ n ∷ len ∷ 0 ∷ addr ∷ []) → bytes ≡ superblock_part b sizes
+unfolding superblock_part
+superblock_is b n blocks len addr sizes bytes five count all long at e =
+    let same : len ≡ directory_len b sizes = omega (arith, five, all, long) in
+    e ∙ rw (count, same, at) refl
+
+-- the block map
+pub block_map_is : (b blocks directory : ℕ) (sizes bytes : List ℕ) → length sizes ≡ 5 → blocks ≡ blocks_of_all b sizes → directory ≡ blocks_for b (4 * (6 + blocks))
+    → bytes ≡ words (numbers b 2 directory) → bytes ≡ block_map_part b sizes
+unfolding block_map_part
+block_map_is b blocks directory sizes bytes five all is e = e ∙ rw ((five_streams b blocks directory sizes five all is).0) refl
+
+-- the directory
+pub directory_is : (b blocks directory : ℕ) (sizes bytes : List ℕ) → length sizes ≡ 5 → blocks ≡ blocks_of_all b sizes → directory ≡ blocks_for b (4 * (6 + blocks))
+    → bytes ≡ words (5 ∷ sizes ++ numbers b (2 + directory) blocks) → bytes ≡ directory_part b sizes
+unfolding directory_part
+directory_is b blocks directory sizes bytes five all is e =
+    let same = (five_streams b blocks directory sizes five all is).0 in
+    let numbered : numbers b (2 + directory) blocks ≡ numbers b (2 + directory_count b sizes) (blocks_of_all b sizes) = rw (same, all) refl in
+    e ∙ ap (λ (ns : List ℕ). words (5 ∷ sizes ++ ns)) numbered ∙ ap (λ (n : ℕ). words (n ∷ sizes ++ numbers b (2 + directory_count b sizes) (blocks_of_all b sizes))) (sym five)
+
+-- ---- the sizes of texts
+
+-- one size more
+pub size_pushed : {X : Type 0} (f : X → ℕ) (sizes : List ℕ) (xs : List X) (i size : ℕ) (d : X) → take i sizes ≡ map f (take i xs) → i < length sizes → i < length xs → size ≡ f (get_or xs i d)
+    → take (i + 1) (set sizes i size) ≡ map f (take (i + 1) xs)
+size_pushed f sizes xs i size d so_far in_sizes in_xs is =
+    take_more_set sizes i size in_sizes ∙ rw (so_far, is) (sym (ap (map f) (take_more xs i d in_xs) ∙ map-append f (take i xs) (get_or xs i d ∷ [])))
+
+-- all sizes
+pub sizes_are : {X : Type 0} (f : X → ℕ) (sizes : List ℕ) (xs : List X) (i : ℕ) → take i sizes ≡ map f (take i xs) → length sizes ≤ i → length xs ≤ i → sizes ≡ map f xs
+sizes_are f sizes xs i so_far all_sizes all_xs = sym (take_all i sizes all_sizes) ∙ so_far ∙ ap (map f) (take_all i xs all_xs)
+
+-- one short text more
+pub short_pushed : {X : Type 0} (f : X → ℕ) (xs : List X) (i size : ℕ) (d : X) → All (λ x. f x < 2 ^ 32) (take i xs) → i < length xs → size ≡ f (get_or xs i d) → size < 2 ^ 32 → All (λ x. f x < 2 ^ 32) (take (i + 1) xs)
+short_pushed f xs i size d so_far lt is small = rw (take_more xs i d lt) (All-push (λ x. f x < 2 ^ 32) (take i xs) (get_or xs i d) so_far (rw (← is) small))
+
+-- all texts are short
+pub all_short : (streams : List (Bor (List ℕ))) (i : ℕ) → length streams ≤ i → All (λ s. length s.now < 2 ^ 32) (take i streams) → All (λ text. length text < 2 ^ 32) (texts_of streams)
+all_short streams i le so_far =
+    All-map (λ text. length text < 2 ^ 32) (λ s. s.now) streams (rw (take_all i streams le) at so_far)
+
+-- one isn't
+pub not_short : (streams : List (Bor (List ℕ))) (i : ℕ) (d : Bor (List ℕ)) → i < length streams → 2 ^ 32 ≤ length (get_or streams i d).now → All (λ text. length text < 2 ^ 32) (texts_of streams) → ⊥
+not_short streams i d lt long short =
+    let here = All-get_or (λ text. length text < 2 ^ 32) (texts_of streams) i d.now (rw (length-map streams (λ s. s.now)) lt) short in
+    let same : get_or (texts_of streams) i d.now ≡ (get_or streams i d).now = get_or-map (λ s. s.now) streams i d d.now lt in
+    omega (arith, long, rw same at here)

@@ -1,0 +1,255 @@
+-- What a sink took of a woven text, and what is left of it.
+use Rattle.std.proofs.Common.{◌≡◌, ℕ, ◌+◌, ◌-◌, ◌*◌, ◌/◌, ◌%◌, ◌<◌, ◌≤◌, ◌^◌, min, List, [], ◌∷◌, ◌++◌, Option, length, map, take, drop, get_or, refl, sym, ap, ◌∙◌, arith, append_assoc, inl, inr}
+use Rattle.std.specs.List.{flat_map}
+use Rattle.std.specs.Prelude.{Result, Ok, Err, OnOk, OnErr}
+use Rattle.std.specs.Io.KnownBytes.{Appends}
+use Rattle.std.proofs.KnownBytes.{Appends-nil, Appends-trans}
+use Rattle.std.proofs.Math.Seq.{take-append-add}
+use Rattle.std.proofs.lemmas.Nat.{div-add-mod', mul-le}
+use Rattle.std.proofs.lemmas.List.{append-nil, length-append, length-take, length-drop, take-append-drop, take_rest, take-append-le, drop_more, drop_all, length-map, get_or-map}
+use Rattle.msf_blocks.specs.BlockNumber.{IsBlockSize, blocks_for}
+use Rattle.msf_blocks.proofs.BlockLaws.{big_enough}
+use Rattle.msf_streams.specs.Image.{filled, superblock_part, block_map_part, directory_part, parts, image, image_blocks, data_count}
+use Rattle.msf_streams.specs.Woven.{maps_before, woven, room, AppendsPart, Halfway, IsFront}
+use Rattle.msf_streams.proofs.ImageLaws.{length_parts}
+use Rattle.msf_streams.proofs.BackLaws.{all_blocks, bounds}
+use Rattle.msf_streams.proofs.WovenLaws.{woven_parts, some_room, woven_run, some_stretch, image_woven}
+use lib.ListN.{replicate}
+
+-- ---- what a sink took
+
+-- a write that failed within the first of two texts
+pub part_first : (old new : Option (List ℕ)) (front back : List ℕ) → AppendsPart old new front → AppendsPart old new (front ++ back)
+part_first old new front back h =
+    let same : take h.0 (front ++ back) ≡ take h.0 front = take-append-le h.0 front back (omega (arith, h.1)) in
+    (h.0, omega (arith, h.1, length-append front back), rw same h.2)
+
+-- and within the second
+pub part_second : (old between new : Option (List ℕ)) (front back : List ℕ) → Appends old between front → AppendsPart between new back → AppendsPart old new (front ++ back)
+part_second old between new front back first h =
+    let all : Appends old new (front ++ take h.0 back) = Appends-trans old between new front (take h.0 back) first h.2 in
+    let same : take (length front + h.0) (front ++ back) ≡ front ++ take h.0 back = take-append-add front back h.0 in
+    (length front + h.0, omega (arith, h.1, length-append front back), rw same all)
+
+-- a fact at an error, carried over
+pub on_err : {A E : Type 0} (P Q : Type 0) (r : Result A E) → (P → Q) → OnErr r P → OnErr r Q
+on_err P Q (Ok value) carry h = h
+on_err P Q (Err fault) carry h = carry h
+
+-- a fact at a success, carried over
+pub on_ok : {A E : Type 0} (P Q : Type 0) (r : Result A E) → (P → Q) → OnOk r P → OnOk r Q
+on_ok P Q (Ok value) carry h = carry h
+on_ok P Q (Err fault) carry h = h
+
+-- a fact that holds anyway
+pub at_err : {A E : Type 0} (P : Type 0) (r : Result A E) → P → OnErr r P
+at_err P (Ok value) h = tt
+at_err P (Err fault) h = h
+
+-- ---- one run after the other
+
+woven_first : (b n p : ℕ) (bytes : List ℕ) → 0 < length bytes → (rest : List ℕ) × (woven b n p bytes ≡ maps_before b n p ++ rest)
+unfolding woven
+woven_first b n p [] more = absurd (omega arith)
+woven_first b n p (byte ∷ bytes) more = (byte ∷ woven b n (p + 1) bytes, refl)
+
+-- the map blocks in front of some bytes weren't all taken
+pub fails_before : (old new : Option (List ℕ)) (b n p : ℕ) (bytes : List ℕ) → 0 < length bytes → AppendsPart old new (maps_before b n p) → AppendsPart old new (woven b n p bytes)
+fails_before old new b n p bytes more h =
+    let first = woven_first b n p bytes more in
+    rw first.1 (part_first old new (maps_before b n p) first.0 h)
+
+-- a first run of some bytes
+run_of : (b n p count : ℕ) (bytes : List ℕ) → 3 < b → 0 < length bytes → count ≡ min (room b p) (length bytes) → woven b n p (take count bytes) ≡ maps_before b n p ++ take count bytes
+run_of b n p count bytes big more is =
+    let some = some_room b p (some_stretch b big) in
+    woven_run b n p (take count bytes) (omega arith) (some_stretch b big) (omega (arith, length-take count bytes, some)) (omega (arith, length-take count bytes))
+
+split_run : (b n p count : ℕ) (bytes : List ℕ) → woven b n p bytes ≡ woven b n p (take count bytes) ++ woven b n (p + length (take count bytes)) (drop count bytes)
+split_run b n p count bytes = ap (woven b n p) (sym (take-append-drop count bytes)) ∙ woven_parts b n p (take count bytes) (drop count bytes)
+
+-- the first run wasn't taken as a whole
+pub fails_within : (old between new : Option (List ℕ)) (b n p count : ℕ) (bytes : List ℕ) → 3 < b → 0 < length bytes → count ≡ min (room b p) (length bytes)
+    → Appends old between (maps_before b n p) → AppendsPart between new (take count bytes) → AppendsPart old new (woven b n p bytes)
+fails_within old between new b n p count bytes big more is before h =
+    rw (split_run b n p count bytes, run_of b n p count bytes big more is)
+    (part_first old new (maps_before b n p ++ take count bytes) _ (part_second old between new (maps_before b n p) (take count bytes) before h))
+
+-- it was
+pub run_taken : (old between new : Option (List ℕ)) (b n p count : ℕ) (bytes : List ℕ) → 3 < b → 0 < length bytes → count ≡ min (room b p) (length bytes)
+    → Appends old between (maps_before b n p) → Appends between new (take count bytes) → Appends old new (woven b n p (take count bytes))
+run_taken old between new b n p count bytes big more is before h =
+    rw (run_of b n p count bytes big more is) (Appends-trans old between new (maps_before b n p) (take count bytes) before h)
+
+-- it has some bytes
+pub run_count : (b p count : ℕ) (bytes : List ℕ) → 3 < b → 0 < length bytes → count ≡ min (room b p) (length bytes) → (0 < count) × (count ≤ length bytes)
+run_count b p count bytes big more is = let some = some_room b p (some_stretch b big) in (omega (arith, some), omega arith)
+
+-- what was taken, and what is left behind one more run
+pub woven_more : (b n p count : ℕ) (taken rest all : List ℕ) → all ≡ taken ++ woven b n p rest → count ≤ length rest
+    → all ≡ (taken ++ woven b n p (take count rest)) ++ woven b n (p + count) (take (length rest - count) (drop count rest))
+woven_more b n p count taken rest all e le =
+    let long : length (take count rest) ≡ count = omega (arith, length-take count rest) in
+    let left : take (length rest - count) (drop count rest) ≡ drop count rest = take_rest rest count in
+    e ∙ rw (split_run b n p count rest, long, left) (sym (append_assoc taken (woven b n p (take count rest)) (woven b n (p + count) (drop count rest))))
+
+-- the place behind the run, and how much is left
+pub places_left : (p count end : ℕ) (rest : List ℕ) → p + length rest ≡ end → count ≤ length rest → p + count + length (take (length rest - count) (drop count rest)) ≡ end
+places_left p count end rest e le = omega (arith, length-take (length rest - count) (drop count rest), length-drop count rest)
+
+-- nothing is left
+pub woven_done : (b n p : ℕ) (taken rest all : List ℕ) → all ≡ taken ++ woven b n p rest → length rest ≡ 0 → all ≡ taken
+unfolding woven
+woven_done b n p taken [] all e none = e ∙ append-nil taken
+woven_done b n p taken (byte ∷ rest) all e none = absurd (omega arith)
+
+-- ---- the size of positions
+
+-- the interval that a position lies behind
+pub few_intervals : (b l p : ℕ) → 0 < b → 4 * b ≤ l → p < 2 ^ 33 → ((p - b) / l * b + 2 < 2 ^ 32) × ((p - b) / l < 2 ^ 32)
+few_intervals b l p some long few =
+    let q = (p - b) / l in
+    let rows = mul-le q (4 * b) q l (omega arith) long in
+    let places = mul-le (4 * q) 1 (4 * q) b (omega arith) some in
+    (omega (arith, rows, div-add-mod' (p - b) l), omega (arith, rows, places, div-add-mod' (p - b) l))
+
+-- what is wanting to whole blocks
+pub fill_count : (b len : ℕ) → IsBlockSize b → ((b - len % b) % b ≡ blocks_for b len * b - len) × ((b - len % b) % b ≤ 4096)
+fill_count b len size = elim size [
+  | inl e ↦ rw e (omega arith, omega arith)
+  | inr (inl e) ↦ rw e (omega arith, omega arith)
+  | inr (inr (inl e)) ↦ rw e (omega arith, omega arith)
+  | inr (inr (inr e)) ↦ rw e (omega arith, omega arith)
+]
+
+-- ---- a part, filled to whole blocks
+
+pub filled_is : (b : ℕ) (part fill : List ℕ) (count : ℕ) → count ≡ blocks_for b (length part) * b - length part → fill ≡ replicate count 0 → filled b part ≡ part ++ fill
+unfolding filled
+filled_is b part fill count is e = rw (e, is) refl
+
+pub filled_longer : (b : ℕ) (part : List ℕ) → length part ≤ length (filled b part)
+unfolding filled
+filled_longer b part = omega (arith, length-append part (replicate (blocks_for b (length part) * b - length part) 0))
+
+woven_filled : (b n p : ℕ) (part fill : List ℕ) → filled b part ≡ part ++ fill → woven b n p (filled b part) ≡ woven b n p part ++ woven b n (p + length part) fill
+woven_filled b n p part fill is = ap (woven b n p) is ∙ woven_parts b n p part fill
+
+-- the bytes of a part weren't all taken
+pub part_fails : (old new : Option (List ℕ)) (b n p : ℕ) (part : List ℕ) → AppendsPart old new (woven b n p part) → AppendsPart old new (woven b n p (filled b part))
+part_fails old new b n p part h =
+    let fill : List ℕ = replicate (blocks_for b (length part) * b - length part) 0 in
+    rw (woven_filled b n p part fill (filled_is b part fill (blocks_for b (length part) * b - length part) refl refl)) (part_first old new (woven b n p part) (woven b n (p + length part) fill) h)
+
+-- the zeros behind them weren't
+pub fill_fails : (old between new : Option (List ℕ)) (b n p : ℕ) (part fill : List ℕ) → filled b part ≡ part ++ fill → Appends old between (woven b n p part)
+    → AppendsPart between new (woven b n (p + length part) fill) → AppendsPart old new (woven b n p (filled b part))
+fill_fails old between new b n p part fill is before h =
+    rw (woven_filled b n p part fill is) (part_second old between new (woven b n p part) (woven b n (p + length part) fill) before h)
+
+-- all were
+pub part_taken : (old between new : Option (List ℕ)) (b n p : ℕ) (part fill : List ℕ) → filled b part ≡ part ++ fill → Appends old between (woven b n p part)
+    → Appends between new (woven b n (p + length part) fill) → Appends old new (woven b n p (filled b part))
+part_taken old between new b n p part fill is before h =
+    rw (woven_filled b n p part fill is) (Appends-trans old between new (woven b n p part) (woven b n (p + length part) fill) before h)
+
+-- ---- one part after the other
+
+-- the next of some parts, and those behind it
+pub part_here : {X : Type 0} (f : X → List ℕ) (b : ℕ) (xs : List X) (i : ℕ) (d : X) → i < length xs
+    → flat_map (filled b) (drop i (map f xs)) ≡ filled b (f (get_or xs i d)) ++ flat_map (filled b) (drop (i + 1) (map f xs))
+part_here f b xs i d lt = ap (flat_map (filled b)) (drop_more (map f xs) i (f d) (rw (length-map xs f) lt)) ∙ rw (get_or-map f xs i d (f d) lt) refl
+
+-- the place behind the next part is the one where what is left begins
+pub next_place : {X : Type 0} (f : X → List ℕ) (b : ℕ) (xs : List X) (i : ℕ) (d : X) (p end : ℕ) → i < length xs
+    → p + length (flat_map (filled b) (drop i (map f xs))) ≡ end → p + length (filled b (f (get_or xs i d))) + length (flat_map (filled b) (drop (i + 1) (map f xs))) ≡ end
+next_place f b xs i d p end lt e =
+    omega (arith, e, ap length (part_here f b xs i d lt), length-append (filled b (f (get_or xs i d))) (flat_map (filled b) (drop (i + 1) (map f xs))))
+
+pub next_fits : {X : Type 0} (f : X → List ℕ) (b : ℕ) (xs : List X) (i : ℕ) (d : X) (p end : ℕ) → i < length xs → p + length (flat_map (filled b) (drop i (map f xs))) ≡ end → end < 2 ^ 33
+    → p + length (filled b (f (get_or xs i d))) < 2 ^ 33
+next_fits f b xs i d p end lt e few = omega (arith, next_place f b xs i d p end lt e)
+
+-- behind the last part nothing is left
+pub none_left : {X : Type 0} (f : X → List ℕ) (b : ℕ) (xs : List X) (i : ℕ) → length xs ≤ i → length (flat_map (filled b) (drop i (map f xs))) ≡ 0
+none_left f b xs i le = let none : drop i (map f xs) ≡ [] = drop_all i (map f xs) (rw (length-map xs f) le) in rw none refl
+
+-- nothing was taken yet
+pub at_start : (old : Option (List ℕ)) (b n p : ℕ) (text : List ℕ) → Halfway old old b n (woven b n p text) p text
+at_start old b n p text = record { taken = []; split = refl; appends = Appends-nil old }
+
+-- the first of the parts that are left wasn't taken as a whole
+pub first_fails : (old between new : Option (List ℕ)) (b n p : ℕ) (all part : List ℕ) (parts : List (List ℕ)) → Halfway old between b n all p (flat_map (filled b) (part ∷ parts))
+    → AppendsPart between new (woven b n p (filled b part)) → AppendsPart old new all
+first_fails old between new b n p all part parts so_far h =
+    rw (so_far.split, woven_parts b n p (filled b part) (flat_map (filled b) parts))
+    (part_second old between new so_far.taken _ so_far.appends (part_first between new (woven b n p (filled b part)) _ h))
+
+-- it was
+pub first_taken : (old between new : Option (List ℕ)) (b n p end : ℕ) (all part : List ℕ) (parts : List (List ℕ)) → Halfway old between b n all p (flat_map (filled b) (part ∷ parts))
+    → Appends between new (woven b n p (filled b part)) → end ≡ p + length (filled b part) → Halfway old new b n all end (flat_map (filled b) parts)
+first_taken old between new b n p end all part parts so_far h is =
+    let first = woven b n p (filled b part) in
+    record {
+      taken = so_far.taken ++ first;
+      split = so_far.split ∙ rw (is, woven_parts b n p (filled b part) (flat_map (filled b) parts)) (sym (append_assoc so_far.taken first _));
+      appends = Appends-trans old between new so_far.taken first so_far.appends h;
+    }
+
+-- what is left wasn't taken as a whole
+pub rest_fails : (old between new : Option (List ℕ)) (b n p : ℕ) (all left : List ℕ) → Halfway old between b n all p left → AppendsPart between new (woven b n p left) → AppendsPart old new all
+rest_fails old between new b n p all left so_far h = rw so_far.split (part_second old between new so_far.taken (woven b n p left) so_far.appends h)
+
+-- it was
+pub rest_taken : (old between new : Option (List ℕ)) (b n p : ℕ) (all left : List ℕ) → Halfway old between b n all p left → Appends between new (woven b n p left) → Appends old new all
+rest_taken old between new b n p all left so_far h = rw so_far.split (Appends-trans old between new so_far.taken (woven b n p left) so_far.appends h)
+
+-- the next of some parts wasn't taken as a whole
+pub next_fails : {X : Type 0} (old between new : Option (List ℕ)) (f : X → List ℕ) (b n p : ℕ) (xs : List X) (i : ℕ) (d : X) (all : List ℕ) → i < length xs
+    → Halfway old between b n all p (flat_map (filled b) (drop i (map f xs))) → AppendsPart between new (woven b n p (filled b (f (get_or xs i d)))) → AppendsPart old new all
+next_fails old between new f b n p xs i d all lt so_far h = first_fails old between new b n p all (f (get_or xs i d)) (drop (i + 1) (map f xs)) (rw (part_here f b xs i d lt) at so_far) h
+
+-- it was
+pub next_taken : {X : Type 0} (old between new : Option (List ℕ)) (f : X → List ℕ) (b n p : ℕ) (xs : List X) (i : ℕ) (d : X) (all : List ℕ) → i < length xs
+    → Halfway old between b n all p (flat_map (filled b) (drop i (map f xs))) → Appends between new (woven b n p (filled b (f (get_or xs i d))))
+    → Halfway old new b n all (p + length (filled b (f (get_or xs i d)))) (flat_map (filled b) (drop (i + 1) (map f xs)))
+next_taken old between new f b n p xs i d all lt so_far h = first_taken old between new b n p (p + length (filled b (f (get_or xs i d)))) all (f (get_or xs i d)) (drop (i + 1) (map f xs)) (rw (part_here f b xs i d lt) at so_far) h refl
+
+-- none is left
+pub all_taken : (old now : Option (List ℕ)) (b n p : ℕ) (all left : List ℕ) → Halfway old now b n all p left → length left ≡ 0 → Appends old now all
+all_taken old now b n p all left h none = rw (woven_done b n p h.taken left all h.split none) h.appends
+
+-- ---- the parts of an image in turn
+
+-- the image, by its parts
+by_parts : (b n : ℕ) (ts : List (List ℕ)) (sb bm dir : List ℕ) → IsBlockSize b → IsFront b n (map length ts) sb bm dir → image b ts ≡ woven b n 0 (flat_map (filled b) (sb ∷ bm ∷ dir ∷ ts))
+unfolding parts
+by_parts b n ts sb bm dir size front = rw (front.count, front.superblock_is, front.block_map_is, front.directory_is) (image_woven b ts size front.fits)
+
+-- the parts are no longer than the file
+pub few_bytes : (b n : ℕ) (ts : List (List ℕ)) (sb bm dir : List ℕ) → IsBlockSize b → IsFront b n (map length ts) sb bm dir
+    → length (filled b sb) + (length (filled b bm) + (length (filled b dir) + length (flat_map (filled b) ts))) < 2 ^ 32
+unfolding parts
+few_bytes b n ts sb bm dir size front =
+    let sizes = map length ts in
+    let big = big_enough b size in
+    let all = superblock_part b sizes ∷ block_map_part b sizes ∷ directory_part b sizes ∷ ts in
+    let few = (bounds b sizes size front.fits).1 in
+    let blocks = mul-le (data_count b sizes) b (image_blocks b sizes) b few (omega arith) in
+    let long : length (flat_map (filled b) (sb ∷ bm ∷ dir ∷ ts)) ≡ (data_count b sizes - 1 + 1) * b =
+    rw (front.superblock_is, front.block_map_is, front.directory_is) (length_parts b all (omega (arith, big)) ∙ rw (all_blocks b ts size front.fits) refl) in
+    let one : data_count b sizes - 1 + 1 ≡ data_count b sizes = omega arith in
+    omega (
+      arith,
+      front.fits.short,
+      blocks,
+      rw one at long,
+      length-append (filled b sb) (filled b bm ++ (filled b dir ++ flat_map (filled b) ts)),
+      length-append (filled b bm) (filled b dir ++ flat_map (filled b) ts),
+      length-append (filled b dir) (flat_map (filled b) ts),
+    )
+
+-- how far the writer came, before its first part and behind each part in front of the streams
+pub before_front : (old : Option (List ℕ)) (b n : ℕ) (ts : List (List ℕ)) (sb bm dir : List ℕ) → IsBlockSize b → IsFront b n (map length ts) sb bm dir
+    → Halfway old old b n (image b ts) 0 (flat_map (filled b) (sb ∷ bm ∷ dir ∷ ts))
+before_front old b n ts sb bm dir size front = rw (by_parts b n ts sb bm dir size front) (at_start old b n 0 (flat_map (filled b) (sb ∷ bm ∷ dir ∷ ts)))

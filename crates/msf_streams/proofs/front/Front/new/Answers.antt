@@ -1,0 +1,21 @@
+use Rattle.std.proofs.Common.{arith}
+use Rattle.msf_streams.proofs.FrontLaws.{small_number, superblock_is, block_map_is, directory_is}
+use Rattle.msf_streams.proofs.front.Front.new.Goals as goal
+
+pub nth_block-block_map_addr-requires-clause-fits : goal.nth_block-block_map_addr-requires-clause-fits
+nth_block-block_map_addr-requires-clause-fits g c = small_number c.args.block_size 1 c.requires.size (omega arith)
+
+pub returns-clause-value : goal.returns-clause-value
+returns-clause-value g c =
+    let b = c.args.block_size in
+    let sizes = c.args.sizes.now in
+    let five = c.told-sizes in
+    let blocks = c.stream_blocks-blocks.ensures.value in
+    let directory = c.directory_blocks-directory_blocks.ensures in
+    record {
+      fits = c.requires.fits;
+      count = c.requires.count;
+      superblock_is = superblock_is b c.args.num_blocks _ c.directory_len.result c.nth_block-block_map_addr.result sizes _ five c.requires.count blocks c.directory_len.ensures c.nth_block-block_map_addr.ensures.value c.superblock_of-superblock.ensures;
+      block_map_is = block_map_is b _ _ sizes _ five blocks directory c.in_ok-block_map_of.ensures;
+      directory_is = directory_is b _ _ sizes _ five blocks directory c.in_ok-directory_of.ensures;
+    }

@@ -1,0 +1,214 @@
+//! The parts of an image, put into a sink with the map blocks between their bytes.
+//!
+//! The bytes of all parts, each filled to whole blocks, are one text; a *position* counts its
+//! bytes. Two map blocks stand in front of the first byte of each stretch of that text. They are
+//! put right before that byte, so that none stands behind the last one.
+
+ghost use Rattle.std.specs.Prelude.{◌≡◌, ◌<◌, ◌≤◌, ◌^◌, ◌+◌, ◌*◌, ◌-◌, ◌++◌, true, length, map, take, min, IfOk, OnOk, OnErr};
+ghost use Rattle.std.specs.List.{flat_map};
+ghost use lib.ListN.{replicate};
+ghost use Rattle.std.specs.Io.KnownBytes.{Appends};
+ghost use Rattle.msf_blocks.specs.BlockNumber.{IsBlockSize, blocks_for};
+ghost use Rattle.msf_streams.specs.Image.{map_block, filled, texts_of};
+ghost use Rattle.msf_streams.specs.Woven.{stretch, maps_of, maps_before, woven, room, AppendsPart};
+
+use crate::map_block::fill_map;
+use msf_blocks::{NotTaken, Sink, put_all};
+
+/// How many bytes of the text stand between the map blocks of one interval and those of the next.
+#[tactic(auto, unfolding(crate::specs::Woven::stretch))]
+fn stretch(block_size: u32) -> usize
+    requires { IsBlockSize block_size }
+    ensures value { result ≡ stretch block_size }
+    ensures long { 4 * block_size ≤ result }
+{
+    block_size as usize * (block_size as usize - 2)
+}
+
+/// How many bytes stand side by side in the file from a position on, up to the next map blocks.
+#[tactic(auto, unfolding(crate::specs::Woven::room))]
+fn room(block_size: u32, position: usize) -> usize
+    requires { IsBlockSize block_size }
+    ensures { result ≡ room block_size position }
+{
+    let first = block_size as usize;
+    if position < first {
+        return first - position;
+    }
+    let stretch = stretch(block_size);
+    stretch - (position - first) % stretch
+}
+
+/// Puts the two map blocks of an interval into a sink.
+fn put_maps<W: Sink>(
+    block_size: u32,
+    num_blocks: u32,
+    interval: u32,
+    page: &mut [u8],
+    out: &mut W,
+) -> Result<(), NotTaken>
+    requires size { IsBlockSize block_size }
+    requires long { length page.old ≡ block_size }
+    requires few { interval * block_size + 2 < 2 ^ 32 }
+    ensures long { length page.new ≡ block_size }
+    ensures ok { OnOk result (Appends (W.taken out.old) (W.taken out.new) (maps_of block_size num_blocks interval)) }
+    ensures broken { OnErr result (W.is_broken out.new ≡ true) }
+    ensures prefix { OnErr result (AppendsPart (W.taken out.old) (W.taken out.new) (maps_of block_size num_blocks interval)) }
+{
+    let start = interval * block_size;
+    fill_map(block_size, num_blocks, start + 1, page);
+    put_all(out, page)?;
+    fill_map(block_size, num_blocks, start + 2, page);
+    put_all(out, page)
+}
+
+/// Puts the map blocks that stand right in front of a position, if any do.
+#[tactic(auto, unfolding(crate::specs::Woven::maps_before))]
+fn put_maps_before<W: Sink>(
+    block_size: u32,
+    num_blocks: u32,
+    position: usize,
+    page: &mut [u8],
+    out: &mut W,
+) -> Result<(), NotTaken>
+    requires size { IsBlockSize block_size }
+    requires long { length page.old ≡ block_size }
+    requires few { position < 2 ^ 33 }
+    ensures long { length page.new ≡ block_size }
+    ensures ok { OnOk result (Appends (W.taken out.old) (W.taken out.new) (maps_before block_size num_blocks position)) }
+    ensures broken { OnErr result (W.is_broken out.new ≡ true) }
+    ensures prefix { OnErr result (AppendsPart (W.taken out.old) (W.taken out.new) (maps_before block_size num_blocks position)) }
+{
+    let first = block_size as usize;
+    let stretch = stretch(block_size);
+    if position < first || (position - first) % stretch != 0 {
+        return Ok(());
+    }
+    let interval = (position - first) / stretch;
+    put_maps(block_size, num_blocks, interval as u32, page, out)
+}
+
+/// Puts the first bytes of some that begin at a position, up to the next map blocks, and the map
+/// blocks in front of them. It answers how many they were.
+fn put_run<W: Sink>(
+    block_size: u32,
+    num_blocks: u32,
+    position: usize,
+    bytes: &[u8],
+    page: &mut [u8],
+    out: &mut W,
+) -> Result<usize, NotTaken>
+    requires size { IsBlockSize block_size }
+    requires long { length page.old ≡ block_size }
+    requires some { 0 < length bytes.now }
+    requires few { position < 2 ^ 33 }
+    ensures long { length page.new ≡ block_size }
+    ensures count { IfOk result (λ count. (0 < count) × (count ≤ length bytes.now)) }
+    ensures ok { IfOk result (λ count. Appends (W.taken out.old) (W.taken out.new) (woven block_size num_blocks position (take count bytes.now))) }
+    ensures broken { OnErr result (W.is_broken out.new ≡ true) }
+    ensures prefix { OnErr result (AppendsPart (W.taken out.old) (W.taken out.new) (woven block_size num_blocks position bytes.now)) }
+{
+    put_maps_before(block_size, num_blocks, position, page, out)?;
+    let count = room(block_size, position).min(bytes.len());
+    put_all(out, &bytes[..count])?;
+    Ok(count)
+}
+
+/// Puts bytes that begin at a position, with the map blocks in front of them.
+fn put_bytes<W: Sink>(
+    block_size: u32,
+    num_blocks: u32,
+    position: usize,
+    bytes: &[u8],
+    page: &mut [u8],
+    out: &mut W,
+) -> Result<(), NotTaken>
+    requires size { IsBlockSize block_size }
+    requires long { length page.old ≡ block_size }
+    requires few { position + length bytes.now < 2 ^ 33 }
+    ensures long { length page.new ≡ block_size }
+    ensures ok { OnOk result (Appends (W.taken out.old) (W.taken out.new) (woven block_size num_blocks position bytes.now)) }
+    ensures broken { OnErr result (W.is_broken out.new ≡ true) }
+    ensures prefix { OnErr result (AppendsPart (W.taken out.old) (W.taken out.new) (woven block_size num_blocks position bytes.now)) }
+{
+    let mut position = position;
+    let mut rest = bytes;
+    while !rest.is_empty() {
+        let count = put_run(block_size, num_blocks, position, rest, page, out)?;
+        position += count;
+        rest = &rest[count..];
+    }
+    Ok(())
+}
+
+/// As many zeros as the largest block has bytes.
+const ZEROS: [u8; 4096] = [0; 4096];
+
+/// So many zeros.
+fn zeros(count: usize) -> &'static [u8]
+    requires { count ≤ 4096 }
+    ensures { result.now ≡ replicate count 0 }
+{
+    &ZEROS[..count]
+}
+
+/// How many bytes are wanting to the end of the last block of so many.
+#[tactic(auto, using(crate::proofs::PutLaws::fill_count))]
+fn fill_len(block_size: u32, len: usize) -> usize
+    requires size { IsBlockSize block_size }
+    requires few { len < 2 ^ 33 }
+    ensures value { result ≡ blocks_for block_size len * block_size - len }
+    ensures few { result ≤ 4096 }
+{
+    let size = block_size as usize;
+    (size - len % size) % size
+}
+
+/// Puts a part of the file that begins at a position, filled with zeros to whole blocks. It
+/// answers the position behind it.
+pub(crate) fn put_part<W: Sink>(
+    block_size: u32,
+    num_blocks: u32,
+    position: usize,
+    part: &[u8],
+    page: &mut [u8],
+    out: &mut W,
+) -> Result<usize, NotTaken>
+    requires size { IsBlockSize block_size }
+    requires long { length page.old ≡ block_size }
+    requires few { position + length (filled block_size part.now) < 2 ^ 33 }
+    ensures long { length page.new ≡ block_size }
+    ensures end { IfOk result (λ end. end ≡ position + length (filled block_size part.now)) }
+    ensures ok { OnOk result (Appends (W.taken out.old) (W.taken out.new) (woven block_size num_blocks position (filled block_size part.now))) }
+    ensures broken { OnErr result (W.is_broken out.new ≡ true) }
+    ensures prefix { OnErr result (AppendsPart (W.taken out.old) (W.taken out.new) (woven block_size num_blocks position (filled block_size part.now))) }
+{
+    put_bytes(block_size, num_blocks, position, part, page, out)?;
+    let end = position + part.len();
+    let fill = zeros(fill_len(block_size, part.len()));
+    put_bytes(block_size, num_blocks, end, fill, page, out)?;
+    Ok(end + fill.len())
+}
+
+/// Puts parts of the file, the first of which begins at a position, one after the other.
+pub(crate) fn put_parts<W: Sink>(
+    block_size: u32,
+    num_blocks: u32,
+    position: usize,
+    parts: &[&[u8]],
+    page: &mut [u8],
+    out: &mut W,
+) -> Result<(), NotTaken>
+    requires size { IsBlockSize block_size }
+    requires long { length page.old ≡ block_size }
+    requires few { position + length (flat_map (filled block_size) (texts_of parts.now)) < 2 ^ 33 }
+    ensures ok { OnOk result (Appends (W.taken out.old) (W.taken out.new) (woven block_size num_blocks position (flat_map (filled block_size) (texts_of parts.now)))) }
+    ensures broken { OnErr result (W.is_broken out.new ≡ true) }
+    ensures prefix { OnErr result (AppendsPart (W.taken out.old) (W.taken out.new) (woven block_size num_blocks position (flat_map (filled block_size) (texts_of parts.now)))) }
+{
+    let mut position = position;
+    for part in parts {
+        position = put_part(block_size, num_blocks, position, part, page, out)?;
+    }
+    Ok(())
+}
