@@ -1,3 +1,4 @@
 pub mod FramingLaws
 pub mod TableLaws
 pub mod StreamLaws
+pub mod WrittenLaws

@@ -12,7 +12,7 @@ use std::marker::Model;
 pub(crate) const LENGTH: usize = 56;
 
 /// The version that streams of today have, V80.
-const VERSION: u32 = 20040203;
+pub(crate) const VERSION: u32 = 20040203;
 
 /// The first type index: those below it are simple types, which need no record.
 pub(crate) const BEGIN: u32 = 0x1000;

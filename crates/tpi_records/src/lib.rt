@@ -31,8 +31,10 @@ mod iter;
 mod records;
 #[cfg(test)]
 mod tests;
+mod written;
 
 pub use fault::TpiFault;
 pub use header::TpiHeader;
 pub use iter::Iter;
 pub use records::Records;
+pub use written::tpi_header_bytes;

@@ -1,0 +1,36 @@
+-- A header that was written, read back.
+use Rattle.std.proofs.Common.{◌≡◌, ℕ, ◌+◌, ◌*◌, ◌<◌, ◌^◌, List, ◌++◌, length, get_or, arith}
+use Rattle.std.specs.List.{concat}
+use Rattle.std.proofs.lemmas.List.{length-append, drop_at}
+use Rattle.byte_fields.specs.Number.{number_at, word}
+use Rattle.byte_fields.proofs.NumberLaws.{word-words, length-words}
+use Rattle.tpi_records.specs.Written.{header_numbers, header_text, HeadsRecords}
+
+-- a number of the header
+number_back : (count bytes : ℕ) (rest : List ℕ) (k : ℕ) → k < 14 → get_or (header_numbers count bytes) k 0 < 2 ^ 32 → number_at 4 (header_text count bytes ++ rest) (4 * k) ≡ get_or (header_numbers count bytes) k 0
+unfolding header_text word
+number_back count bytes rest k lt small = word-words (header_numbers count bytes) rest k lt small
+
+length-header : (count bytes : ℕ) → length (header_text count bytes) ≡ 56
+unfolding header_text
+length-header count bytes = length-words (header_numbers count bytes)
+
+-- what stands behind the header are the records that it announces
+pub heads_records : (count bytes : ℕ) (header : List ℕ) → header ≡ header_text count bytes → 0x1000 + count < 2 ^ 32 → bytes < 2 ^ 32 → HeadsRecords header count bytes
+heads_records count bytes header is few short records rest each counted long =
+    let t = header_text count bytes in
+    let behind = concat records ++ rest in
+    rw is (record {
+      header = record {
+        long = omega (arith, length-append t behind, length-header count bytes);
+        version = number_back count bytes behind 0 (omega arith) (omega arith);
+        header_size = number_back count bytes behind 1 (omega arith) (omega arith);
+        begin = number_back count bytes behind 2 (omega arith) (omega arith);
+        end = rw counted (number_back count bytes behind 3 (omega arith) (omega arith));
+        bytes = rw long (number_back count bytes behind 4 (omega arith) (omega arith));
+        whole = omega (arith, length-append t behind, length-header count bytes, length-append (concat records) rest);
+      };
+      rest = rest;
+      parts = drop_at t behind 56 (length-header count bytes);
+      each = each;
+    })
