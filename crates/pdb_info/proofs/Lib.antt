@@ -7,3 +7,4 @@ pub mod InfoLaws
 pub mod PartsLaws
 pub mod ValueLaws
 pub mod FoundLaws
+pub mod WrittenLaws

@@ -3,3 +3,5 @@ pub mod Header
 pub mod Names
 pub mod Name
 pub mod Info
+pub mod Settings
+pub mod Written

@@ -1,4 +1,5 @@
-//! The info stream of a PDB: its header, the streams that have a name, and the feature codes.
+//! The info stream of a PDB: its header, the streams that have a name, and the feature codes; read,
+//! and written.
 //!
 //! An info stream is a header of 28 bytes, the named stream map, and feature codes to the end.
 //! The map has a buffer of names, each with a NUL behind it, and is a hash table on disk: Size and
@@ -8,6 +9,8 @@
 //!
 //! - [`InfoHeader::read`] reads the header alone: version, signature, age and GUID.
 //! - [`Info::read`] checks and reads the whole stream. The names are lent from it.
+//! - [`info_bytes`] is the stream of a file that is written: a header with the age and the GUID of
+//!   its [`Settings`], no named stream, no feature code.
 //! - [`guid_bytes`] and [`guid_of`] know the order in which the bytes of a GUID are stored.
 //! - [`InfoFault`] is the first check that a stream fails, in the order of its fields.
 //!
@@ -25,8 +28,8 @@
 //!
 //! What is proved: a stream that reads well *is spelled* from its values as the format says
 //! (`HasInfo` of `specs/Info`); a stream that is spelled so is refused only for want of memory;
-//! and a refusal names the first check that fails, or want of memory where none does.
-//! ("The PDB Info Stream".)
+//! and a refusal names the first check that fails, or want of memory where none does. What is
+//! written is spelled from the age and the GUID of its settings. ("The PDB Info Stream".)
 #![tactic(auto)]
 
 mod fault;
@@ -36,11 +39,15 @@ mod info;
 mod map;
 mod names;
 mod pairs;
+mod settings;
 #[cfg(test)]
 mod tests;
+mod written;
 
 pub use fault::InfoFault;
 pub use guid::{guid_bytes, guid_of};
 pub use header::InfoHeader;
 pub use info::Info;
 pub use names::Name;
+pub use settings::Settings;
+pub use written::info_bytes;

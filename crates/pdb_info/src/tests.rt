@@ -1,6 +1,6 @@
 //! What no clause says: that a call succeeds, the texts of the faults, and refused growth.
 
-use crate::{Info, InfoFault, InfoHeader, Name, guid_bytes, guid_of};
+use crate::{Info, InfoFault, InfoHeader, Name, Settings, guid_bytes, guid_of, info_bytes};
 use linked_list_allocator::LocalHeap;
 use std::alloc::Allocator;
 use std::test::Fail;
@@ -217,5 +217,20 @@ fn growth_is_refused(rt: HostRuntime) -> Result<(), Fail> {
     }
     assert!(rt; refused > 0);
     assert!(rt; read > 0);
+    Ok(())
+}
+
+#[test]
+fn settings_have_a_highest_limit(rt: HostRuntime) -> Result<(), Fail> {
+    let guid = Uuid::from_bytes(GUID);
+    assert!(rt; Settings::new(guid, 1, 1_073_741_825).is_none());
+    let settings = Settings::new(guid, 7, 1_073_741_824).ok_or("no settings")?;
+    assert_eq!(rt; settings.guid(), guid);
+    assert_eq!(rt; settings.age(), 7);
+    assert_eq!(rt; settings.limit(), 1_073_741_824);
+    let stream = info_bytes(&settings);
+    let header = InfoHeader::read(&stream)?;
+    assert_eq!(rt; header.age(), 7);
+    assert_eq!(rt; header.guid(), guid);
     Ok(())
 }

@@ -1,0 +1,40 @@
+//! The info stream of a file that is written.
+
+ghost use Rattle.std.specs.Prelude.{◌≡◌, [], ◌∷◌, ◌++◌, length};
+ghost use Rattle.byte_fields.specs.Number.{words};
+ghost use Rattle.pdb_info.specs.Info.{HasInfo};
+ghost use Rattle.pdb_info.specs.Written.{info_text, info_view};
+
+use crate::guid::guid_bytes;
+use crate::settings::Settings;
+
+/// The version that streams of today have, VC70.
+const VERSION: u32 = 20000404;
+
+/// How many buckets a map without names has.
+const CAPACITY: u32 = 8;
+
+/// The stream, field by field.
+#[tactic(auto, unfolding(byte_fields::specs::Number::four_bytes))]
+fn stream_of(age: u32, stored: [u8; 16]) -> [u8; 52]
+    ensures value { result ≡ words (20000404 ∷ 0 ∷ age ∷ []) ++ (stored ++ words (0 ∷ 0 ∷ 8 ∷ 0 ∷ 0 ∷ 0 ∷ [])) }
+    ensures long { length stored ≡ 16 }
+{
+    let mut stream = [0; 52];
+    stream[..4].copy_from_slice(&VERSION.to_le_bytes());
+    stream[8..12].copy_from_slice(&age.to_le_bytes());
+    stream[36..40].copy_from_slice(&CAPACITY.to_le_bytes());
+    stream[12..28].copy_from_slice(&stored);
+    stream
+}
+
+/// The info stream of a file that is written with these settings.
+///
+/// It has the version VC70, no signature, the age and the GUID of the settings, no named stream
+/// and no feature code, and reads back as that. It takes no memory. ("The PDB Info Stream".)
+pub fn info_bytes(settings: &Settings) -> [u8; 52]
+    ensures value { result ≡ info_text settings.now.age settings.now.guid }
+    ensures read_back { HasInfo result (info_view settings.now.age settings.now.guid) }
+{
+    stream_of(settings.age(), guid_bytes(settings.guid()))
+}
