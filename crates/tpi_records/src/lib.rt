@@ -8,6 +8,7 @@
 //! - [`TpiHeader::read`] checks the header and gives what it says of the records.
 //! - [`Records::read`] checks header and records, and lends the records from the stream. Each one
 //!   is handed out whole, from its length field on.
+//! - [`tpi_header_bytes`] is the header of a stream that is written.
 //! - [`TpiFault`] is the first check that a stream fails, in the order of its variants.
 //!
 //! The records are numbered by type indices: the first one has the index 0x1000, and the next
@@ -22,7 +23,8 @@
 //! What is proved: a stream that reads well *has* these records (`HasRecords` of `specs/Records`),
 //! and it has no others (`one_records` of `proofs/StreamLaws`); a stream that has records is
 //! refused only for want of memory; and a refusal names the first check that fails, or want of
-//! memory where none does. ("The PDB TPI and IPI Streams".)
+//! memory where none does. A stream that begins with a written header has the records that follow
+//! it. ("The PDB TPI and IPI Streams".)
 #![tactic(auto)]
 
 mod fault;

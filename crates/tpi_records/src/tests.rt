@@ -1,6 +1,6 @@
 //! What no clause says: the texts of the faults, that a call succeeds, and refused growth.
 
-use crate::{Records, TpiFault, TpiHeader};
+use crate::{Records, TpiFault, TpiHeader, tpi_header_bytes};
 use linked_list_allocator::LocalHeap;
 use std::alloc::Allocator;
 use std::test::Fail;
@@ -111,4 +111,9 @@ fn growth_is_refused(rt: HostRuntime) -> Result<(), Fail> {
     assert!(rt; refused > 0);
     assert!(rt; read > 0);
     Ok(())
+}
+
+#[test]
+fn the_header_of_two_records(rt: HostRuntime) {
+    assert_eq!(rt; tpi_header_bytes(2, 24).as_slice(), &STREAM[..56]);
 }
