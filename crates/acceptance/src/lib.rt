@@ -8,6 +8,8 @@
 mod blocks;
 mod file;
 #[cfg(test)]
+mod images;
+#[cfg(test)]
 mod layouts;
 
 pub use file::{LENGTH, put, sample};

@@ -1,0 +1,213 @@
+//! Images: their lengths, their bytes, and writers that are refused memory or room.
+
+ghost use Rattle.std.specs.Prelude.{None};
+
+use crate::put;
+use linked_list_allocator::LocalHeap;
+use msf_blocks::{Out, Sink};
+use msf_streams::{WriteFault, image_len, write_image};
+use pdb_info::{Settings, guid_of, info_bytes};
+use std::alloc::{Allocator, Global};
+use std::test::Fail;
+use tpi_records::tpi_header_bytes;
+
+/// The length of the file without types, in bytes: seven blocks of 4,096.
+const LENGTH: usize = 28672;
+
+/// What the file without types has that isn't zero, and where.
+const PARTS: [(usize, &[u8]); 10] = [
+    // block 0: the superblock
+    (0, b"Microsoft C/C++ MSF 7.00\x0d\x0a\x1aDS\0\0\0"),
+    (
+        32,
+        b"\x00\x10\0\0\x01\0\0\0\x07\0\0\0\x20\0\0\0\0\0\0\0\x03\0\0\0",
+    ),
+    // blocks 1 and 2: the free block maps
+    (4096, &[0xFF; 8192]),
+    (4096, b"\x80"),
+    // block 3: the block map
+    (12288, b"\x04\0\0\0"),
+    // block 4: the directory
+    (
+        16384,
+        b"\x05\0\0\0\0\0\0\0\x34\0\0\0\x38\0\0\0\0\0\0\0\0\0\0\0\x05\0\0\0\x06\0\0\0",
+    ),
+    // block 5: the info stream
+    (20480, b"\x94\x2e\x31\x01\0\0\0\0\x01\0\0\0"),
+    (
+        20492,
+        b"\x33\x22\x11\x00\x55\x44\x77\x66\x88\x99\xaa\xbb\xcc\xdd\xee\xff\0\0\0\0\0\0\0\0\x08",
+    ),
+    // block 6: the header of the TPI stream
+    (
+        24576,
+        b"\x0b\xca\x31\x01\x38\0\0\0\x00\x10\0\0\x00\x10\0\0\0\0\0\0",
+    ),
+    (24596, b"\xff\xff\xff\xff\x04\0\0\0\xff\xff\x03\x00"),
+];
+
+/// The file without types, from its table.
+fn expected(alloc: Global) -> Result<Vec<u8>, Fail> {
+    let mut file = vec![in alloc; 0u8; LENGTH]?;
+    for (at, bytes) in PARTS {
+        put(&mut file, at, bytes);
+    }
+    Ok(file)
+}
+
+/// Takes at most `step` bytes at a call, and `room` bytes in all.
+#[derive(Drop)]
+struct Narrow {
+    taken: Vec<u8>,
+    step: usize,
+    room: usize,
+    broken: bool,
+}
+
+impl Sink for Narrow {
+    ghost taken = { λ _. None };
+
+    ghost is_broken = { λ s. s.broken };
+
+    fn put(&mut self, bytes: &[u8]) -> usize {
+        let count = bytes.len().min(self.room).min(self.step);
+        if self.taken.extend_from_slice(&bytes[..count]).is_err() || count == 0 {
+            self.broken = true;
+            return 0;
+        }
+        self.room -= count;
+        count
+    }
+}
+
+/// Writes the image with these streams 1 and 2 and three empty ones.
+fn write_two<'a, W: Sink, A: Allocator + Copy>(
+    alloc: A,
+    info: &'a [u8],
+    types: &'a [u8],
+    out: &mut W,
+) -> Result<(), WriteFault> {
+    write_image(alloc, &[&[], info, types, &[], &[]], out)
+}
+
+/// Writes the file without types into a narrow sink.
+fn write_narrow<A: Allocator + Copy>(
+    alloc: A,
+    global: Global,
+    step: usize,
+    room: usize,
+) -> Result<(Narrow, Option<WriteFault>), Fail> {
+    let guid = guid_of([
+        0x33, 0x22, 0x11, 0x00, 0x55, 0x44, 0x77, 0x66, 0x88, 0x99, 0xAA, 0xBB, 0xCC, 0xDD, 0xEE,
+        0xFF,
+    ]);
+    let settings = Settings::new(guid, 1, 1_073_741_824).ok_or("no settings")?;
+    let mut out = Narrow {
+        taken: Vec::new(global),
+        step,
+        room,
+        broken: false,
+    };
+    let info = info_bytes(&settings);
+    let types = tpi_header_bytes(0, 0);
+    let fault = write_two(alloc, &info, &types, &mut out).err();
+    Ok((out, fault))
+}
+
+#[test]
+fn each_fault_has_its_text(rt: HostRuntime) -> Result<(), Fail> {
+    for (fault, text) in [
+        (WriteFault::Image, "35 Image"),
+        (WriteFault::Memory, "33 Memory"),
+        (WriteFault::Write, "36 Write"),
+    ] {
+        let shown = fault.to_string(rt.alloc())?;
+        assert_eq!(rt; shown.as_str(), text);
+    }
+    Ok(())
+}
+
+#[test]
+fn lengths_of_images(rt: HostRuntime) {
+    assert_eq!(rt; image_len(&[0, 52, 56, 0, 0]), Some(28672));
+    assert_eq!(rt; image_len(&[0, 52, 16740352, 0, 0]), Some(16777216));
+    assert_eq!(rt; image_len(&[0, 52, 16740353, 0, 0]), Some(16781312));
+    assert_eq!(rt; image_len(&[0, 52, 16744449, 0, 0]), Some(16793600));
+    assert_eq!(rt; image_len(&[1073741824; 5]), None);
+}
+
+#[test]
+fn the_file_without_types(rt: HostRuntime) -> Result<(), Fail> {
+    let want = expected(rt.alloc())?;
+    for step in [1, 4095, LENGTH] {
+        let (out, fault) = write_narrow(rt.alloc(), rt.alloc(), step, LENGTH)?;
+        assert_eq!(rt; fault, None);
+        assert_eq!(rt; out.taken.len(), LENGTH);
+        assert!(rt; out.taken == want, "by {step} bytes");
+    }
+    Ok(())
+}
+
+#[test]
+fn a_sink_that_breaks_has_the_first_bytes(rt: HostRuntime) -> Result<(), Fail> {
+    let want = expected(rt.alloc())?;
+    for room in (0..LENGTH).step_by(251) {
+        let (out, fault) = write_narrow(rt.alloc(), rt.alloc(), LENGTH, room)?;
+        assert_eq!(rt; fault, Some(WriteFault::Write), "room for {room}");
+        assert_eq!(rt; out.taken.len(), room);
+        assert!(rt; want.starts_with(&out.taken), "room for {room}");
+    }
+    Ok(())
+}
+
+#[test]
+fn growth_is_refused_before_anything_is_written(rt: HostRuntime) -> Result<(), Fail> {
+    let mut refused = 0u32;
+    let mut written = 0u32;
+    for size in 0..40usize {
+        let heap = LocalHeap::new(rt.alloc(), 128 * size)?;
+        let (out, fault) = write_narrow(&heap, rt.alloc(), LENGTH, LENGTH)?;
+        if fault.is_none() {
+            assert_eq!(rt; out.taken.len(), LENGTH);
+            written = written.saturating_add(1);
+        } else {
+            assert_eq!(rt; fault, Some(WriteFault::Memory));
+            assert!(rt; out.taken.is_empty());
+            refused = refused.saturating_add(1);
+        }
+    }
+    assert!(rt; refused > 0);
+    assert!(rt; written > 0);
+    Ok(())
+}
+
+/// The image of a stream 2 that passes the map blocks of the second interval by one byte.
+fn long_image(alloc: Global) -> Result<Vec<u8>, Fail> {
+    let types = vec![in alloc; 0xABu8; 16_744_449]?;
+    let mut file = Vec::with_capacity(alloc, 16_793_600)?;
+    let mut out = Out::new(&mut file);
+    write_two(alloc, &[0xCD; 52], &types, &mut out)?;
+    drop(out);
+    Ok(file)
+}
+
+#[test]
+fn maps_without_meaning_are_free(rt: HostRuntime) -> Result<(), Fail> {
+    let file = long_image(rt.alloc())?;
+    assert_eq!(rt; file.len(), 16_793_600);
+    // Blocks 0 to 4,099 are in use: 512 bytes of map 1, and four bits.
+    for (first, last, want) in [
+        (4096, 4608, 0),
+        (4608, 4609, 0xF0),
+        (4609, 12288, 0xFF),
+        // The last block in front of the maps, the maps, and the one behind them.
+        (16_777_216, 16_781_312, 0xAB),
+        (16_781_312, 16_789_504, 0xFF),
+        (16_789_504, 16_789_505, 0xAB),
+        (16_789_505, 16_793_600, 0),
+    ] {
+        let part = file.get(first..last).ok_or("no such part")?;
+        assert!(rt; part.iter().all(|byte| *byte == want), "from {first} on");
+    }
+    Ok(())
+}
