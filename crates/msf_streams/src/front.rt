@@ -1,8 +1,8 @@
 //! What stands in front of the streams of an image: its superblock, its block map, its directory.
 
-ghost use Rattle.std.specs.Prelude.{◌≡◌, ◌≤◌, ◌<◌, ◌+◌, ◌*◌, ◌/◌, ◌^◌, [], ◌∷◌, ◌++◌, length, map, IfOk, OnOk};
+ghost use Rattle.std.specs.Prelude.{◌≡◌, ◌≤◌, ◌<◌, ◌+◌, ◌*◌, ◌^◌, [], ◌∷◌, ◌++◌, length, IfOk, OnOk};
 ghost use Rattle.byte_fields.specs.Number.{words, four_bytes};
-ghost use Rattle.msf_blocks.specs.BlockNumber.{IsBlockSize, blocks_for, nth_block};
+ghost use Rattle.msf_blocks.specs.BlockNumber.{IsBlockSize};
 ghost use Rattle.msf_blocks.specs.Superblock.{magic};
 ghost use Rattle.msf_streams.specs.Image.{Fits, numbers, image_blocks};
 ghost use Rattle.msf_streams.specs.Woven.{IsFront};

@@ -2,7 +2,7 @@
 
 ghost use Rattle.std.specs.Prelude.{◌≡◌, ◌+◌, ◌*◌, ◌/◌, ◌^◌, ◌<◌, ◌≤◌, IfSome, IfNone};
 ghost use Rattle.msf_blocks.specs.BlockNumber.{IsBlockSize, blocks_for};
-ghost use Rattle.msf_streams.specs.Image.{Fits, blocks_of_all, directory_len, directory_count, image_blocks, image_length};
+ghost use Rattle.msf_streams.specs.Image.{Fits, blocks_of_all, directory_count, image_blocks, image_length};
 
 use msf_blocks::nth_block;
 
@@ -23,7 +23,8 @@ pub(crate) fn stream_blocks(block_size: u32, sizes: &[u32; 5]) -> u32
     blocks
 }
 
-/// How long the directory is that lists streams of so many blocks.
+/// How long the directory is that lists five streams of so many blocks: the count, the sizes, and
+/// a number for each block.
 pub(crate) fn directory_len(blocks: u32) -> u32
     requires { blocks ≤ 5 * 2 ^ 23 }
     ensures { result ≡ 4 * (6 + blocks) }

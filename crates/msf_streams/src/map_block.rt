@@ -1,6 +1,6 @@
 //! The blocks of the free block maps of an image.
 
-ghost use Rattle.std.specs.Prelude.{◌≡◌, ◌+◌, ◌*◌, ◌^◌, ◌<◌, length};
+ghost use Rattle.std.specs.Prelude.{◌≡◌, ◌+◌, ◌*◌, length};
 ghost use Rattle.msf_blocks.specs.BlockNumber.{IsBlockSize};
 ghost use Rattle.msf_streams.specs.Image.{map_byte, map_block};
 

@@ -4,12 +4,12 @@
 //! bytes. Two map blocks stand in front of the first byte of each stretch of that text. They are
 //! put right before that byte, so that none stands behind the last one.
 
-ghost use Rattle.std.specs.Prelude.{◌≡◌, ◌<◌, ◌≤◌, ◌^◌, ◌+◌, ◌*◌, ◌-◌, ◌++◌, true, length, map, take, min, IfOk, OnOk, OnErr};
+ghost use Rattle.std.specs.Prelude.{◌≡◌, ◌<◌, ◌≤◌, ◌^◌, ◌+◌, ◌*◌, ◌-◌, true, length, take, IfOk, OnOk, OnErr};
 ghost use Rattle.std.specs.List.{flat_map};
 ghost use lib.ListN.{replicate};
 ghost use Rattle.std.specs.Io.KnownBytes.{Appends};
 ghost use Rattle.msf_blocks.specs.BlockNumber.{IsBlockSize, blocks_for};
-ghost use Rattle.msf_streams.specs.Image.{map_block, filled, texts_of};
+ghost use Rattle.msf_streams.specs.Image.{filled, texts_of};
 ghost use Rattle.msf_streams.specs.Woven.{stretch, maps_of, maps_before, woven, room, AppendsPart};
 
 use crate::map_block::fill_map;

@@ -34,7 +34,7 @@ fn sizes_of(streams: &[&[u8]; 5]) -> Option<[u32; 5]>
     Some(sizes)
 }
 
-/// Puts the image of these streams into a sink, behind its front.
+/// Puts the image of these streams into a sink, with the front that was made for it.
 fn put_image<W: Sink, A: Allocator>(
     block_size: u32,
     num_blocks: u32,
