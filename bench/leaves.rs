@@ -120,7 +120,12 @@ fn places(record: &[u8], mut each: impl FnMut(usize)) -> Option<()> {
         0x1206 => {
             let mut at = 0;
             while at < body.len() {
-                let end = at + if introduces(u16_at(body.get(at..at + 8)?, 0)) { 12 } else { 8 };
+                let end = at
+                    + if introduces(u16_at(body.get(at..at + 8)?, 0)) {
+                        12
+                    } else {
+                        8
+                    };
                 body.get(at..end)?;
                 each(at + 4);
                 at = end;

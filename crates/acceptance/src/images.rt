@@ -151,7 +151,7 @@ fn the_file_without_types(rt: HostRuntime) -> Result<(), Fail> {
 #[test]
 fn a_sink_that_breaks_has_the_first_bytes(rt: HostRuntime) -> Result<(), Fail> {
     let want = expected(rt.alloc())?;
-    for room in (0..LENGTH).step_by(251) {
+    for room in 0..LENGTH {
         let (out, fault) = write_narrow(rt.alloc(), rt.alloc(), LENGTH, room)?;
         assert_eq!(rt; fault, Some(WriteFault::Write), "room for {room}");
         assert_eq!(rt; out.taken.len(), room);
