@@ -32,4 +32,4 @@ pub use free_map::free_bit;
 pub use layout::Layout;
 pub use sink::{NotTaken, Out, Sink, put_all};
 pub use source::{In, Source};
-pub use superblock::Superblock;
+pub use superblock::{MAGIC, Superblock};

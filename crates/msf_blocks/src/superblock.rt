@@ -10,8 +10,8 @@ use crate::fault::MsfFault;
 use byte_fields::u32_at;
 use std::marker::Model;
 
-/// The bytes with which every container begins.
-const MAGIC: [u8; 32] = *b"Microsoft C/C++ MSF 7.00\x0d\x0a\x1aDS\0\0\0";
+/// The bytes with which every container begins. ("The MSF File Format", "The Superblock".)
+pub const MAGIC: [u8; 32] = *b"Microsoft C/C++ MSF 7.00\x0d\x0a\x1aDS\0\0\0";
 
 /// How many bytes a superblock has.
 const LENGTH: usize = 56;

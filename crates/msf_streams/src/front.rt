@@ -8,11 +8,8 @@ ghost use Rattle.msf_streams.specs.Image.{Fits, numbers, image_blocks};
 ghost use Rattle.msf_streams.specs.Woven.{IsFront};
 
 use crate::image::{directory_blocks, directory_len, stream_blocks};
-use msf_blocks::nth_block;
+use msf_blocks::{MAGIC, nth_block};
 use std::alloc::{AllocError, Allocator};
-
-/// The bytes with which every container begins.
-const MAGIC: [u8; 32] = *b"Microsoft C/C++ MSF 7.00\x0d\x0a\x1aDS\0\0\0";
 
 /// The superblock with these numbers, in the order of its fields.
 #[tactic(auto, unfolding(byte_fields::specs::Number::four_bytes))]
