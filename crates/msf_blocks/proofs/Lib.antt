@@ -1,4 +1,5 @@
 pub mod SuperblockLaws
+pub mod WantLaws
 pub mod DirectoryLaws
 pub mod LayoutLaws
 pub mod ListsLaws
