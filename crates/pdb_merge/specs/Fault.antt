@@ -1,0 +1,38 @@
+-- The fault of a file that a fault of a layer below becomes: want of memory is one, wherever it was met.
+use Rattle.msf_blocks.specs.declared.fault.MsfFault.{MsfFault}
+use Rattle.msf_blocks.specs.declared.fault.MsfFault.TheVariants as msf
+use Rattle.msf_streams.specs.declared.fault.StreamFault.{StreamFault}
+use Rattle.msf_streams.specs.declared.fault.StreamFault.TheVariants as streams
+use Rattle.pdb_info.specs.declared.fault.InfoFault.{InfoFault}
+use Rattle.pdb_info.specs.declared.fault.InfoFault.TheVariants as infos
+use Rattle.tpi_records.specs.declared.fault.TpiFault.{TpiFault}
+use Rattle.tpi_records.specs.declared.fault.TpiFault.TheVariants as tpi
+use Rattle.type_trees.specs.declared.fault.TypeFault.{TypeFault}
+use Rattle.type_trees.specs.declared.fault.TypeFault.TheVariants as types
+use Rattle.pdb_merge.specs.declared.fault.PdbFault.{PdbFault}
+use Rattle.pdb_merge.specs.declared.fault.PdbFault.TheVariants as fault
+
+-- of the container
+abbrev pub of_msf : MsfFault → PdbFault
+of_msf msf.Memory = fault.Memory
+of_msf inner = fault.Msf inner
+
+-- of its streams
+abbrev pub of_stream : StreamFault → PdbFault
+of_stream (streams.NoStream s) = fault.NoStream s
+of_stream streams.Memory = fault.Memory
+
+-- of the info stream
+abbrev pub of_info : InfoFault → PdbFault
+of_info infos.Memory = fault.Memory
+of_info inner = fault.Info inner
+
+-- of the stream of type records
+abbrev pub of_tpi : TpiFault → PdbFault
+of_tpi tpi.Memory = fault.Memory
+of_tpi inner = fault.Tpi inner
+
+-- of the type records
+abbrev pub of_type : TypeFault → PdbFault
+of_type types.Memory = fault.Memory
+of_type inner = fault.Type inner

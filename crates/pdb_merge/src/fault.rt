@@ -1,0 +1,102 @@
+//! Why a file isn't accepted.
+
+ghost use Rattle.std.specs.Prelude.{◌≡◌};
+ghost use Rattle.pdb_merge.specs.Fault.{of_msf, of_stream, of_info, of_tpi, of_type};
+ghost use Rattle.pdb_merge.specs.declared.fault.PdbFault.TheVariants.{Memory};
+
+use msf_blocks::MsfFault;
+use msf_streams::StreamFault;
+use pdb_info::InfoFault;
+use std::alloc::AllocError;
+use thiserror::Error;
+use tpi_records::TpiFault;
+use type_trees::TypeFault;
+
+/// The first fault of a file on the way to its types.
+///
+/// The container comes first, then stream 1, then stream 2 and its records. Want of memory is
+/// `Memory` wherever it was met: the faults inside the others never are it.
+#[derive(Debug, PartialEq, Eq, Drop, Error)]
+pub enum PdbFault {
+    /// The container is refused.
+    #[error("{0}")]
+    Msf(MsfFault),
+    /// The container has no stream of this number, which is 1 or 2.
+    #[error("11 NoStream {0}")]
+    NoStream(u32),
+    /// The info stream is refused.
+    #[error("{0}")]
+    Info(InfoFault),
+    /// The stream of type records is refused.
+    #[error("{0}")]
+    Tpi(TpiFault),
+    /// The type records are no types.
+    #[error("{0}")]
+    Type(TypeFault),
+    /// A growth was refused.
+    #[error("33 Memory")]
+    Memory,
+}
+
+impl From<AllocError> for PdbFault {
+    ghost from_gives = { λ _ fault. fault ≡ Memory };
+
+    fn from(_error: AllocError) -> PdbFault {
+        PdbFault::Memory
+    }
+}
+
+impl From<MsfFault> for PdbFault {
+    ghost from_gives = { λ inner fault. fault ≡ of_msf inner };
+
+    fn from(fault: MsfFault) -> PdbFault {
+        match fault {
+            MsfFault::Memory => PdbFault::Memory,
+            fault => PdbFault::Msf(fault),
+        }
+    }
+}
+
+impl From<StreamFault> for PdbFault {
+    ghost from_gives = { λ inner fault. fault ≡ of_stream inner };
+
+    fn from(fault: StreamFault) -> PdbFault {
+        match fault {
+            StreamFault::NoStream(s) => PdbFault::NoStream(s),
+            StreamFault::Memory => PdbFault::Memory,
+        }
+    }
+}
+
+impl From<InfoFault> for PdbFault {
+    ghost from_gives = { λ inner fault. fault ≡ of_info inner };
+
+    fn from(fault: InfoFault) -> PdbFault {
+        match fault {
+            InfoFault::Memory => PdbFault::Memory,
+            fault => PdbFault::Info(fault),
+        }
+    }
+}
+
+impl From<TpiFault> for PdbFault {
+    ghost from_gives = { λ inner fault. fault ≡ of_tpi inner };
+
+    fn from(fault: TpiFault) -> PdbFault {
+        match fault {
+            TpiFault::Memory => PdbFault::Memory,
+            fault => PdbFault::Tpi(fault),
+        }
+    }
+}
+
+impl From<TypeFault> for PdbFault {
+    ghost from_gives = { λ inner fault. fault ≡ of_type inner };
+
+    fn from(fault: TypeFault) -> PdbFault {
+        match fault {
+            TypeFault::Memory => PdbFault::Memory,
+            fault => PdbFault::Type(fault),
+        }
+    }
+}

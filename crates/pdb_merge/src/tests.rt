@@ -1,0 +1,132 @@
+//! What no clause says: the texts of the faults, samples that were changed, one buffer for many
+//! files, and refused growth.
+
+use crate::{Buffer, PdbFault, read_types};
+use acceptance::{put, sample};
+use cv_leaves::LeafFault;
+use linked_list_allocator::LocalHeap;
+use msf_blocks::MsfFault;
+use msf_streams::StreamFault;
+use pdb_info::InfoFault;
+use std::alloc::{Allocator, Global};
+use std::test::Fail;
+use tpi_records::TpiFault;
+use type_trees::TypeFault;
+
+/// How many types a file has, how many bytes and how many levels; or the fault.
+type Answer = Result<(usize, u32, u32), PdbFault>;
+
+/// Reads the types of a file through a buffer.
+fn read<A: Allocator + Copy>(alloc: A, file: &[u8], buffer: &mut Buffer<A>) -> Answer {
+    let types = read_types(alloc, file, buffer)?;
+    Ok((types.len(), types.bytes_len(), types.levels()))
+}
+
+/// The sample with other bytes from an offset on.
+fn changed(alloc: Global, at: usize, bytes: &[u8]) -> Result<Vec<u8>, Fail> {
+    let mut file = sample(alloc)?;
+    put(&mut file, at, bytes);
+    Ok(file)
+}
+
+/// The bytes that stand from an offset on in place of the sample's, and what is wanted.
+type Row = (usize, &'static [u8], Answer);
+
+/// Changed samples, those that are accepted among those that are not.
+const ROWS: [Row; 12] = [
+    (0, b"", Ok((2, 24, 1))),
+    (0, b"m", Err(PdbFault::Msf(MsfFault::Magic))),
+    // one stream, two streams, and two of which the last is short
+    (2048, b"\x01", Err(PdbFault::NoStream(1))),
+    (
+        2048,
+        b"\x02\0\0\0\0\0\0\0\x34\0\0\0\x05",
+        Err(PdbFault::NoStream(2)),
+    ),
+    (
+        2048,
+        b"\x02\0\0\0\0\0\0\0\x1b\0\0\0\x05",
+        Err(PdbFault::Info(InfoFault::InfoShort)),
+    ),
+    // the info stream is short, nil, just long enough, and with a map of names that is none
+    (2056, b"\x1b", Err(PdbFault::Info(InfoFault::InfoShort))),
+    (
+        2056,
+        b"\xff\xff\xff\xff",
+        Err(PdbFault::Info(InfoFault::InfoShort)),
+    ),
+    (2056, b"\x1c", Ok((2, 24, 1))),
+    (2588, b"\xff\xff\xff\xff", Ok((2, 24, 1))),
+    // the stream of type records is short, and has no records
+    (2060, b"\x37", Err(PdbFault::Tpi(TpiFault::Short))),
+    (3084, b"\0\x10\0\0\0\0\0\0", Ok((0, 0, 0))),
+    // the first record names itself
+    (
+        3132,
+        b"\0\x10",
+        Err(PdbFault::Type(TypeFault::Ref {
+            index: 0x1000,
+            place: 0,
+            to: 0x1000,
+        })),
+    ),
+];
+
+#[test]
+fn one_buffer_for_all_files(rt: HostRuntime) -> Result<(), Fail> {
+    let mut buffer = Buffer::new(rt.alloc());
+    for (at, bytes, want) in ROWS {
+        let file = changed(rt.alloc(), at, bytes)?;
+        let found = read(rt.alloc(), &file, &mut buffer);
+        assert_eq!(rt; found, want);
+        let whole = sample(rt.alloc())?;
+        let again = read(rt.alloc(), &whole, &mut buffer);
+        assert_eq!(rt; again, Ok((2, 24, 1)));
+    }
+    Ok(())
+}
+
+#[test]
+fn each_fault_has_its_text(rt: HostRuntime) -> Result<(), Fail> {
+    let leaf = TypeFault::Leaf {
+        index: 0x1001,
+        fault: LeafFault::Leaf(0x150A),
+    };
+    for (fault, text) in [
+        (PdbFault::Msf(MsfFault::Magic), "2 Magic"),
+        (PdbFault::NoStream(1), "11 NoStream 1"),
+        (PdbFault::Info(InfoFault::InfoShort), "12 InfoShort"),
+        (PdbFault::Tpi(TpiFault::Short), "16 TpiShort"),
+        (PdbFault::Type(leaf), "index 0x1001: 25 Leaf 0x150a"),
+        (PdbFault::Memory, "33 Memory"),
+        (MsfFault::Memory.into(), "33 Memory"),
+        (StreamFault::NoStream(2).into(), "11 NoStream 2"),
+        (StreamFault::Memory.into(), "33 Memory"),
+        (InfoFault::Memory.into(), "33 Memory"),
+        (TpiFault::Memory.into(), "33 Memory"),
+        (TypeFault::Memory.into(), "33 Memory"),
+    ] {
+        let shown = fault.to_string(rt.alloc())?;
+        assert_eq!(rt; shown.as_str(), text);
+    }
+    Ok(())
+}
+
+#[test]
+fn growth_is_refused(rt: HostRuntime) -> Result<(), Fail> {
+    let file = sample(rt.alloc())?;
+    let mut refused = 0u32;
+    for size in 0..64usize {
+        let heap = LocalHeap::new(rt.alloc(), 16 * size)?;
+        let mut buffer = Buffer::new(&heap);
+        match read(&heap, &file, &mut buffer) {
+            Ok(found) => assert_eq!(rt; found, (2, 24, 1)),
+            Err(fault) => {
+                assert_eq!(rt; fault, PdbFault::Memory);
+                refused = refused.saturating_add(1);
+            }
+        }
+    }
+    assert!(rt; 0 < refused && refused < 64);
+    Ok(())
+}
