@@ -7,10 +7,12 @@ use Rattle.tpi_records.specs.declared.fault.TpiFault.{TpiFault}
 use Rattle.tpi_records.specs.declared.fault.TpiFault.TheVariants as tpi
 use Rattle.pdb_info.specs.declared.fault.InfoFault.{InfoFault}
 use Rattle.pdb_info.specs.declared.fault.InfoFault.TheVariants as infos
+use Rattle.pdb_merge.specs.declared.fault.PdbFault.{PdbFault}
+use Rattle.pdb_merge.specs.declared.fault.PdbFault.TheVariants as pdb
 use Rattle.pdbmerge.specs.declared.input.ReadFault.{ReadFault}
 use Rattle.pdbmerge.specs.declared.input.ReadFault.TheVariants as reads
 use Rattle.pdbmerge.specs.declared.fault.RunFault.{RunFault}
-use Rattle.pdbmerge.specs.declared.fault.RunFault.TheVariants.{Read, Msf, Stream, Info, Tpi, Memory}
+use Rattle.pdbmerge.specs.declared.fault.RunFault.TheVariants.{Read, Msf, Stream, Info, Tpi, Pdb, Memory}
 
 -- of reading
 abbrev pub of_read : ReadFault → RunFault
@@ -36,3 +38,8 @@ of_tpi fault = Tpi fault
 abbrev pub of_info : InfoFault → RunFault
 of_info infos.Memory = Memory
 of_info fault = Info fault
+
+-- of the types of a whole file
+abbrev pub of_pdb : PdbFault → RunFault
+of_pdb pdb.Memory = Memory
+of_pdb fault = Pdb fault

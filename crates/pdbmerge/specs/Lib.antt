@@ -1,3 +1,4 @@
+pub mod Checked
 pub mod Fault
 pub mod Index
 pub mod Info

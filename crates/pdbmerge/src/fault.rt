@@ -1,7 +1,7 @@
 //! Why a command is refused.
 
 ghost use Rattle.std.specs.Prelude.{◌≡◌};
-ghost use Rattle.pdbmerge.specs.Fault.{of_read, of_msf, of_stream, of_info, of_tpi};
+ghost use Rattle.pdbmerge.specs.Fault.{of_read, of_msf, of_stream, of_info, of_tpi, of_pdb};
 ghost use Rattle.pdbmerge.specs.declared.fault.RunFault.TheVariants.{Memory, Write};
 
 use crate::input::ReadFault;
@@ -9,6 +9,7 @@ use cv_leaves::LeafFault;
 use msf_blocks::{MsfFault, NotTaken};
 use msf_streams::StreamFault;
 use pdb_info::InfoFault;
+use pdb_merge::PdbFault;
 use std::alloc::AllocError;
 use thiserror::Error;
 use tpi_records::TpiFault;
@@ -33,6 +34,9 @@ pub enum RunFault {
     /// The stream of type records is refused.
     #[error("{0}")]
     Tpi(TpiFault),
+    /// The file isn't accepted.
+    #[error("{0}")]
+    Pdb(PdbFault),
     /// No type record has this index.
     #[error("39 NoRecord {0:#x}")]
     NoRecord(u32),
@@ -114,6 +118,17 @@ impl From<TpiFault> for RunFault {
         match fault {
             TpiFault::Memory => RunFault::Memory,
             fault => RunFault::Tpi(fault),
+        }
+    }
+}
+
+impl From<PdbFault> for RunFault {
+    ghost from_gives = { λ inner fault. fault ≡ of_pdb inner };
+
+    fn from(fault: PdbFault) -> RunFault {
+        match fault {
+            PdbFault::Memory => RunFault::Memory,
+            fault => RunFault::Pdb(fault),
         }
     }
 }

@@ -24,6 +24,9 @@ const RECORD: &str = "Shows one type record: its bytes, what it names, what it i
 /// What `types` does.
 const TYPES: &str = "Shows each type record: its leaf, its size, the types that it names, its name";
 
+/// What `check` does.
+const CHECK: &str = "Shows whether the types of a file can be trusted, and how many there are";
+
 /// What `info` does.
 const INFO: &str =
     "Shows what identifies the file: version, signature, age, GUID, named streams, feature codes";
@@ -47,6 +50,8 @@ pub enum Line {
     Record { file: String, index: u32 },
     /// `types FILE`
     Types { file: String },
+    /// `check FILE`
+    Check { file: String },
     /// `info FILE`
     Info { file: String },
     /// `streams FILE`
@@ -132,6 +137,7 @@ fn program<'a>(alloc: Global) -> Result<Command<'a>, AllocError> {
         .subcommand(showing(alloc, "records", RECORDS)?)?
         .subcommand(showing_record(alloc)?)?
         .subcommand(showing(alloc, "types", TYPES)?)?
+        .subcommand(showing(alloc, "check", CHECK)?)?
         .subcommand(showing(alloc, "streams", STREAMS)?)?
         .subcommand(showing(alloc, "info", INFO)?)
 }
@@ -169,6 +175,9 @@ pub fn read_line(alloc: Global, words: &[String]) -> Result<Line, LineFault>
             index: index_of(words)?,
         }),
         Some(("types", words)) => Ok(Line::Types {
+            file: file_of(alloc, words)?,
+        }),
+        Some(("check", words)) => Ok(Line::Check {
             file: file_of(alloc, words)?,
         }),
         Some(("streams", words)) => Ok(Line::Streams {

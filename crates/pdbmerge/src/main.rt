@@ -9,6 +9,7 @@
 ghost use Rattle.std.specs.Prelude.{◌≡◌};
 ghost use Rattle.pdbmerge.specs.declared.ProgramFault.TheVariants.{Run};
 
+mod check;
 mod fault;
 mod index;
 mod info;
@@ -21,6 +22,7 @@ mod streams;
 mod text;
 mod types;
 
+use check::run_check;
 use fault::RunFault;
 use info::run_info;
 use line::{Line, LineFault, USAGE, read_line};
@@ -89,6 +91,10 @@ fn run<R: Files + Print + AllocGlobal>(rt: &R, line: &Line) -> Result<(), Progra
         Line::Types { file } => {
             let mut input = open(rt, file.as_str())?;
             run_types(rt.alloc(), &mut input, u32::MAX, &mut out)?;
+        }
+        Line::Check { file } => {
+            let mut input = open(rt, file.as_str())?;
+            run_check(rt.alloc(), &mut input, u32::MAX, &mut out)?;
         }
         Line::Info { file } => {
             let mut input = open(rt, file.as_str())?;
