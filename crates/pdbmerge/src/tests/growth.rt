@@ -1,5 +1,6 @@
 //! Growth that is refused in turn, by heaps of rising size.
 
+use crate::check::run_check;
 use crate::fault::RunFault;
 use crate::input::{ReadFault, read_all};
 use crate::records::run_records;
@@ -43,6 +44,27 @@ fn records_on_small_heaps(rt: HostRuntime) -> Result<(), Fail> {
         let mut input = In::new(file.as_slice());
         match run_records(&heap, &mut input, u32::MAX, &mut Out::new(&mut text)) {
             Ok(()) => assert_eq!(rt; text.as_slice(), SAMPLE.as_bytes()),
+            Err(fault) => {
+                assert_eq!(rt; fault, RunFault::Memory);
+                assert!(rt; text.is_empty());
+                refused = refused.saturating_add(1);
+            }
+        }
+    }
+    assert!(rt; 0 < refused && refused < 128);
+    Ok(())
+}
+
+#[test]
+fn checks_on_small_heaps(rt: HostRuntime) -> Result<(), Fail> {
+    let file = sample(rt.alloc())?;
+    let mut refused = 0u32;
+    for size in 0..128usize {
+        let heap = LocalHeap::new(rt.alloc(), 64 * size)?;
+        let mut text = Vec::new(rt.alloc());
+        let mut input = In::new(file.as_slice());
+        match run_check(&heap, &mut input, u32::MAX, &mut Out::new(&mut text)) {
+            Ok(()) => assert!(rt; text.starts_with(b"accepted\n")),
             Err(fault) => {
                 assert_eq!(rt; fault, RunFault::Memory);
                 assert!(rt; text.is_empty());

@@ -1,5 +1,6 @@
 //! What the commands print of the sample, of changed samples, and of bytes that are none.
 
+use crate::check::run_check;
 use crate::info::run_info;
 use crate::record::run_record;
 use crate::records::run_records;
@@ -422,5 +423,63 @@ fn types_of_several_leaves(rt: HostRuntime) -> Result<(), Fail> {
         let text = types_of(rt.alloc(), &file)?;
         assert_eq!(rt; text.as_str(), want);
     }
+    Ok(())
+}
+
+/// What `check` prints of a file, or the fault.
+fn checked(alloc: Global, file: &[u8]) -> Result<String, Fail> {
+    let mut text = Vec::new(alloc);
+    match run_check(
+        alloc,
+        &mut In::new(file),
+        u32::MAX,
+        &mut Out::new(&mut text),
+    ) {
+        Ok(()) => {}
+        Err(fault) => return Ok(fault.to_string(alloc)?),
+    }
+    Ok(String::from_utf8(text)?)
+}
+
+/// What `check` says of changed samples, in the order in which the faults come.
+const CHECKED: [Row; 10] = [
+    (0, b"", "accepted\nrecords 2\nbytes 24\nlevels 1\n"),
+    (0, b"m", "2 Magic"),
+    (2048, b"\x01", "11 NoStream 1"),
+    (2048, b"\x02\0\0\0\0\0\0\0\x1b\0\0\0\x05", "12 InfoShort"),
+    (2048, b"\x02\0\0\0\0\0\0\0\x34\0\0\0\x05", "11 NoStream 2"),
+    (2056, b"\x1b", "12 InfoShort"),
+    (3088, b"\x14\0\0\0", "22 RecordShort index 0x1001"),
+    (3142, b"\x0a\x15", "index 0x1001: 25 Leaf 0x150a"),
+    (3132, b"\0\x10", "31 Ref index 0x1000 place 0 to 0x1000"),
+    (
+        3084,
+        b"\0\x10\0\0\0\0\0\0",
+        "accepted\nrecords 0\nbytes 0\nlevels 0\n",
+    ),
+];
+
+#[test]
+fn checks_of_samples(rt: HostRuntime) -> Result<(), Fail> {
+    for (at, bytes, want) in CHECKED {
+        let mut file = sample(rt.alloc())?;
+        put(&mut file, at, bytes);
+        let text = checked(rt.alloc(), &file)?;
+        assert_eq!(rt; text.as_str(), want);
+    }
+    Ok(())
+}
+
+#[test]
+fn a_chain_of_three_records(rt: HostRuntime) -> Result<(), Fail> {
+    let mut file = sample(rt.alloc())?;
+    // a modifier of a simple type, a pointer to it, and a pointer to that
+    put(&mut file, 2060, b"\x5c");
+    put(&mut file, 3084, b"\x03\x10\0\0\x24");
+    put(&mut file, 3128, b"\x0a\0\x01\x10\x74\0\0\0\x01\0\xf2\xf1");
+    put(&mut file, 3140, b"\x0a\0\x02\x10\0\x10\0\0\x0c\0\x01\0");
+    put(&mut file, 3152, b"\x0a\0\x02\x10\x01\x10\0\0\x0c\0\x01\0");
+    let text = checked(rt.alloc(), &file)?;
+    assert_eq!(rt; text.as_str(), "accepted\nrecords 3\nbytes 36\nlevels 3\n");
     Ok(())
 }
