@@ -25,23 +25,25 @@ def tpi(body, count):
     return struct.pack('<5I', 20040203, 56, 0x1000, 0x1000 + count, len(body)) + hashes + body
 
 
-def pdb(stream, order=lambda blocks: blocks):
-    """A container with five streams, of which the third has these bytes, in blocks of this order."""
-    blocks = -(-len(stream) // BLOCK)
-    directory_len = 4 * (1 + 5 + blocks)
+def pdb(stream, order=lambda blocks: blocks, info=b''):
+    """A container with five streams: the second has the bytes of info, at most one block, and the
+    third these bytes, in blocks of this order."""
+    infos, blocks = -(-len(info) // BLOCK), -(-len(stream) // BLOCK)
+    directory_len = 4 * (1 + 5 + infos + blocks)
     directory_blocks = -(-directory_len // BLOCK)
     free, number = [], 3
-    while len(free) < 1 + directory_blocks + blocks:
+    while len(free) < 1 + directory_blocks + infos + blocks:
         if number % BLOCK not in (1, 2):
             free.append(number)
         number += 1
     count = free[-1] + 1
-    block_map, at, data = free[0], free[1:1 + directory_blocks], order(free[1 + directory_blocks:])
-    directory = struct.pack('<6I', 5, 0, 0, len(stream), 0, 0) + struct.pack(f'<{blocks}I', *data)
+    block_map, at, first = free[0], free[1:1 + directory_blocks], 1 + directory_blocks
+    named, data = free[first:first + infos], order(free[first + infos:])
+    directory = struct.pack('<6I', 5, 0, len(info), len(stream), 0, 0) + struct.pack(f'<{infos + blocks}I', *named, *data)
     file = bytearray(count * BLOCK)
     file[:56] = b'Microsoft C/C++ MSF 7.00\r\n\x1aDS\0\0\0' + struct.pack('<6I', BLOCK, 1, count, directory_len, 0, block_map)
     file[block_map * BLOCK:block_map * BLOCK + 4 * directory_blocks] = struct.pack(f'<{directory_blocks}I', *at)
-    for text, places in ((directory, at), (stream, data)):
+    for text, places in ((directory, at), (info, named), (stream, data)):
         for k, n in enumerate(places):
             part = text[k * BLOCK:(k + 1) * BLOCK]
             file[n * BLOCK:n * BLOCK + len(part)] = part
