@@ -1,3 +1,4 @@
 pub mod LayoutLaws
 pub mod StreamLaws
 pub mod AcceptedLaws
+pub mod MemoryLaws

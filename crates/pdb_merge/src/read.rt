@@ -1,6 +1,8 @@
 //! The types of a file.
 
-ghost use Rattle.std.specs.Prelude.{◌≡◌, ◌⊎◌, ℕ, List, OnOk, IfOk, IfErr};
+ghost use Rattle.std.specs.Prelude.{◌≡◌, ◌⊎◌, ℕ, List, None, OnOk, IfOk, IfErr};
+ghost use Rattle.byte_fields.specs.Check.{first_failing};
+ghost use Rattle.msf_blocks.specs.Layout.{layout_checks};
 ghost use Rattle.pdb_merge.specs.Accepted.{IsAccepted, HasNoTypes, HasTypeStream, HasInfo, HasNoInfo};
 
 use crate::buffer::Buffer;
@@ -39,6 +41,7 @@ fn check_info<A: Allocator>(layout: &Layout<A>) -> Result<(), PdbFault>
 fn type_stream<A: Allocator + Copy>(alloc: A, file: &[u8]) -> Result<Vec<u8, A>, PdbFault>
     ensures value { IfOk result (λ stream. HasTypeStream file.now stream.items) }
     ensures first { IfErr result (λ fault. HasNoTypes file.now fault ⊎ (fault ≡ PdbFault.Memory)) }
+    ensures memory { IfErr result (λ fault. fault ≡ PdbFault.Memory → first_failing (layout_checks file.now) ≡ None) }
 {
     let layout = Layout::read(alloc, file)?;
     check_info(&layout)?;
@@ -51,6 +54,7 @@ impl<A: Allocator + Copy> Buffer<A> {
     fn types(&mut self, alloc: A, file: &[u8]) -> Result<Types<'_, A>, PdbFault>
         ensures value { IfOk result (IsAccepted file.now) }
         ensures first { IfErr result (λ fault. HasNoTypes file.now fault ⊎ (fault ≡ PdbFault.Memory)) }
+        ensures memory { IfErr result (λ fault. fault ≡ PdbFault.Memory → first_failing (layout_checks file.now) ≡ None) }
     {
         self.bytes = Vec::new(alloc);
         self.bytes = type_stream(alloc, file)?;
@@ -75,6 +79,8 @@ pub fn read_types<'a, A: Allocator + Copy>(
     // Nothing that is accepted is refused, but for want of memory.
     ensures found { (records : List (List ℕ)) → IsAccepted file.now records → IfErr result (λ fault. fault ≡ PdbFault.Memory) }
     ensures first { IfErr result (λ fault. HasNoTypes file.now fault ⊎ (fault ≡ PdbFault.Memory)) }
+    // Want of memory is answered only where the container has no fault.
+    ensures memory { IfErr result (λ fault. fault ≡ PdbFault.Memory → first_failing (layout_checks file.now) ≡ None) }
 {
     buffer.types(alloc, file)
 }

@@ -1,0 +1,27 @@
+-- Want of memory is answered only where the container has no fault.
+use Rattle.std.proofs.Common.{◌≡◌, ◌⊎◌, ◌<◌, ◌∙◌, ℕ, List, Some, None, get_or, refl, sym, ap, inl, inr}
+use Rattle.std.specs.Prelude.{Result, Ok, Err, IfErr}
+use Rattle.byte_fields.specs.Check.{Refuses, first_failing}
+use Rattle.msf_blocks.specs.Layout.{LayoutView, HasLayout, layout_checks}
+use Rattle.msf_blocks.specs.declared.fault.MsfFault.{MsfFault}
+use Rattle.msf_blocks.specs.declared.fault.MsfFault.TheVariants as msf
+use Rattle.msf_blocks.proofs.FoundLaws.{layout_holds}
+use Rattle.msf_blocks.proofs.WantLaws.{layout_wants_none}
+use Rattle.pdb_merge.specs.Fault.{of_msf}
+use Rattle.pdb_merge.specs.declared.fault.PdbFault.{PdbFault}
+use Rattle.pdb_merge.specs.declared.fault.PdbFault.TheVariants.{Memory}
+
+-- what is want of memory of a file, was that of its container
+of_msf_want : (inner : MsfFault) → of_msf inner ≡ Memory → inner ≡ msf.Memory
+of_msf_want msf.Memory is = refl
+of_msf_want inner is = absurd cc
+
+-- where the container was refused for want of memory, it has no fault
+pub layout_want : (file : List ℕ) (inner : MsfFault) (fault : PdbFault) → fault ≡ of_msf inner → Refuses msf.Memory (first_failing (layout_checks file)) inner → fault ≡ Memory → first_failing (layout_checks file) ≡ None
+layout_want file inner fault made (inr want) is = want.1
+layout_want file inner fault made (inl first) is = absurd (layout_wants_none file (first ∙ ap Some (of_msf_want inner (sym made ∙ is))))
+
+-- a container that was read has none
+pub layout_sound : {A : Type 0} (file : List ℕ) (layout : LayoutView) (result : Result A PdbFault) → ((i : ℕ) → get_or file i 0 < 256) → HasLayout file layout → IfErr result (λ fault. fault ≡ Memory → first_failing (layout_checks file) ≡ None)
+layout_sound file layout (Ok value) bytes has = tt
+layout_sound file layout (Err fault) bytes has = λ is. layout_holds file layout bytes has
