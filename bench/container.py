@@ -19,6 +19,18 @@ def records(size):
     return b''.join(parts), count
 
 
+def padded(text):
+    """These bytes, and padding to a multiple of four, as producers write it."""
+    left = -len(text) % 4
+    return text + bytes(0xF0 + left - k for k in range(left))
+
+
+def record(kind, body):
+    """A record of this kind, whose body is padded."""
+    body = padded(body)
+    return struct.pack('<HH', 2 + len(body), kind) + body
+
+
 def tpi(body, count):
     """A TPI stream of these record bytes, without hashes (their keys have four bytes)."""
     hashes = struct.pack('<HHII', 0xFFFF, 0xFFFF, 4, 0x1000) + bytes(24)
