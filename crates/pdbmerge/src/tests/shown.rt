@@ -8,8 +8,11 @@ use crate::streams::run_streams;
 use crate::types::run_types;
 use acceptance::{LENGTH, put, sample};
 use msf_blocks::{In, Out};
+use msf_streams::{WriteFault, write_image};
+use pdb_info::{Settings, guid_of, info_bytes};
 use std::alloc::Global;
 use std::test::Fail;
+use tpi_records::tpi_header_bytes;
 
 /// What is printed of the sample.
 pub const SAMPLE: &str = "0x1000 0x1002 12\n0x1001 0x1001 12\n";
@@ -481,5 +484,42 @@ fn a_chain_of_three_records(rt: HostRuntime) -> Result<(), Fail> {
     put(&mut file, 3152, b"\x0a\0\x02\x10\x01\x10\0\0\x0c\0\x01\0");
     let text = checked(rt.alloc(), &file)?;
     assert_eq!(rt; text.as_str(), "accepted\nrecords 3\nbytes 36\nlevels 3\n");
+    Ok(())
+}
+
+/// Writes a file with these streams 1 and 2.
+fn write_two<'a>(
+    alloc: Global,
+    info: &'a [u8],
+    types: &'a [u8],
+    file: &mut Vec<u8>,
+) -> Result<(), WriteFault> {
+    write_image(alloc, &[&[], info, types, &[], &[]], &mut Out::new(file))
+}
+
+/// A file that is written with the records of the sample.
+fn written(alloc: Global) -> Result<Vec<u8>, Fail> {
+    let settings = Settings::new(guid_of([0x11; 16]), 1, 24).ok_or("no settings")?;
+    let mut types = Vec::new(alloc);
+    types.extend_from_slice(&tpi_header_bytes(2, 24))?;
+    types.extend_from_slice(b"\x0a\0\x02\x10\x74\0\0\0\x0c\0\x01\0")?;
+    types.extend_from_slice(b"\x0a\0\x01\x10\x74\0\0\0\x01\0\xf2\xf1")?;
+    let mut file = Vec::new(alloc);
+    write_two(alloc, &info_bytes(&settings), &types, &mut file)?;
+    Ok(file)
+}
+
+#[test]
+fn a_file_that_was_written(rt: HostRuntime) -> Result<(), Fail> {
+    let file = written(rt.alloc())?;
+    let text = shown(rt.alloc(), &file)?;
+    assert_eq!(rt; text.as_str(), SAMPLE);
+    let text = streams_of(rt.alloc(), &file)?;
+    assert_eq!(rt;
+        text.as_str(),
+        "block-size 4096\nblocks 7\nfree 0\ndirectory 32\nstreams 5\n0 0\n1 52 5\n2 80 6\n3 0\n4 0\n"
+    );
+    let text = checked(rt.alloc(), &file)?;
+    assert_eq!(rt; text.as_str(), "accepted\nrecords 2\nbytes 24\nlevels 1\n");
     Ok(())
 }
