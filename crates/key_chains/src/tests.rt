@@ -1,0 +1,88 @@
+//! What no clause says: chains walked by hand, and memory that is refused.
+
+ghost use Rattle.std.specs.Prelude.{◌≤◌, length};
+
+use crate::KeyChains;
+use linked_list_allocator::LocalHeap;
+use std::alloc::Allocator;
+use std::process::Abort;
+use std::test::Fail;
+
+/// Pushes the keys in turn until one is refused, and gives how many were pushed.
+fn push_each<A: Allocator>(rt: &impl Abort, chains: &mut KeyChains<A>, keys: &[u32]) -> usize
+    ensures { result ≤ length keys.now }
+{
+    for (pushed, key) in keys.iter().enumerate() {
+        assert!(rt; chains.len() < 1000);
+        if chains.push(*key).is_err() {
+            return pushed;
+        }
+    }
+    keys.len()
+}
+
+/// Whether the positions of a key, the newest first, are just these.
+fn has_chain<A: Allocator>(chains: &KeyChains<A>, key: u32, positions: &[usize]) -> bool {
+    let mut found = chains.newest(key);
+    for position in positions {
+        if found != Some(*position) {
+            return false;
+        }
+        if *position < chains.len() {
+            found = chains.older(*position);
+        }
+    }
+    found.is_none()
+}
+
+#[test]
+fn chains_walked_by_hand(rt: HostRuntime) -> Result<(), Fail> {
+    let mut chains = KeyChains::new(rt.alloc());
+    assert!(rt; chains.is_empty());
+    assert_eq!(rt; push_each(&rt, &mut chains, &[7, 9, 7, 0, 9, 7]), 6);
+    assert_eq!(rt; chains.len(), 6);
+    assert_eq!(rt; chains.keys(), [7, 9, 7, 0, 9, 7].as_slice());
+    assert!(rt; has_chain(&chains, 7, &[5, 2, 0]));
+    assert!(rt; has_chain(&chains, 9, &[4, 1]));
+    assert!(rt; has_chain(&chains, 0, &[3]));
+    assert!(rt; has_chain(&chains, 8, &[]));
+    assert!(rt; 3 <= chains.len());
+    chains.truncate(3);
+    assert!(rt; has_chain(&chains, 7, &[2, 0]));
+    assert!(rt; has_chain(&chains, 9, &[1]));
+    assert!(rt; has_chain(&chains, 0, &[]));
+    assert_eq!(rt; push_each(&rt, &mut chains, &[0, 9]), 2);
+    assert!(rt; has_chain(&chains, 0, &[3]));
+    assert!(rt; has_chain(&chains, 9, &[4, 1]));
+    chains.truncate(0);
+    assert!(rt; chains.is_empty());
+    assert!(rt; has_chain(&chains, 7, &[]));
+    Ok(())
+}
+
+#[test]
+fn a_refused_push_changes_nothing(rt: HostRuntime) -> Result<(), Fail> {
+    let keys = [3u32, 1, 4, 1, 5, 9, 2, 6, 5, 3, 5, 8];
+    let mut refused = 0u32;
+    for size in 0..64usize {
+        let heap = LocalHeap::new(rt.alloc(), 4096 + 16 * size)?;
+        // takes up the space that the chains get later
+        let filler: Vec<u8, &LocalHeap> = Vec::with_capacity(&heap, 4000)?;
+        let mut chains = KeyChains::new(&heap);
+        let pushed = push_each(&rt, &mut chains, &keys);
+        assert_eq!(rt; chains.keys(), &keys[..pushed.min(keys.len())]);
+        if pushed < keys.len() {
+            refused = refused.saturating_add(1);
+            drop(filler);
+            assert_eq!(rt;
+                push_each(&rt, &mut chains, &keys[pushed..]),
+                keys.len() - pushed
+            );
+        }
+        assert_eq!(rt; chains.keys(), keys.as_slice());
+        assert!(rt; has_chain(&chains, 1, &[3, 1]));
+        assert!(rt; has_chain(&chains, 5, &[10, 8, 4]));
+    }
+    assert!(rt; 0 < refused && refused < 64);
+    Ok(())
+}
