@@ -1,0 +1,136 @@
+//! Texts that lie one after the other in one vector.
+//!
+//! [`PackedTexts`] keeps the bytes of all its texts in one vector, and for each text the offset at
+//! which it ends. The length of each text is a multiple of four, so offsets count words of four
+//! bytes, and 32 bits are enough for 16 GB of text.
+#![tactic(auto)]
+
+ghost use Rattle.std.specs.Prelude.{◌≡◌, ◌+◌, ◌-◌, ◌*◌, ◌%◌, ◌^◌, ◌<◌, ◌≤◌, ◌++◌, ◌↔◌, [], ◌∷◌, ℕ, length, get_or, take, IsTrue, IfOk, IfErr};
+ghost use Rattle.std.specs.List.{concat};
+
+#[cfg(test)]
+mod tests;
+
+use std::alloc::{AllocError, Allocator, Global};
+use std::marker::Model;
+
+/// Texts in one vector, with the offset at which each ends.
+///
+/// The length of each text is a multiple of four bytes. All together are below 16 GB.
+#[derive(Drop)]
+pub struct PackedTexts<A: Allocator = Global> {
+    // the texts, one after the other
+    bytes: Vec<u8, A>,
+    // for each text, the offset at which it ends, in words of four bytes
+    ends: Vec<u32, A>,
+}
+
+impl<A: Allocator> Model for PackedTexts<A> {
+    ghost use Rattle.std.specs.Prelude.{List, ℕ, ◌≡◌, ◌<◌, ◌^◌, ◌%◌, length};
+    ghost use Rattle.packed_texts.specs.PackedTexts.{texts_in, in_bytes, Rise};
+
+    ghost Value = { List (List ℕ) };
+
+    ghost view = { λ p. texts_in p.bytes.items 0 (in_bytes p.ends.items) };
+
+    ghost invariant = { λ p. Rise 0 (in_bytes p.ends.items) (length p.bytes.items) × (length p.bytes.items < 2 ^ 34) × (length p.bytes.items % 4 ≡ 0) };
+}
+
+/// The offset at which a text begins, in bytes.
+#[tactic(auto, using(crate::proofs::PackedLaws::first_start, crate::proofs::PackedLaws::next_start))]
+fn start_of(ends: &[u32], position: usize) -> usize
+    requires inside { position ≤ length ends.now }
+    ensures { result ≡ 4 * get_or (0 ∷ ends.now) position 0 }
+{
+    match position.checked_sub(1) {
+        Some(before) => 4 * ends[before] as usize,
+        None => 0,
+    }
+}
+
+/// The offset at which a text ends, in bytes.
+fn end_of(ends: &[u32], position: usize) -> usize
+    requires inside { position < length ends.now }
+    ensures { result ≡ 4 * get_or ends.now position 0 }
+{
+    4 * ends[position] as usize
+}
+
+impl<A: Allocator + Copy> PackedTexts<A> {
+    /// No texts. It takes no memory.
+    #[tactic(auto, using(crate::proofs::PackedLaws::no_texts, crate::proofs::PackedLaws::no_rise))]
+    pub fn new(alloc: A) -> PackedTexts<A>
+        ensures { result ≡ [] }
+    {
+        PackedTexts {
+            bytes: Vec::new(alloc),
+            ends: Vec::new(alloc),
+        }
+    }
+}
+
+impl<A: Allocator> PackedTexts<A> {
+    /// How many texts there are.
+    #[tactic(auto, using(crate::proofs::PackedLaws::many_texts))]
+    pub fn len(&self) -> usize
+        ensures { result ≡ length self.now }
+    {
+        self.ends.len()
+    }
+
+    /// Whether there are no texts.
+    pub fn is_empty(&self) -> bool
+        ensures { IsTrue result ↔ (length self.now ≡ 0) }
+    {
+        self.len() == 0
+    }
+
+    /// The bytes of all texts, one after the other.
+    #[tactic(auto, using(crate::proofs::PackedLaws::whole))]
+    pub fn bytes(&self) -> &[u8]
+        ensures value { result.now ≡ concat self.now }
+        ensures short { length result.now < 2 ^ 34 }
+        ensures padded { length result.now % 4 ≡ 0 }
+    {
+        self.bytes.as_slice()
+    }
+
+    /// The bytes of the text at a position. Positions count from 0.
+    #[tactic(auto, using(crate::proofs::PackedLaws::many_texts, crate::proofs::PackedLaws::text_at, crate::proofs::PackedLaws::text_inside, crate::proofs::PackedLaws::text_forward))]
+    pub fn get(&self, position: usize) -> &[u8]
+        requires inside { position < length self.now }
+        ensures { result.now ≡ get_or self.now position [] }
+    {
+        let start = start_of(&self.ends, position);
+        let end = end_of(&self.ends, position);
+        &self.bytes[start..end]
+    }
+
+    /// Appends a text after the others.
+    ///
+    /// If this runs out of memory, the texts stay as they were.
+    #[tactic(auto, using(crate::proofs::PackedLaws::whole, crate::proofs::PackedLaws::texts_pushed, crate::proofs::PackedLaws::rise_pushed))]
+    pub fn push(&mut self, text: &[u8]) -> Result<(), AllocError>
+        requires padded { length text.now % 4 ≡ 0 }
+        requires few { length (concat self.old) + length text.now < 2 ^ 34 }
+        ensures ok { IfOk result (λ _. self.new ≡ self.old ++ text.now ∷ []) }
+        ensures err { IfErr result (λ _. self.new ≡ self.old) }
+    {
+        // With the space reserved, the push after the bytes succeeds.
+        self.ends.reserve(1)?;
+        self.bytes.extend_from_slice(text)?;
+        self.ends.push((self.bytes.len() / 4) as u32)?;
+        Ok(())
+    }
+
+    /// Keeps the first `len` texts, and removes the others. It takes no memory.
+    #[tactic(auto, using(crate::proofs::PackedLaws::many_texts, crate::proofs::PackedLaws::texts_cut, crate::proofs::PackedLaws::rise_cut))]
+    pub fn truncate(&mut self, len: usize)
+        requires inside { len ≤ length self.old }
+        ensures { self.new ≡ take len self.old }
+    {
+        let start = start_of(&self.ends, len);
+        self.bytes.truncate(start);
+        self.ends.truncate(len);
+    }
+}
