@@ -1,0 +1,17 @@
+-- Distinct texts, in the order in which they arrived.
+use Rattle.std.specs.Prelude.{ℕ, ◌≡◌, ◌≢◌, ◌<◌, ◌≤◌, ◌⊎◌, List, [], ◌∷◌, ◌++◌, length, get_or}
+use Rattle.std.specs.List.{AllPairs, Contains}
+
+-- no two texts are equal, and each has four bytes or more
+pub record AreDistinct (texts : List (List ℕ)) : Type 0 where
+  pub distinct : AllPairs (λ x y. x ≢ y) texts
+  pub long : (k : ℕ) → k < length texts → 4 ≤ length (get_or texts k [])
+
+-- the texts stay as they were, or this text is new and comes after them
+abbrev pub Holds : List (List ℕ) → List (List ℕ) → List ℕ → Type 0
+Holds before after text = (after ≡ before) ⊎ ((after ≡ before ++ text ∷ []) × (Contains before text → ⊥))
+
+-- the texts and their hashes stay as they were, or this text is new, and it and its hash come after them
+abbrev pub Placed : List (List ℕ) → List (List ℕ) → List ℕ → List ℕ → List ℕ → ℕ → Type 0
+Placed texts texts_after hashes hashes_after text hash =
+    ((texts_after ≡ texts) × (hashes_after ≡ hashes)) ⊎ ((texts_after ≡ texts ++ text ∷ []) × (hashes_after ≡ hashes ++ hash ∷ []) × (Contains texts text → ⊥))

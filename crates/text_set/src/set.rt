@@ -1,0 +1,145 @@
+//! The set of texts.
+
+ghost use Rattle.std.specs.Prelude.{◌≡◌, ◌+◌, ◌%◌, ◌^◌, ◌<◌, ◌≤◌, ◌↔◌, [], length, get_or, take, IsTrue, IfOk, IfErr, IfSome};
+ghost use Rattle.std.specs.List.{concat};
+ghost use Rattle.text_set.specs.TextSet.{AreDistinct, Holds};
+
+use crate::find::hash_of;
+use crate::place::place;
+use key_chains::KeyChains;
+use packed_texts::PackedTexts;
+use std::alloc::{AllocError, Allocator, Global};
+use std::hash::BuildHasher;
+use std::marker::Model;
+
+/// Distinct texts, in the order in which they arrived.
+///
+/// The length of each text is a multiple of four bytes, and four at least. Positions count from 0.
+#[derive(Drop)]
+pub struct TextSet<S: BuildHasher, A: Allocator = Global> {
+    texts: PackedTexts<A>,
+    // the hash of each text
+    hashes: KeyChains<A>,
+    // for each text, a guess of the one that comes next: the one that came next the last time
+    guesses: Vec<u32, A>,
+    hasher: S,
+}
+
+impl<S: BuildHasher, A: Allocator> Model for TextSet<S, A> {
+    ghost use Rattle.std.specs.Prelude.{List, ℕ, ◌≡◌, ◌/◌, ◌^◌, map};
+    ghost use Rattle.text_set.specs.TextSet.{AreDistinct};
+
+    ghost Value = { List (List ℕ) };
+
+    ghost view = { λ t. t.texts };
+
+    ghost invariant = { λ t. AreDistinct t.texts × (t.hashes ≡ map (λ x. S.Hasher.finish (S.Hasher.write (S.build_hasher t.hasher) x) / 2 ^ 32) t.texts) };
+}
+
+/// Keeps in mind that the text at `position` came next after the one at `after`.
+fn note<A: Allocator>(guesses: &mut Vec<u32, A>, after: usize, position: usize)
+    requires { position < 2 ^ 32 }
+{
+    if let Some(guess) = guesses.get_mut(after) {
+        *guess = position as u32;
+    }
+}
+
+impl<S: BuildHasher, A: Allocator + Copy> TextSet<S, A> {
+    /// No texts. It takes no memory.
+    pub fn with_hasher(alloc: A, hasher: S) -> TextSet<S, A>
+        ensures { result ≡ [] }
+    {
+        TextSet {
+            texts: PackedTexts::new(alloc),
+            hashes: KeyChains::new(alloc),
+            guesses: Vec::new(alloc),
+            hasher,
+        }
+    }
+}
+
+impl<S: BuildHasher, A: Allocator> TextSet<S, A> {
+    /// How many texts there are.
+    #[tactic(auto, using(crate::proofs::TextSetLaws::hashes_each))]
+    pub fn len(&self) -> usize
+        ensures value { result ≡ length self.now }
+        ensures distinct { AreDistinct self.now }
+        ensures few { result < 2 ^ 31 }
+    {
+        self.hashes.len()
+    }
+
+    /// Whether there are no texts.
+    pub fn is_empty(&self) -> bool
+        ensures { IsTrue result ↔ (length self.now ≡ 0) }
+    {
+        self.texts.is_empty()
+    }
+
+    /// The bytes of all texts, one after the other.
+    pub fn bytes(&self) -> &[u8]
+        ensures value { result.now ≡ concat self.now }
+        ensures short { length result.now < 2 ^ 34 }
+    {
+        self.texts.bytes()
+    }
+
+    /// The bytes of the text at a position.
+    pub fn get(&self, position: usize) -> &[u8]
+        requires inside { position < length self.now }
+        ensures { result.now ≡ get_or self.now position [] }
+    {
+        self.texts.get(position)
+    }
+
+    /// The position of this text, if the guess after `after` is right.
+    fn predicted(&self, after: usize, text: &[u8]) -> Option<usize>
+        ensures { IfSome result (λ k. (k < length self.now) × (get_or self.now k [] ≡ text.now)) }
+    {
+        let position = *self.guesses.get(after)? as usize;
+        if position < self.len() && self.get(position) == text {
+            return Some(position);
+        }
+        None
+    }
+
+    /// The position of this text, which is appended if it isn't there.
+    ///
+    /// `after` is the position of the text that its caller met just before. It only makes a guess:
+    /// any number will do. If this runs out of memory, the texts stay as they were.
+    #[tactic(auto, using(crate::proofs::TextSetLaws::same_hashes, crate::proofs::TextSetLaws::few_texts, crate::proofs::TextSetLaws::hashes_each))]
+    pub fn intern(&mut self, text: &[u8], after: usize) -> Result<usize, AllocError>
+        requires padded { length text.now % 4 ≡ 0 }
+        requires long { 4 ≤ length text.now }
+        requires few { length (concat self.old) + length text.now < 2 ^ 33 }
+        ensures at { IfOk result (λ k. (k < length self.new) × (get_or self.new k [] ≡ text.now)) }
+        ensures holds { IfOk result (λ _. Holds self.old self.new text.now) }
+        ensures err { IfErr result (λ _. self.new ≡ self.old) }
+    {
+        if let Some(position) = self.predicted(after, text) {
+            return Ok(position);
+        }
+        let hash = hash_of(&self.hasher, text);
+        let position = place(
+            &mut self.texts,
+            &mut self.hashes,
+            &mut self.guesses,
+            text,
+            hash,
+        )?;
+        note(&mut self.guesses, after, position);
+        Ok(position)
+    }
+
+    /// Keeps the first `len` texts, and removes the others. It takes no memory.
+    #[tactic(auto, using(crate::proofs::TextSetLaws::distinct_first, crate::proofs::TextSetLaws::hashes_first))]
+    pub fn truncate(&mut self, len: usize)
+        requires inside { len ≤ length self.old }
+        ensures { self.new ≡ take len self.old }
+    {
+        self.texts.truncate(len);
+        self.hashes.truncate(len);
+        self.guesses.truncate(len);
+    }
+}

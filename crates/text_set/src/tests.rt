@@ -1,0 +1,146 @@
+//! What no clause says: texts typed by hand, texts with one hash, and memory that is refused.
+
+ghost use Rattle.std.specs.Prelude.{◌≤◌, length};
+
+use crate::TextSet;
+use linked_list_allocator::LocalHeap;
+use std::alloc::Allocator;
+use std::hash::{BuildHasher, BuildHasherDefault, FoldHasher, Hasher};
+use std::process::Abort;
+use std::test::Fail;
+
+/// A hasher that gives the same number for every text.
+#[derive(Clone, Copy)]
+struct Collides;
+
+impl Hasher for Collides {
+    ghost write = { λ h _. h };
+
+    ghost finish = { λ _. 7 };
+
+    fn finish(&self) -> u64 {
+        7
+    }
+
+    fn write(&mut self, _bytes: &[u8]) {}
+}
+
+impl BuildHasher for Collides {
+    type Hasher = Collides;
+
+    ghost build_hasher = { λ s. s };
+
+    fn build_hasher(&self) -> Collides {
+        *self
+    }
+}
+
+/// Interns a text after the one at `after`, and gives its position, or none if memory is refused.
+fn intern<S: BuildHasher, A: Allocator>(
+    rt: &impl Abort,
+    texts: &mut TextSet<S, A>,
+    text: &[u8],
+    after: usize,
+) -> Option<usize> {
+    assert!(rt; text.len() % 4 == 0 && 4 <= text.len() && text.len() < 1000);
+    assert!(rt; texts.bytes().len() < 1000);
+    texts.intern(text, after).ok()
+}
+
+/// Interns the texts in turn until one is refused, and gives how many were interned.
+fn intern_each<S: BuildHasher, A: Allocator>(
+    rt: &impl Abort,
+    texts: &mut TextSet<S, A>,
+    more: &[&[u8]],
+) -> usize
+    ensures { result ≤ length more.now }
+{
+    for (interned, text) in more.iter().enumerate() {
+        if intern(rt, texts, text, interned).is_none() {
+            return interned;
+        }
+    }
+    more.len()
+}
+
+#[test]
+fn each_text_stands_once(rt: HostRuntime) -> Result<(), Fail> {
+    let mut texts = TextSet::with_hasher(rt.alloc(), BuildHasherDefault::<FoldHasher>::new());
+    assert!(rt; texts.is_empty());
+    // the text, the text before it, and where it stands
+    for (text, after, position) in [
+        (b"four".as_slice(), 9usize, 0usize),
+        (b"eight by", 0, 1),
+        (b"more", 1, 2),
+        (b"four", 2, 0),
+        // the guess after "four" is right
+        (b"eight by", 0, 1),
+        // and here it is wrong: for a text that is there, and for one that isn't
+        (b"more", 0, 2),
+        (b"else", 1, 3),
+    ] {
+        assert_eq!(rt;
+            intern(&rt, &mut texts, text, after),
+            Some(position),
+            "{position}"
+        );
+    }
+    assert_eq!(rt; texts.len(), 4);
+    assert_eq!(rt; texts.bytes(), b"foureight bymoreelse".as_slice());
+    assert!(rt; 2 <= texts.len());
+    assert_eq!(rt; texts.get(1), b"eight by".as_slice());
+    texts.truncate(2);
+    assert_eq!(rt; texts.bytes(), b"foureight by".as_slice());
+    assert_eq!(rt; intern(&rt, &mut texts, b"else", 1), Some(2));
+    assert_eq!(rt; intern(&rt, &mut texts, b"four", 1), Some(0));
+    Ok(())
+}
+
+#[test]
+fn texts_with_one_hash(rt: HostRuntime) -> Result<(), Fail> {
+    let mut texts = TextSet::with_hasher(rt.alloc(), Collides);
+    for (text, position) in [
+        (b"four".as_slice(), 0usize),
+        (b"more", 1),
+        (b"else", 2),
+        (b"four", 0),
+        (b"more", 1),
+        (b"else", 2),
+    ] {
+        assert_eq!(rt;
+            intern(&rt, &mut texts, text, 9),
+            Some(position),
+            "{position}"
+        );
+    }
+    assert_eq!(rt; texts.bytes(), b"fourmoreelse".as_slice());
+    Ok(())
+}
+
+/// Texts of 4, 8 and 12 bytes.
+const TEXTS: [&[u8]; 3] = [b"four", b"eight by", b"twelve bytes"];
+
+#[test]
+fn a_refused_text_changes_nothing(rt: HostRuntime) -> Result<(), Fail> {
+    let mut refused = 0u32;
+    for size in 0..64usize {
+        let heap = LocalHeap::new(rt.alloc(), 4096 + 16 * size)?;
+        // takes up the space that the texts get later
+        let filler: Vec<u8, &LocalHeap> = Vec::with_capacity(&heap, 4000)?;
+        let mut texts = TextSet::with_hasher(&heap, Collides);
+        let interned = intern_each(&rt, &mut texts, &TEXTS);
+        assert_eq!(rt; texts.len(), interned);
+        if interned < TEXTS.len() {
+            refused = refused.saturating_add(1);
+            drop(filler);
+            assert_eq!(rt;
+                intern_each(&rt, &mut texts, &TEXTS[interned..]),
+                TEXTS.len() - interned
+            );
+        }
+        assert_eq!(rt; texts.bytes(), b"foureight bytwelve bytes".as_slice());
+        assert_eq!(rt; intern(&rt, &mut texts, b"eight by", 2), Some(1));
+    }
+    assert!(rt; 0 < refused && refused < 64);
+    Ok(())
+}
