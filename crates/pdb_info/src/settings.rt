@@ -1,6 +1,6 @@
 //! What the program that writes a file decides.
 
-ghost use Rattle.std.specs.Prelude.{◌≡◌, ◌≤◌, ◌↔◌, IfSome, IsSome};
+ghost use Rattle.std.specs.Prelude.{◌≡◌, ◌≤◌, ◌↔◌, length, IfSome, IsSome};
 ghost use Rattle.pdb_info.specs.Settings.{SettingsView, limit_of_records};
 
 use std::marker::Model;
@@ -19,14 +19,14 @@ pub struct Settings {
 }
 
 impl Model for Settings {
-    ghost use Rattle.std.specs.Prelude.{◌≤◌};
+    ghost use Rattle.std.specs.Prelude.{◌≡◌, ◌≤◌, length};
     ghost use Rattle.pdb_info.specs.Settings.{SettingsView, limit_of_records};
 
     ghost Value = { SettingsView };
 
     ghost view = { λ s. record { guid = s.guid; age = s.age; limit = s.limit } };
 
-    ghost invariant = { λ s. s.limit ≤ limit_of_records };
+    ghost invariant = { λ s. (length s.guid ≡ 16) × (s.limit ≤ limit_of_records) };
 
     ghost inverse = { λ s. record { guid = s.guid; age = s.age; limit = s.limit } };
 }
@@ -42,12 +42,15 @@ impl Settings {
         if limit > MOST_BYTES {
             return None;
         }
+        // The proof learns here that a GUID has 16 bytes.
+        let _ = guid.into_bytes();
         Some(Settings { guid, age, limit })
     }
 
     /// The GUID that the file gets.
     pub fn guid(&self) -> Uuid
-        ensures { result ≡ self.now.guid }
+        ensures value { result ≡ self.now.guid }
+        ensures whole { length result ≡ 16 }
     {
         self.guid
     }
