@@ -4,15 +4,15 @@ use Rattle.std.proofs.lemmas.Bool.{cases_lt}
 use Rattle.std.specs.List.{AllByRecursion}
 use Rattle.cv_leaves.specs.Checks.{places_of}
 use Rattle.cv_leaves.specs.HasPlaces.{IsChecked}
-use Rattle.type_trees.specs.References.{references, blanked}
+use Rattle.type_trees.specs.References.{IsWhole, references, blanked}
 use Rattle.type_trees.specs.Tree.{Tree, Branches, tree, no_branch, simple, branch, count, trees_in, IsClosed, AreClosed, Stands, AreBranches, IsType, IsRanked, NamesLower}
 use Rattle.type_trees.specs.Laws.{OneTreeEach, BranchesAreTypes}
-use Rattle.type_trees.proofs.ReferenceLaws.{reference_each, blanked_has, blanked_places, blanked_stays}
+use Rattle.type_trees.proofs.ReferenceLaws.{reference_each, blanked_has, blanked_long, blanked_places, blanked_stays}
 
--- ---- at most one
+-- ---- At most one tree
 
 mutual
-  -- two trees that stand at one position are one
+  -- two trees that stand at one position are equal
   pub one : (records : List (List ℕ)) (i : ℕ) (t u : Tree) → Stands records i t → Stands records i u → t ≡ u
   one records i (tree b bs) (tree c cs) h k =
       let e : bs ≡ cs = same records (references (get_or records i [])) bs cs h.2 k.2 in
@@ -49,9 +49,9 @@ mutual
       let head : t ≡ u = one records (h.0 - 0x1000) t u h.4 (subst (λ (x : ℕ). Stands records (x - 0x1000) u) (sym n) k.4) in
       rw (tail, head) refl
 
--- ---- at least one
+-- ---- At least one tree
 
--- the branches of references for each of which, at lower rank, a tree stands
+-- references have branches, if a tree stands at each position of lower rank
 grown : (records : List (List ℕ)) (rank : ℕ → ℕ) (i : ℕ) (below : (j : ℕ) → j < length records → rank j < rank i → (t : Tree) × Stands records j t) (ns : List ℕ) → AllByRecursion (NamesLower records rank i) ns
     → (bs : Branches) × AreBranches records ns bs
 grown records rank i below [] h = (no_branch, refl)
@@ -65,7 +65,7 @@ grown records rank i below (n ∷ ns) h =
       ]
     ]
 
--- a tree at each position of rank below k, by induction on k
+-- a tree stands at each position of rank below k, by induction on k
 some_below : (records : List (List ℕ)) (rank : ℕ → ℕ) (ranked : IsRanked records rank) (k i : ℕ) → rank i < k → i < length records → (t : Tree) × Stands records i t
 some_below records rank ranked zero i lt inside = absurd (omega (arith, lt))
 some_below records rank ranked (suc k) i lt inside =
@@ -73,13 +73,13 @@ some_below records rank ranked (suc k) i lt inside =
     let bs = grown records rank i below (references (get_or records i [])) (ranked i inside) in
     (tree (blanked (get_or records i [])) bs.0, (inside, refl, bs.1))
 
--- a tree at each position of records that name lower ones
+-- a tree stands at each position of records that name earlier ones alone
 pub tree_there : (records : List (List ℕ)) (i : ℕ) → IsRanked records (λ k. k) → i < length records → (t : Tree) × Stands records i t
 tree_there records i ranked inside = some_below records (λ k. k) ranked (suc i) i (omega arith) inside
 
--- ---- closed
+-- ---- Closed trees
 
--- a record of a list of which each holds
+-- what holds of all records holds of the record at a position
 pub at_position : (P : List ℕ → Type 0) (records : List (List ℕ)) (i : ℕ) → AllByRecursion P records → i < length records → P (get_or records i [])
 at_position P [] i each inside = absurd (omega (arith, inside))
 at_position P (r ∷ rs) zero each inside = each.0
@@ -91,28 +91,24 @@ branch_each records ns no_branch h = ap length h
 branch_each records ns (simple m bs) h = omega (arith, branch_each records h.1 bs h.5, ap length h.2)
 branch_each records ns (branch t bs) h = omega (arith, branch_each records h.1 bs h.5, ap length h.2)
 
--- a record with at least four bytes that has places
-abbrev IsWhole : List ℕ → Type 0
-IsWhole r = IsChecked r × (4 ≤ length r)
-
 mutual
-  -- a tree that stands in such records is closed
+  -- a tree that stands in whole records is closed
   closed : (records : List (List ℕ)) (i : ℕ) (t : Tree) → AllByRecursion IsWhole records → Stands records i t → IsClosed t
   closed records i (tree b bs) each h =
       let r = get_or records i [] in
       let whole = at_position IsWhole records i each h.0 in
       let many : length (places_of (blanked r)) ≡ count bs = ap length (blanked_places r whole.0) ∙ sym (reference_each r) ∙ branch_each records (references r) bs h.2 in
-      subst (λ (y : List ℕ). IsClosed (tree y bs)) h.1 ((places_of r, blanked_has r whole.0), blanked_stays r whole.0 whole.1, many, all_closed records (references r) bs each h.2)
+      subst (λ (y : List ℕ). IsClosed (tree y bs)) h.1 (((places_of r, blanked_has r whole.0), blanked_long r whole.0 whole.1), blanked_stays r whole.0 whole.1, many, all_closed records (references r) bs each h.2)
 
-  -- and so are its branches
+  -- its branches are closed too
   all_closed : (records : List (List ℕ)) (ns : List ℕ) (bs : Branches) → AllByRecursion IsWhole records → AreBranches records ns bs → AreClosed bs
   all_closed records ns no_branch each h = tt
   all_closed records ns (simple m bs) each h = (subst (λ (k : ℕ). k < 0x1000) h.4 h.3, all_closed records h.1 bs each h.5)
   all_closed records ns (branch t bs) each h = (closed records (h.0 - 0x1000) t each h.4, all_closed records h.1 bs each h.5)
 
--- ---- the laws
+-- ---- The laws
 
--- records that have places and four bytes each
+-- records are whole if they have places and four bytes each
 both : (records : List (List ℕ)) → AllByRecursion IsChecked records → AllByRecursion (λ r. 4 ≤ length r) records → AllByRecursion IsWhole records
 both [] checked long = tt
 both (r ∷ rs) checked long = ((checked.0, long.0), both rs checked.1 long.1)
@@ -123,7 +119,7 @@ one_tree_each records rank checked long ranked i inside =
     let t = some_below records rank ranked (suc (rank i)) i (omega arith) inside in
     (t.0, closed records i t.0 (both records checked long) t.1, t.1, λ u k. one records i t.0 u t.1 k)
 
--- the branches stand
+-- the branches of a record that are trees are types of the records
 named_stand : (records : List (List ℕ)) (ns : List ℕ) (bs : Branches) → AreBranches records ns bs → AllByRecursion (IsType records) (trees_in bs)
 named_stand records ns no_branch h = tt
 named_stand records ns (simple m bs) h = named_stand records h.1 bs h.5

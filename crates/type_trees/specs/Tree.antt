@@ -1,9 +1,9 @@
 -- Closed trees, and where they stand in a list of records. The record at position i has the type index 0x1000 + i.
-use Rattle.std.specs.Prelude.{ℕ, suc, ◌≡◌, ◌+◌, ◌-◌, ◌<◌, ◌≤◌, ◌⊎◌, List, [], ◌∷◌, length, get_or}
+use Rattle.std.specs.Prelude.{ℕ, suc, ◌≡◌, ◌-◌, ◌<◌, ◌≤◌, ◌⊎◌, Bool, true, false, ◌&&◌, nat_eq, List, [], ◌∷◌, length, get_or}
 use Rattle.std.specs.List.{AllByRecursion}
+use Rattle.std.specs.Str.{bytes_eq}
 use Rattle.cv_leaves.specs.Checks.{places_of}
-use Rattle.cv_leaves.specs.HasPlaces.{IsChecked}
-use Rattle.type_trees.specs.References.{references, blanked}
+use Rattle.type_trees.specs.References.{IsWhole, references, blanked}
 
 mutual
   -- a type: a blank record, and a branch for each of its places
@@ -15,6 +15,14 @@ mutual
     no_branch : Branches
     simple : ℕ → Branches → Branches
     branch : Tree → Branches → Branches
+
+-- what stands where no tree does
+abbrev pub nothing : Tree
+nothing = tree [] no_branch
+
+-- the blank record of a tree
+abbrev pub blank_of : Tree → List ℕ
+blank_of (tree b bs) = b
 
 -- the branches of a tree
 abbrev pub branches_of : Tree → Branches
@@ -33,9 +41,9 @@ trees_in (simple n bs) = trees_in bs
 trees_in (branch t bs) = t ∷ trees_in bs
 
 abbrev mutual
-  -- the tree is closed: a record that has places, with zeros there, and a branch for each, a number below 0x1000 or a closed tree
+  -- the tree is closed: a whole record that has places, with zeros there, and a branch for each, a number below 0x1000 or a closed tree
   pub IsClosed : Tree → Type 0
-  IsClosed (tree b bs) = IsChecked b × (blanked b ≡ b) × (length (places_of b) ≡ count bs) × AreClosed bs
+  IsClosed (tree b bs) = IsWhole b × (blanked b ≡ b) × (length (places_of b) ≡ count bs) × AreClosed bs
 
   -- so are the trees among the branches, and the numbers are simple
   pub AreClosed : Branches → Type 0
@@ -65,3 +73,15 @@ NamesLower records rank i n = (n < 0x1000) ⊎ ((n - 0x1000 < length records) ×
 -- each record has a higher rank than those that it names
 abbrev pub IsRanked : List (List ℕ) → (ℕ → ℕ) → Type 0
 IsRanked records rank = (i : ℕ) → i < length records → AllByRecursion (NamesLower records rank i) (references (get_or records i []))
+
+unfoldable mutual
+  -- whether two trees are equal
+  pub same_tree : Tree → Tree → Bool
+  same_tree (tree b bs) (tree c cs) = bytes_eq b c && same_branches bs cs
+
+  -- whether their branches are
+  pub same_branches : Branches → Branches → Bool
+  same_branches no_branch no_branch = true
+  same_branches (simple n bs) (simple m cs) = nat_eq n m && same_branches bs cs
+  same_branches (branch t bs) (branch u cs) = same_tree t u && same_branches bs cs
+  same_branches bs cs = false

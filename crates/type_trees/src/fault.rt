@@ -1,7 +1,8 @@
-//! Why records are no types.
+//! Why records are no types, and why types are not joined.
 
 ghost use Rattle.std.specs.Prelude.{◌≡◌};
 ghost use Rattle.type_trees.specs.declared.fault.TypeFault.TheVariants.{Memory};
+ghost use Rattle.type_trees.specs.declared.fault.JoinFault.TheVariants as join;
 
 use cv_leaves::LeafFault;
 use std::alloc::{AllocError, AllocFailed};
@@ -38,5 +39,35 @@ impl<T: Drop> From<AllocFailed<T>> for TypeFault {
 
     fn from(_error: AllocFailed<T>) -> TypeFault {
         TypeFault::Memory
+    }
+}
+
+/// Why types are not joined.
+///
+/// A refusal leaves the table or the list as it was.
+#[derive(Clone, Copy, Debug, PartialEq, Eq, Error)]
+pub enum JoinFault {
+    /// The records of all types have this many bytes together, their length fields included. That
+    /// is more than the limit.
+    #[error("32 TooLarge bytes {bytes}")]
+    TooLarge { bytes: u64 },
+    /// Memory was refused.
+    #[error("33 Memory")]
+    Memory,
+}
+
+impl From<AllocError> for JoinFault {
+    ghost from_gives = { λ _ fault. fault ≡ join.Memory };
+
+    fn from(_error: AllocError) -> JoinFault {
+        JoinFault::Memory
+    }
+}
+
+impl<T: Drop> From<AllocFailed<T>> for JoinFault {
+    ghost from_gives = { λ _ fault. fault ≡ join.Memory };
+
+    fn from(_error: AllocFailed<T>) -> JoinFault {
+        JoinFault::Memory
     }
 }

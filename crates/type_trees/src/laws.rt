@@ -1,16 +1,45 @@
-//! What holds of the types of records.
+//! Laws of the types of records, and of canonical lists of types.
 //!
-//! Each function here does nothing: its contract is the law.
+//! Each function here does nothing: its contract is the law. A canonical list is a list of trees
+//! here. The *text* of a tree is its record, which names other trees by their positions in the
+//! list.
 
-ghost use Rattle.type_trees.specs.Laws.{OneTreeEach, BranchesAreTypes};
+ghost use Rattle.type_trees.specs.Laws.{OneTreeEach, BranchesAreTypes, TextsDiffer, OneCanonicalList, CanonicalReadsBack, WeightOfTexts, WeightGrows};
 
-/// Exactly one tree stands at each position of records that have places and a rank which falls
-/// along references, and it is closed.
+/// Exactly one tree stands at each position of records that have places, where each record has a
+/// higher rank than those that it names. That tree is closed.
 pub fn one_tree_each()
     ensures { OneTreeEach }
 {}
 
-/// Each tree branch of a type of some records is a type of them.
+/// Each tree branch of a type of some records is a type of these records.
 pub fn branches_are_types()
     ensures { BranchesAreTypes }
+{}
+
+/// Two trees with equal texts are equal, where the list holds their branches.
+pub fn texts_differ()
+    ensures { TextsDiffer }
+{}
+
+/// Two canonical lists with the same members are equal.
+pub fn one_canonical_list()
+    ensures { OneCanonicalList }
+{}
+
+/// The texts of a canonical list are good records. Each of its trees
+/// stands there at its position, and no other tree does.
+pub fn canonical_reads_back()
+    ensures { CanonicalReadsBack }
+{}
+
+/// The weight of a canonical list is how many bytes its texts have together.
+pub fn weight_of_texts()
+    ensures { WeightOfTexts }
+{}
+
+/// A list that contains all trees of another weighs at least as much, where the other has each
+/// tree once.
+pub fn weight_grows()
+    ensures { WeightGrows }
 {}

@@ -1,4 +1,4 @@
-//! Checked types: records whose references hold.
+//! Checked types, tables of types, and canonical lists of types.
 //!
 //! A type record names other types by type indices: those below 0x1000 are *simple* types, and
 //! `0x1000 + i` is the record at position i. What a record means is a *closed tree*: the record
@@ -8,24 +8,39 @@
 //! contracts.
 //!
 //! - [`Types::check`] makes sure that each record has places, and that each reference is simple or
-//!   names a record in front of it. [`TypeFault`] is the first check that fails.
+//!   names an earlier record. [`TypeFault`] is the first check that fails.
 //! - [`Types`] lends the records and knows how deep each type is: a type that names no record has
 //!   the depth 0, and any other one is one deeper than the deepest type that it names.
+//! - [`Table`] holds a set of types, each once, in the order in which they came. Types are added
+//!   up to a limit of bytes, and a refusal leaves the table as it was.
+//! - [`Canon`] holds a set of types as its *canonical list*: each type once, in the order of the
+//!   depths, and at one depth in the order of the bytes of the records. The records name each other
+//!   by their positions in the list. Equal sets have equal canonical lists.
 //!
 //! What is proved: records are accepted exactly where they make types (`AreTypes` of
-//! `specs/Checked`), want of memory aside; a refusal names the first check that fails; each depth
-//! is that of the tree that stands there. The [`laws`] say that exactly one closed tree stands at
-//! each position, and that each tree branch of a type is a type. Nothing recurses along
-//! references: a record is looked at once those that it names have been.
+//! `specs/Checked`), unless memory is refused; a refusal names the first check that fails; each
+//! depth is that of the tree that stands there; a table and a canonical list hold exactly the
+//! types that were put into them. The [`laws`] say that exactly one closed tree stands at each
+//! position, that each tree branch of a type is a type, and that a set of types has one canonical
+//! list, which reads back as that set. Nothing recurses along references: a record is looked at
+//! after those that it names.
 #![tactic(auto)]
 
+mod canon;
+mod canon_records;
 mod depth;
 mod fault;
+mod finish;
 pub mod laws;
 mod reference;
+mod renumber;
+mod table;
 #[cfg(test)]
 mod tests;
 mod types;
 
-pub use fault::TypeFault;
+pub use canon::Canon;
+pub use canon_records::CanonRecords;
+pub use fault::{JoinFault, TypeFault};
+pub use table::Table;
 pub use types::Types;

@@ -1,7 +1,7 @@
 //! Records that were checked to be types.
 
 ghost use Rattle.std.specs.Prelude.{◌≡◌, ◌↔◌, ◌≤◌, ◌<◌, ◌^◌, [], ℕ, List, IsTrue, length, option_map, slice_get, IfOk, IfErr, IfSome, IfNone};
-ghost use Rattle.std.specs.List.{concat};
+ghost use Rattle.std.specs.List.{AllByRecursion, concat};
 ghost use Rattle.byte_fields.specs.Check.{Makes, Refuses, first_failing};
 ghost use Rattle.tpi_records.specs.Records.{IsRecord};
 ghost use Rattle.type_trees.specs.Tree.{Tree, Stands};
@@ -16,8 +16,8 @@ use std::alloc::{Allocator, Global};
 use std::marker::Model;
 use tpi_records::Records;
 
-/// The type records of a file, each of which has places, and names simple types and records in
-/// front of it alone.
+/// The type records of a file. Each has places, and each names only simple types and earlier
+/// records.
 ///
 /// Returned by [`Types::check`]. It keeps the records and four bytes for each, its depth.
 #[derive(Drop)]
@@ -74,9 +74,9 @@ impl<'a, A: Allocator + Copy> Types<'a, A> {
     /// untouched. It reserves four bytes for each record, at once.
     pub fn check(alloc: A, records: Records<'a, A>) -> Result<Types<'a, A>, TypeFault>
         ensures value { IfOk result (λ types. (types ≡ records.entry) × AreTypes records.entry) }
-        // Nothing that makes types is refused, but for want of memory.
+        // Records that make types are refused only where memory is.
         ensures found { AreTypes records.entry → IfErr result (λ fault. fault ≡ TypeFault.Memory) }
-        // Want of memory is answered only where no check fails.
+        // `Memory` is answered only where no check fails.
         ensures first { IfErr result (Refuses TypeFault.Memory (first_failing (checks_from 0 records.entry))) }
     {
         check_all(&records)?;
@@ -94,6 +94,7 @@ impl<'a, A: Allocator> Types<'a, A> {
     pub fn len(&self) -> usize
         ensures value { result ≡ length self.now }
         ensures types { AreTypes self.now }
+        ensures each { AllByRecursion IsRecord self.now }
         // The type index of each fits a u32.
         ensures few { result < 2 ^ 30 }
     {
@@ -109,11 +110,18 @@ impl<'a, A: Allocator> Types<'a, A> {
 
     /// The record at a position, whole: from its length field on.
     ///
-    /// Positions count from 0; at one that no record has there is nothing.
+    /// Positions count from 0. The answer is `None` at a position that no record has.
     pub fn get(&self, i: usize) -> Option<&'a [u8]>
         ensures { option_map (λ r. r.now) result ≡ slice_get self.now i }
     {
         self.records.get(i)
+    }
+
+    /// The records.
+    pub(crate) fn records(&self) -> &Records<'a, A>
+        ensures { result.now ≡ self.now }
+    {
+        &self.records
     }
 
     /// How deep the type at a position is: 0 where it names simple types alone, else one more than

@@ -1,0 +1,302 @@
+-- How a table grows by a record.
+use Rattle.std.proofs.Common.{◌≡◌, ◌≤◌, ◌<◌, ◌⊎◌, ◌%◌, ◌^◌, ◌+◌, ◌-◌, ◌↔◌, ℕ, List, [], ◌∷◌, ◌++◌, length, take, drop, get_or, refl, sym, ap, ◌∙◌, subst, arith, inl, inr, length-append}
+use Rattle.std.proofs.lemmas.Bool.{cases_lt}
+use Rattle.std.proofs.lemmas.List.{take-append-le, take-append-drop, get_or_default, get_or_append_left}
+use Rattle.std.proofs.lemmas.List.Elements.{Contains-get_or}
+use Rattle.std.proofs.Math.ListN.{get_or-append}
+use Rattle.std.proofs.Math.Seq.{get_or-append_seam}
+use Rattle.std.specs.List.{AllByRecursion, Contains, concat}
+use Rattle.tpi_records.specs.Records.{IsRecord}
+use Rattle.cv_leaves.specs.HasPlaces.{IsChecked}
+use Rattle.text_set.specs.TextSet.{Holds}
+use Rattle.type_trees.specs.References.{IsWhole, references, blanked, filled}
+use Rattle.type_trees.specs.Tree.{Tree, Branches, tree, no_branch, simple, branch, nothing, Stands, AreBranches, IsType, IsRanked, NamesLower}
+use Rattle.type_trees.specs.Canon.{weight}
+use Rattle.type_trees.specs.Table.{AreBytes, IsTable, IsUnion, AreNumbered, EachNamed, renumber, renumbered}
+use Rattle.type_trees.specs.Checked.{AreTypes}
+use Rattle.type_trees.specs.Merge.{Adds}
+use Rattle.type_trees.specs.declared.fault.JoinFault.TheVariants as JoinFault
+use Rattle.text_set.proofs.TextSetLaws.{four_each}
+use Rattle.type_trees.proofs.LeafLaws.{fill-kept, length-fill, take-fill, refs-fill, length-refs}
+use Rattle.type_trees.proofs.ReadLaws.{IsRecord-same}
+use Rattle.type_trees.proofs.TreeLaws.{one, at_position, tree_there}
+use Rattle.type_trees.proofs.TableLaws.{stands_still, renumbered_stands, length-renumber, renumber-none, renumber-simple, renumber-named}
+use Rattle.type_trees.proofs.PushLaws.{table_grows}
+use Rattle.type_trees.proofs.NextLaws.{in_range, trees_of_table, table_weight, apart_of_table}
+
+-- ---- A renumbered record
+
+pub padded_record : (r x : List ℕ) → IsRecord r → length x ≡ length r → length x % 4 ≡ 0
+padded_record r x h same = ap (λ (n : ℕ). n % 4) same ∙ h.padded
+
+pub long_record : (r x : List ℕ) → IsRecord r → length x ≡ length r → 4 ≤ length x
+long_record r x h same = omega (arith, h.long, same)
+
+pub renumbered_long : (f : ℕ → ℕ) (r : List ℕ) → IsRecord r → IsChecked r → length (renumbered f r) ≡ length r
+unfolding renumbered
+renumbered_long f r framed checked = length-fill r (renumber f (references r)) (checked, framed.long)
+
+renumbered_framed : (f : ℕ → ℕ) (r : List ℕ) → IsRecord r → IsWhole r → IsRecord (renumbered f r)
+unfolding renumbered
+renumbered_framed f r framed whole =
+    IsRecord-same r (filled r (renumber f (references r))) (sym (length-fill r (renumber f (references r)) whole)) (sym (take-fill r (renumber f (references r)) whole)) framed
+
+renumbered_whole : (f : ℕ → ℕ) (r : List ℕ) → IsWhole r → IsWhole (renumbered f r)
+unfolding renumbered
+renumbered_whole f r whole = (fill-kept r (renumber f (references r)) whole).0
+
+-- n is simple, or f gives it a position of the table
+abbrev pub HasPosition : (List (List ℕ)) → (ℕ → ℕ) → ℕ → Type 0
+HasPosition after f n = (n < 0x1000) ⊎ (f (n - 0x1000) < length after)
+
+numbers_small : (after : List (List ℕ)) (f : ℕ → ℕ) (ns : List ℕ) → length after ≤ 4294963200 → AllByRecursion (HasPosition after f) ns → AllByRecursion (λ n. n < 2 ^ 32) (renumber f ns)
+numbers_small after f [] few h = rw (renumber-none f) tt
+numbers_small after f (n ∷ ns) few h = elim (cases_lt n 0x1000) [
+  | inl small ↦ rw (renumber-simple f n ns small) (omega (arith, small), numbers_small after f ns few h.1)
+  | inr large ↦ rw (renumber-named f n ns large) (elim h.0 [ inl small ↦ absurd (omega (arith, small, large)) | inr low ↦ omega (arith, low, few) ], numbers_small after f ns few h.1)
+]
+
+numbers_in : (after : List (List ℕ)) (f : ℕ → ℕ) (ns : List ℕ) → AllByRecursion (HasPosition after f) ns → AllByRecursion (λ n. (n < 0x1000) ⊎ (n - 0x1000 < length after)) (renumber f ns)
+numbers_in after f [] h = rw (renumber-none f) tt
+numbers_in after f (n ∷ ns) h = elim (cases_lt n 0x1000) [
+  | inl small ↦ rw (renumber-simple f n ns small) (inl small, numbers_in after f ns h.1)
+  | inr large ↦ rw (renumber-named f n ns large) (inr (elim h.0 [ inl small ↦ absurd (omega (arith, small, large)) | inr low ↦ omega (arith, low) ]), numbers_in after f ns h.1)
+]
+
+renumbered-is : (f : ℕ → ℕ) (r : List ℕ) → renumbered f r ≡ filled r (renumber f (references r))
+unfolding renumbered
+renumbered-is f r = refl
+
+-- the references of a renumbered record name records of the table
+renumbered_names : (after : List (List ℕ)) (f : ℕ → ℕ) (r : List ℕ) → IsWhole r → length after ≤ 4294963200 → AllByRecursion (HasPosition after f) (references r) → references (renumbered f r) ≡ renumber f (references r)
+renumbered_names after f r whole few h =
+    let many = length-renumber f (references r) in
+    let each = length-refs r in
+    ap references (renumbered-is f r) ∙ refs-fill r (renumber f (references r)) whole (omega (arith, many, each)) (numbers_small after f (references r) few h)
+
+-- ---- The first records of a longer table
+
+mutual
+  -- a tree that stands among the first records stands there without the others too
+  pub stands_within : (r s : List (List ℕ)) (i : ℕ) (t : Tree) → IsRanked r (λ k. k) → i < length r → Stands (r ++ s) i t → Stands r i t
+  stands_within r s i (tree b bs) ranked lt h =
+      let at : get_or (r ++ s) i [] ≡ get_or r i [] = get_or-append r s [] i lt in
+      (lt, ap blanked (sym at) ∙ h.1, branches_within r s i (references (get_or r i [])) bs ranked (ranked i lt) (subst (λ (x : List ℕ). AreBranches (r ++ s) (references x) bs) at h.2))
+
+  branches_within : (r s : List (List ℕ)) (i : ℕ) (ns : List ℕ) (bs : Branches) → IsRanked r (λ k. k) → AllByRecursion (NamesLower r (λ k. k) i) ns → AreBranches (r ++ s) ns bs → AreBranches r ns bs
+  branches_within r s i ns no_branch ranked lower h = h
+  branches_within r s i ns (simple m bs) ranked lower h =
+      let tail = subst (AllByRecursion (NamesLower r (λ k. k) i)) h.2 lower in
+      (h.0, h.1, h.2, h.3, h.4, branches_within r s i h.1 bs ranked tail.1 h.5)
+  branches_within r s i ns (branch t bs) ranked lower h =
+      let tail = subst (AllByRecursion (NamesLower r (λ k. k) i)) h.2 lower in
+      let below : h.0 - 0x1000 < length r = elim tail.0 [ inl small ↦ absurd (omega (arith, small, h.3)) | inr low ↦ low.0 ] in
+      (h.0, h.1, h.2, h.3, stands_within r s (h.0 - 0x1000) t ranked below h.4, branches_within r s i h.1 bs ranked tail.1 h.5)
+
+-- the first records stay when a text is added after them
+front_more : (before after : List (List ℕ)) (y : List ℕ) → (length before ≤ length after) × (take (length before) after ≡ before) → (length before ≤ length (after ++ y ∷ [])) × (take (length before) (after ++ y ∷ []) ≡ before)
+front_more before after y front = (omega (arith, front.0, length-append after (y ∷ [])), take-append-le (length before) after (y ∷ []) front.0 ∙ front.1)
+
+-- they stay too when the text may have been there already
+pub front_holds : (before after grown : List (List ℕ)) (y : List ℕ) → Holds after grown y → (length before ≤ length after) × (take (length before) after ≡ before) → (length before ≤ length grown) × (take (length before) grown ≡ before)
+front_holds before after grown y holds front = elim holds [ inl same ↦ rw same front | inr more ↦ rw more.0 (front_more before after y front) ]
+
+-- a type of the first records is a type of all
+pub front_stands : (before after : List (List ℕ)) (t : Tree) → take (length before) after ≡ before → IsType before t → IsType after t
+front_stands before after t front (i, stands) =
+    let whole : before ++ drop (length before) after ≡ after = ap (λ (x : List (List ℕ)). x ++ drop (length before) after) (sym front) ∙ take-append-drop (length before) after in
+    (i, subst (λ (x : List (List ℕ)). Stands x i t) whole (stands_still before (drop (length before) after) i t stands))
+
+-- ---- One more record
+
+-- each of these numbers is simple, or what it names is done
+abbrev pub NamesDone : (ℕ → Type 0) → List ℕ → Type 0
+NamesDone done ns = AllByRecursion (λ n. (n < 0x1000) ⊎ done (n - 0x1000)) ns
+
+done_placed : (records before after : List (List ℕ)) (f : ℕ → ℕ) (done : ℕ → Type 0) (ns : List ℕ) → Adds records before after f done → NamesDone done ns → AllByRecursion (HasPosition after f) ns
+done_placed records before after f done [] adds names = tt
+done_placed records before after f done (n ∷ ns) adds names = (elim names.0 [ inl small ↦ inl small | inr there ↦ inr (adds.inside (n - 0x1000) there) ], done_placed records before after f done ns adds names.1)
+
+done_stands : (records before after grown : List (List ℕ)) (f : ℕ → ℕ) (done : ℕ → Type 0) (ns : List ℕ) → Adds records before after f done → length after ≤ 4294963200
+    → ((k : ℕ) (t : Tree) → Stands after k t → Stands grown k t) → NamesDone done ns → EachNamed records (λ k u. (f k < 4294963200) × Stands grown (f k) u) ns
+done_stands records before after grown f done [] adds few still names = tt
+done_stands records before after grown f done (n ∷ ns) adds few still names = (
+  λ large u stands. elim names.0 [
+    | inl small ↦ absurd (omega (arith, small, large))
+    | inr there ↦ (omega (arith, adds.inside (n - 0x1000) there, few), still (f (n - 0x1000)) u (adds.stand (n - 0x1000) u there stands))
+  ],
+  done_stands records before after grown f done ns adds few still names.1,
+)
+
+-- the tree of a record stands where its renumbered record stands in the grown table
+row_stands : (records before after grown : List (List ℕ)) (f : ℕ → ℕ) (done : ℕ → Type 0) (i j : ℕ) (t : Tree) → IsWhole (get_or records i []) → Adds records before after f done → length after ≤ 4294963200
+    → ((k : ℕ) (u : Tree) → Stands after k u → Stands grown k u) → NamesDone done (references (get_or records i [])) → j < length grown → get_or grown j [] ≡ renumbered f (get_or records i []) → Stands records i t → Stands grown j t
+row_stands records before after grown f done i j t whole adds few still names inside at stands =
+    renumbered_stands records grown f i j t whole inside (at ∙ renumbered-is f (get_or records i [])) (done_stands records before after grown f done (references (get_or records i [])) adds few still names) stands
+
+-- the table is still a table after it has grown
+grown_table : (records before after grown : List (List ℕ)) (f : ℕ → ℕ) (done : ℕ → Type 0) (r : List ℕ) → Adds records before after f done → length after ≤ 4294963200 → IsRecord r → IsWhole r → AreBytes (renumbered f r)
+    → NamesDone done (references r) → Holds after grown (renumbered f r) → IsTable grown
+grown_table records before after grown f done r adds few framed whole bytes names holds = elim holds [
+  | inl same ↦ rw same adds.table
+  | inr more ↦
+      let placed = done_placed records before after f done (references r) adds names in
+      rw more.0 (table_grows after (renumbered f r) adds.table (renumbered_framed f r framed whole) (renumbered_whole f r whole) bytes
+      (rw (renumbered_names after f r whole few placed) (numbers_in after f (references r) placed)) more.1)
+]
+
+-- each tree still stands after the table has grown
+still_stands : (after grown : List (List ℕ)) (y : List ℕ) → Holds after grown y → (k : ℕ) (t : Tree) → Stands after k t → Stands grown k t
+still_stands after grown y holds k t stands = elim holds [ inl same ↦ rw same stands | inr more ↦ rw more.0 (stands_still after (y ∷ []) k t stands) ]
+
+grown_long : (after grown : List (List ℕ)) (y : List ℕ) → Holds after grown y → length after ≤ length grown
+grown_long after grown y holds = elim holds [ inl same ↦ rw same (omega arith) | inr more ↦ rw more.0 (omega (arith, length-append after (y ∷ []))) ]
+
+-- one more record is done, if all that it names was done before
+pub adds_more : (records before after grown : List (List ℕ)) (f g : ℕ → ℕ) (done more : ℕ → Type 0) (i j : ℕ) → Adds records before after f done → length after ≤ 4294963200 → IsRecord (get_or records i []) → IsWhole (get_or records i [])
+    → ((t : Tree) × Stands records i t) → NamesDone done (references (get_or records i [])) → AreBytes (renumbered f (get_or records i [])) → Holds after grown (renumbered f (get_or records i []))
+    → j < length grown → get_or grown j [] ≡ renumbered f (get_or records i []) → ((k : ℕ) → done k → g k ≡ f k) → g i ≡ j → ((k : ℕ) → more k → done k ⊎ (k ≡ i)) → Adds records before grown g more
+adds_more records before after grown f g done more i j adds few framed whole there names bytes holds inside at kept put either =
+    let still = still_stands after grown (renumbered f (get_or records i [])) holds in
+    let long = grown_long after grown (renumbered f (get_or records i [])) holds in
+    let row : (p : ℕ) (t : Tree) → p < length grown → get_or grown p [] ≡ renumbered f (get_or records i []) → Stands records i t → Stands grown p t = λ p t p_in p_at stands.
+    row_stands records before after grown f done i p t whole adds few still names p_in p_at stands in
+    record {
+      table = grown_table records before after grown f done (get_or records i []) adds few framed whole bytes names holds;
+      inside = λ k m. elim (either k m) [
+        | inl old ↦ rw (kept k old) (omega (arith, adds.inside k old, long))
+        | inr new ↦ rw (new, put) inside
+      ];
+      stand = λ k t m stands. elim (either k m) [
+        | inl old ↦ rw (kept k old) (still (f k) t (adds.stand k t old stands))
+        | inr new ↦ rw (new, put) (row j t inside at (rw new at stands))
+      ];
+      front = front_holds before after grown (renumbered f (get_or records i [])) holds adds.front;
+      others = λ t h. elim holds [
+        | inl same ↦ adds.others t (rw same at h)
+        | inr new ↦ elim (cases_lt h.0 (length after)) [
+          | inl low ↦ adds.others t (h.0, stands_within after (renumbered f (get_or records i []) ∷ []) h.0 t adds.table.lower low (rw new.0 at h.1))
+          | inr high ↦
+              let len : length grown ≡ length after + 1 = rw new.0 (length-append after (renumbered f (get_or records i []) ∷ [])) in
+              let last : h.0 ≡ length after = omega (arith, high, len, in_range grown h.0 t h.1) in
+              let here : get_or grown (length after) [] ≡ renumbered f (get_or records i []) = rw new.0 (get_or-append_seam after (renumbered f (get_or records i [])) [] []) in
+              let own : Stands grown (length after) there.0 = row (length after) there.0 (omega (arith, len)) here there.1 in
+              let same : there.0 ≡ t = one grown (length after) there.0 t own (subst (λ (k : ℕ). Stands grown k t) last h.1) in
+              inr (i, subst (Stands records i) same there.1)
+        ]
+      ];
+    }
+
+-- ---- All records
+
+-- nothing is added before the first record
+pub adds_none : (records before : List (List ℕ)) (f : ℕ → ℕ) (done : ℕ → Type 0) → IsTable before → ((k : ℕ) → done k → ⊥) → Adds records before before f done
+adds_none records before f done table none = record {
+  table = table;
+  inside = λ k d. absurd (none k d);
+  stand = λ k t d stands. absurd (none k d);
+  front = (omega arith, all_taken before);
+  others = λ t h. inl h;
+}
+  where
+    all_taken : (x : List (List ℕ)) → take (length x) x ≡ x
+    all_taken [] = refl
+    all_taken (b ∷ x) = ap (λ (y : List (List ℕ)). b ∷ y) (all_taken x)
+
+-- the table has the types of both after the last record
+pub adds_all : (records before after : List (List ℕ)) (f : ℕ → ℕ) (done : ℕ → Type 0) → Adds records before after f done → ((k : ℕ) → k < length records → done k) → (t : Tree) → IsType after t ↔ (IsType before t ⊎ IsType records t)
+adds_all records before after f done adds all t = (
+  adds.others t,
+  λ h. elim h [
+    | inl old ↦ front_stands before after t adds.front.1 old
+    | inr new ↦ (f new.0, adds.stand new.0 t (all new.0 (in_range records new.0 t new.1)) new.1)
+  ],
+)
+
+-- a record names earlier records alone, and these are done
+pub lower_done : (records : List (List ℕ)) (i : ℕ) (ns : List ℕ) → AllByRecursion (NamesLower records (λ k. k) i) ns → NamesDone (λ k. k < i) ns
+lower_done records i [] lower = tt
+lower_done records i (n ∷ ns) lower = (elim lower.0 [ inl small ↦ inl small | inr low ↦ inr low.1 ], lower_done records i ns lower.1)
+
+-- each record that is named and done has a position
+pub numbered_done : (records before after : List (List ℕ)) (positions : List ℕ) (ns : List ℕ) → Adds records before after (λ p. get_or positions p 0) (λ k. k < length positions) → length after < 2 ^ 31 → NamesDone (λ k. k < length positions) ns → AreNumbered positions ns
+numbered_done records before after positions [] adds few names = tt
+numbered_done records before after positions (n ∷ ns) adds few names =
+    (elim names.0 [ inl small ↦ inl small | inr low ↦ inr (low, omega (arith, adds.inside (n - 0x1000) low, few)) ], numbered_done records before after positions ns adds few names.1)
+
+-- the trees of the table are the union, and they weigh as much as the table has bytes
+pub union_weighs : (before types after : List (List ℕ)) → IsTable after → ((t : Tree) → IsType after t ↔ (IsType before t ⊎ IsType types t)) → (l : List Tree) × IsUnion l before types × (weight l ≡ length (concat after))
+union_weighs before types after table same =
+    let s = trees_of_table after table in (
+      s.0,
+      record {
+        distinct = apart_of_table after table;
+        members = λ t. (
+          λ h.
+              let e : get_or s.0 h.0 nothing ≡ t = get_or_default s.0 h.0 nothing t h.1 ∙ h.2 in
+              (same t).0 (h.0, subst (Stands after h.0) e (s.2 h.0 (omega (arith, h.1, s.1)))),
+          λ h.
+              let w = (same t).1 h in
+              let lt = in_range after w.0 t w.1 in
+              let e : get_or s.0 w.0 nothing ≡ t = one after w.0 (get_or s.0 w.0 nothing) t (s.2 w.0 lt) w.1 in
+              subst (Contains s.0) e (Contains-get_or s.0 w.0 nothing (omega (arith, lt, s.1))),
+        );
+      },
+      table_weight after table,
+    )
+
+-- ---- Record by record, in the order of type indices
+
+-- a table has few records
+pub table_few : (after : List (List ℕ)) → IsTable after → length (concat after) < 2 ^ 33 → length after < 2 ^ 31
+table_few after table short = omega (arith, four_each after (λ k inside. (table.good.framed k inside).long), short)
+
+-- a table grows by at most the bytes of the record that is added
+pub holds_short : (after grown : List (List ℕ)) (y : List ℕ) → Holds after grown y → length (concat grown) ≤ length (concat after) + length y
+holds_short after grown y holds = elim holds [ inl same ↦ rw same (omega arith) | inr more ↦ rw more.0 (omega (arith, length-concat-push after y)) ]
+  where
+    length-concat-push : (texts : List (List ℕ)) (text : List ℕ) → length (concat (texts ++ text ∷ [])) ≡ length (concat texts) + length text
+    length-concat-push [] text = omega (arith, length-append text [])
+    length-concat-push (t ∷ texts) text = omega (arith, length-append t (concat (texts ++ text ∷ [])), length-append t (concat texts), length-concat-push texts text)
+
+-- the next record is done after all earlier ones
+in_order : (records before after grown : List (List ℕ)) (positions : List ℕ) (last : ℕ) → Adds records before after (λ p. get_or positions p 0) (λ k. k < length positions) → AreTypes records → AllByRecursion IsRecord records → length (concat after) < 2 ^ 33
+    → length positions < length records → AreBytes (renumbered (λ p. get_or positions p 0) (get_or records (length positions) [])) → Holds after grown (renumbered (λ p. get_or positions p 0) (get_or records (length positions) []))
+    → last < length grown → get_or grown last [] ≡ renumbered (λ p. get_or positions p 0) (get_or records (length positions) [])
+    → Adds records before grown (λ p. get_or (positions ++ last ∷ []) p 0) (λ k. k < length (positions ++ last ∷ []))
+in_order records before after grown positions last adds types framed short below bytes holds inside at =
+    let i : ℕ = length positions in
+    let few = table_few after adds.table short in
+    let frame : IsRecord (get_or records i []) = at_position IsRecord records i framed below in
+    adds_more records before after grown (λ p. get_or positions p 0) (λ p. get_or (positions ++ last ∷ []) p 0) (λ k. k < length positions) (λ k. k < length (positions ++ last ∷ [])) i last adds (omega (arith, few)) frame
+    (at_position IsChecked records i types.checked below, frame.long) (tree_there records i types.lower below) (lower_done records i (references (get_or records i [])) (types.lower i below)) bytes holds inside at
+    (λ k old. get_or_append_left positions (last ∷ []) 0 k old)
+    (get_or-append_seam positions last [] 0)
+    (λ k new. elim (cases_lt k i) [ inl old ↦ inl old | inr end ↦ inr (omega (arith, end, new, length-append positions (last ∷ []))) ])
+
+pub adds_next : (records before after grown : List (List ℕ)) (positions slice : List ℕ) (last : ℕ) (r : List ℕ) → Adds records before after (λ p. get_or positions p 0) (λ k. k < length positions) → AreTypes records → AllByRecursion IsRecord records → length (concat after) < 2 ^ 33
+    → r ≡ get_or records (length positions) [] → length positions < length records → slice ≡ positions → AreBytes (renumbered (λ p. get_or slice p 0) r) → Holds after grown (renumbered (λ p. get_or slice p 0) r)
+    → last < length grown → get_or grown last [] ≡ renumbered (λ p. get_or slice p 0) r
+    → Adds records before grown (λ p. get_or (positions ++ last ∷ []) p 0) (λ k. k < length (positions ++ last ∷ []))
+adds_next records before after grown positions slice last r adds types framed short is below same bytes holds inside found =
+    in_order records before after grown positions last adds types framed short below (rw (is, same) at bytes) (rw (is, same) at holds) inside (rw (is, same) at found)
+
+-- each record that the next record names has a position
+pub next_numbered : (records before after : List (List ℕ)) (positions slice r : List ℕ) → Adds records before after (λ p. get_or positions p 0) (λ k. k < length positions) → AreTypes records → length (concat after) < 2 ^ 33
+    → r ≡ get_or records (length positions) [] → length positions < length records → slice ≡ positions → AreNumbered slice (references r)
+next_numbered records before after positions slice r adds types short is below same =
+    rw (is, same) (numbered_done records before after positions (references (get_or records (length positions) [])) adds (table_few after adds.table short)
+    (lower_done records (length positions) (references (get_or records (length positions) [])) (types.lower (length positions) below)))
+
+-- the table and the records that are left stay few together: one record goes over
+pub short_still : (after grown : List (List ℕ)) (r y : List ℕ) (left others : List (List ℕ)) → Holds after grown y → length y ≡ length r → left ≡ r ∷ others → length (concat after) + length (concat left) < 2 ^ 33 → length (concat grown) + length (concat others) < 2 ^ 33
+short_still after grown r y left others holds same split short =
+    let whole : length (concat left) ≡ length r + length (concat others) = ap (λ (x : List (List ℕ)). length (concat x)) split ∙ length-append r (concat others) in
+    omega (arith, short, whole, same, holds_short after grown y holds)
+
+-- a table that has more bytes than the limit tells the weight of the union
+pub too_large : (before types after : List (List ℕ)) (found limit : ℕ) → (l : List Tree) × IsUnion l before types × (weight l ≡ length (concat after)) → found ≡ length (concat after) → limit < found
+    → (bytes : ℕ) → JoinFault.TooLarge found ≡ JoinFault.TooLarge bytes → (limit < bytes) × ((l : List Tree) × IsUnion l before types × (weight l ≡ bytes))
+too_large before types after found limit u is more bytes named =
+    let same : found ≡ bytes = cc in
+    (omega (arith, more, same), (u.0, u.1, u.2 ∙ sym is ∙ same))

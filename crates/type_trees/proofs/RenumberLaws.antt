@@ -1,0 +1,39 @@
+-- Writing other numbers into a record, place by place.
+use Rattle.std.proofs.Common.{◌≡◌, ℕ, ◌+◌, suc, List, [], ◌∷◌, map, refl, sym, ap, ◌∙◌, arith}
+use Rattle.std.specs.List.{Contains}
+use Rattle.cv_leaves.specs.Blank.{put_four, fill}
+use Rattle.cv_leaves.specs.Checks.{places_of}
+use Rattle.type_trees.specs.References.{reference_at, references, filled}
+use Rattle.type_trees.specs.Table.{renumber, renumber_one, renumbered, AreNumbered}
+
+-- at the start all places are left to write
+pub all_left : (r places copy : List ℕ) (f : ℕ → ℕ) → places ≡ places_of r → copy ≡ r → fill copy places (renumber f (map (reference_at r) places)) ≡ renumbered f r
+unfolding renumbered filled references
+all_left r places copy f own same = rw (own, same) refl
+
+pub all_named : (r places numbers : List ℕ) → places ≡ places_of r → AreNumbered numbers (references r) → AreNumbered numbers (map (reference_at r) places)
+unfolding references
+all_named r places numbers own named = rw own named
+
+renumber-more : (f : ℕ → ℕ) (n : ℕ) (ns : List ℕ) → renumber f (n ∷ ns) ≡ renumber_one f n ∷ renumber f ns
+unfolding renumber
+renumber-more f n ns = refl
+
+-- one step writes at one place and leaves the others
+pub one_left : (r : List ℕ) (f : ℕ → ℕ) (copy after all : List ℕ) (place to : ℕ) (left others : List ℕ) → fill copy left (renumber f (map (reference_at r) left)) ≡ all → left ≡ place ∷ others → to ≡ renumber_one f (reference_at r place) → after ≡ put_four copy (4 + place) to
+    → fill after others (renumber f (map (reference_at r) others)) ≡ all
+one_left r f copy after all place to left others so_far split is changed =
+    let ns : List ℕ = map (reference_at r) others in
+    ap (λ (x : List ℕ). fill x others (renumber f ns)) (changed ∙ ap (put_four copy (4 + place)) is)
+    ∙ sym (ap (fill copy (place ∷ others)) (renumber-more f (reference_at r place) ns))
+    ∙ sym (ap (λ (ps : List ℕ). fill copy ps (renumber f (map (reference_at r) ps))) split) ∙ so_far
+
+-- at the end no place is left, and the copy is the renumbered record
+pub none_left : (r : List ℕ) (f : ℕ → ℕ) (copy left all : List ℕ) → fill copy left (renumber f (map (reference_at r) left)) ≡ all → left ≡ [] → copy ≡ all
+none_left r f copy left all so_far none = sym (ap (λ (ps : List ℕ). fill copy ps (renumber f (map (reference_at r) ps))) none) ∙ so_far
+
+pub first_in : (p : ℕ) (left others : List ℕ) → left ≡ p ∷ others → Contains left p
+first_in p left others split = rw split (0, omega arith, refl)
+
+pub others_in : (p place : ℕ) (left others : List ℕ) → left ≡ place ∷ others → Contains others p → Contains left p
+others_in p place left others split h = rw split (suc h.0, omega (arith, h.1), h.2)

@@ -1,0 +1,123 @@
+//! Canonical lists of types.
+
+ghost use Rattle.std.specs.Prelude.{◌≡◌, ◌⊎◌, ◌↔◌, ◌^◌, ◌<◌, ◌≤◌, [], IsTrue, ℕ, List, length, option_map, slice_get, IfOk, IfErr};
+ghost use Rattle.std.specs.List.{concat};
+ghost use Rattle.type_trees.specs.Tree.{Tree, IsType};
+ghost use Rattle.type_trees.specs.Canon.{weight};
+ghost use Rattle.type_trees.specs.Table.{IsUnion};
+ghost use Rattle.type_trees.specs.Finish.{IsCanon, IsCanonOf};
+
+use crate::canon_records::CanonRecords;
+use crate::fault::JoinFault;
+use crate::table::Table;
+use crate::types::Types;
+use packed_texts::PackedTexts;
+use std::alloc::{Allocator, Global};
+use std::hash::{BuildHasherDefault, FoldHasher};
+use std::marker::Model;
+
+/// The canonical list of a set of types.
+///
+/// It has each type once. The types stand in the order of their depths, and those of one depth in
+/// the order of the bytes of their records. The record at position i has the type index
+/// `0x1000 + i`, and the records name each other by these type indices. So each record names
+/// earlier records alone, and equal sets have equal lists. The records lie one after the other in
+/// one vector, and have fewer than 2^32 bytes together.
+#[derive(Drop)]
+pub struct Canon<A: Allocator = Global> {
+    pub(crate) texts: PackedTexts<A>,
+}
+
+impl<A: Allocator> Model for Canon<A> {
+    ghost use Rattle.std.specs.Prelude.{List, ℕ};
+    ghost use Rattle.type_trees.specs.Finish.{IsCanon};
+
+    ghost Value = { List (List ℕ) };
+
+    ghost view = { λ c. c.texts };
+
+    ghost invariant = { λ c. IsCanon c.texts };
+}
+
+impl<A: Allocator + Copy> Canon<A> {
+    /// The canonical list of no types. It takes no memory.
+    #[tactic(auto, using(crate::proofs::CanonTableLaws::no_canon))]
+    pub fn empty(alloc: A) -> Canon<A>
+        ensures { result ≡ [] }
+    {
+        Canon {
+            texts: PackedTexts::new(alloc),
+        }
+    }
+
+    /// Makes the canonical list of the types of this list and of `types`.
+    ///
+    /// `TooLarge` is answered where the records of the union have more bytes together than `limit`,
+    /// their length fields included. Each type counts once. `Memory` is answered where memory is
+    /// refused, which may come before or after that. This list stays as it is in any case. Memory is
+    /// taken for the new list; until it is made, also for a table of the union.
+    pub fn join(&self, alloc: A, types: &Types<'_, A>, limit: u32) -> Result<Canon<A>, JoinFault>
+        ensures value { IfOk result (λ canon. IsCanonOf canon (λ t. IsType self.now t ⊎ IsType types.now t)) }
+        ensures within { IfOk result (λ canon. length (concat canon) ≤ limit) }
+        // The union is larger than the limit, and has this many bytes.
+        ensures large { IfErr result (λ fault. (bytes : ℕ) → fault ≡ JoinFault.TooLarge bytes → (limit < bytes) × ((l : List Tree) × IsUnion l self.now types.now × (weight l ≡ bytes))) }
+    {
+        let hasher: BuildHasherDefault<FoldHasher> = BuildHasherDefault::new();
+        let mut table = Table::from_canon(alloc, hasher, self)?;
+        table.add(alloc, types, limit)?;
+        let canon = table.finish(alloc)?;
+        Ok(canon)
+    }
+}
+
+impl<A: Allocator> Canon<A> {
+    /// How many types there are. It takes no memory.
+    pub fn len(&self) -> usize
+        ensures value { result ≡ length self.now }
+        ensures canon { IsCanon self.now }
+    {
+        self.texts.len()
+    }
+
+    /// Whether there are no types.
+    pub fn is_empty(&self) -> bool
+        ensures { IsTrue result ↔ (length self.now ≡ 0) }
+    {
+        self.texts.len() == 0
+    }
+
+    /// The record at a position, whole: from its length field on.
+    ///
+    /// Positions count from 0. The answer is `None` at a position that no record has.
+    #[tactic(auto, using(crate::proofs::CanonTableLaws::there))]
+    pub fn get(&self, position: usize) -> Option<&[u8]>
+        ensures { option_map (λ r. r.now) result ≡ slice_get self.now position }
+    {
+        if position < self.texts.len() {
+            return Some(self.texts.get(position));
+        }
+        None
+    }
+
+    /// The records in order, each whole: from its length field on. It takes no memory.
+    pub fn records(&self) -> CanonRecords<'_, A>
+        ensures { result ≡ self.now }
+    {
+        CanonRecords::new(self)
+    }
+
+    /// The bytes of all records, one record after the other, their length fields included.
+    pub fn bytes(&self) -> &[u8]
+        ensures { result.now ≡ concat self.now }
+    {
+        self.texts.bytes()
+    }
+
+    /// How many bytes the records have together, their length fields included.
+    #[tactic(auto, using(crate::proofs::CanonTableLaws::canon_short))]
+    pub fn bytes_len(&self) -> u32
+        ensures { result ≡ length (concat self.now) }
+    {
+        self.texts.bytes().len() as u32
+    }
+}

@@ -1,0 +1,243 @@
+//! The canonical list of a table, which is made level by level.
+//!
+//! A *level* is the records of one depth. The *row* of a record is the record with the type
+//! indices of the canonical list in place of those of the table. The rows of a level are known as
+//! soon as the lower levels have their numbers, which are positions in the canonical list.
+
+ghost use Rattle.std.specs.Prelude.{◌≡◌, ◌≢◌, ◌⊎◌, ◌↔◌, ◌+◌, ◌-◌, ◌%◌, ◌^◌, ◌<◌, ◌≤◌, ◌++◌, [], ◌∷◌, ℕ, List, length, get_or, map, take, drop, IfOk, IfErr};
+ghost use Rattle.std.specs.List.{AllByRecursion, Contains, concat};
+ghost use Rattle.std.specs.List.Sorted.{IsPermutation};
+ghost use Rattle.std.specs.Ordering.{nat_cmp};
+ghost use Rattle.std.specs.Cmp.Lexicographic.{slice_cmp};
+ghost use Rattle.std.specs.declared.cmp.Ordering.TheVariants.{Greater};
+ghost use Rattle.tpi_records.specs.Records.{IsRecord};
+ghost use Rattle.cv_leaves.specs.HasPlaces.{IsChecked};
+ghost use Rattle.type_trees.specs.References.{references};
+ghost use Rattle.type_trees.specs.Depth.{AreDepths, HasLevels};
+ghost use Rattle.type_trees.specs.Tree.{Tree, IsType};
+ghost use Rattle.type_trees.specs.Table.{IsTable, AreNumbered, renumbered};
+ghost use Rattle.type_trees.specs.Rows.{row, AreRows};
+ghost use Rattle.type_trees.specs.Finish.{Listed, AtLevel, Numbered, IsCanonOf};
+
+use crate::depth::depth_of;
+use crate::renumber::renumber;
+use key_chains::KeyChains;
+use packed_texts::PackedTexts;
+use std::alloc::{AllocError, Allocator};
+use std::hash::BuildHasher;
+use text_set::TextSet;
+
+/// The depth of each record of a table, and how many levels there are. The records of each depth
+/// are chained.
+fn depths_of<S: BuildHasher, A: Allocator + Copy>(
+    alloc: A,
+    table: &TextSet<S, A>,
+) -> Result<(KeyChains<A>, u32), AllocError>
+    requires table { IsTable table.now }
+    requires short { length (concat table.now) < 2 ^ 32 }
+    ensures many { IfOk result (λ m. length m.0 ≡ length table.now) }
+    ensures depths { IfOk result (λ m. AreDepths table.now m.0) }
+    ensures levels { IfOk result (λ m. HasLevels table.now m.1) }
+{
+    let mut depths = KeyChains::new(alloc);
+    let mut levels = 0;
+    for position in 0..table.len() {
+        let depth = depth_of(table.get(position), depths.keys());
+        depths.push(depth)?;
+        levels = levels.max(depth + 1);
+    }
+    Ok((depths, levels))
+}
+
+/// Adds the row of a record after the other rows.
+#[tactic(auto, using(crate::proofs::AddLaws::padded_record, crate::proofs::AddLaws::renumbered_long))]
+fn push_row<A: Allocator>(
+    rows: &mut PackedTexts<A>,
+    copy: &mut Vec<u8, A>,
+    bytes: &[u8],
+    numbers: &[u32],
+) -> Result<(), AllocError>
+    requires framed { IsRecord bytes.now }
+    requires checked { IsChecked bytes.now }
+    requires named { AreNumbered numbers.now (references bytes.now) }
+    requires few { length (concat rows.old) + length bytes.now < 2 ^ 34 }
+    ensures ok { IfOk result (λ _. rows.new ≡ rows.old ++ renumbered (λ k. get_or numbers.now k 0) bytes.now ∷ []) }
+{
+    copy.clear();
+    copy.extend_from_slice(bytes)?;
+    renumber(bytes, numbers, copy);
+    rows.push(copy)
+}
+
+/// The rows of a level in any order, and the position in the table of the record of each.
+fn collect<S: BuildHasher, A: Allocator + Copy>(
+    alloc: A,
+    table: &TextSet<S, A>,
+    depths: &KeyChains<A>,
+    level: u32,
+    numbers: &[u32],
+) -> Result<(PackedTexts<A>, Vec<u32, A>), AllocError>
+    requires table { IsTable table.now }
+    requires short { length (concat table.now) < 2 ^ 32 }
+    requires many { length depths.now ≡ length table.now }
+    requires numbered { length numbers.now ≡ length table.now }
+    requires bounded { (k : ℕ) → get_or numbers.now k 0 < 2 ^ 31 }
+    ensures rows { IfOk result (λ m. m.0 ≡ map (row table.now (λ k. get_or numbers.now k 0)) m.1.items) }
+    ensures level { IfOk result (λ m. AtLevel depths.now level m.1.items) }
+{
+    let mut rows = PackedTexts::new(alloc);
+    let mut positions = Vec::new(alloc);
+    let mut copy = Vec::new(alloc);
+    let mut candidate = depths.newest(level);
+    while let Some(position) = candidate {
+        push_row(&mut rows, &mut copy, table.get(position), numbers)?;
+        positions.push(position as u32)?;
+        candidate = depths.older(position);
+    }
+    Ok((rows, positions))
+}
+
+/// Each row with the position of its record.
+fn paired<'a, A: Allocator + Copy>(
+    alloc: A,
+    rows: &'a PackedTexts<A>,
+    positions: &[u32],
+) -> Result<Vec<(&'a [u8], u32), A>, AllocError>
+    requires many { length positions.now ≡ length rows.now }
+    ensures rows { IfOk result (λ v. map (λ p. p.0.now) v.items ≡ rows.now) }
+    ensures positions { IfOk result (λ v. map (λ p. p.1) v.items ≡ positions.now) }
+{
+    let mut pairs = Vec::with_capacity(alloc, rows.len())?;
+    for k in 0..rows.len() {
+        pairs.push((rows.get(k), positions[k]))?;
+    }
+    Ok(pairs)
+}
+
+/// Adds the rows after the list.
+fn append_rows<A: Allocator>(
+    order: &[(&[u8], u32)],
+    out: &mut PackedTexts<A>,
+) -> Result<(), AllocError>
+    requires padded { (x : List ℕ) → Contains (map (λ p. p.0.now) order.now) x → length x % 4 ≡ 0 }
+    requires few { length (concat out.old) + length (concat (map (λ p. p.0.now) order.now)) < 2 ^ 34 }
+    ensures { IfOk result (λ _. out.new ≡ out.old ++ map (λ p. p.0.now) order.now) }
+{
+    for entry in order {
+        out.push(entry.0)?;
+    }
+    Ok(())
+}
+
+/// Gives the records of the rows the numbers from `first` on, in order.
+fn number_rows(order: &[(&[u8], u32)], first: usize, numbers: &mut [u32])
+    requires within { (k : ℕ) → k < length order.now → get_or (map (λ p. p.1) order.now) k 0 < length numbers.old }
+    requires few { first + length order.now < 2 ^ 31 }
+    requires bounded { (k : ℕ) → get_or numbers.old k 0 < 2 ^ 31 }
+    ensures numbered { Numbered (map (λ p. p.1) order.now) first (length order.now) numbers.old numbers.new }
+    ensures same { length numbers.new ≡ length numbers.old }
+    ensures bounded { (k : ℕ) → get_or numbers.new k 0 < 2 ^ 31 }
+{
+    let mut number = first;
+    for entry in order {
+        numbers[entry.1 as usize] = number as u32;
+        number += 1;
+    }
+}
+
+/// The rows in the order of their bytes, each with the position of its record.
+fn sorted_pairs<'a, A: Allocator + Copy>(
+    alloc: A,
+    rows: &'a PackedTexts<A>,
+    positions: &[u32],
+) -> Result<Vec<(&'a [u8], u32), A>, AllocError>
+    requires many { length positions.now ≡ length rows.now }
+    ensures moved { IfOk result (λ v. IsPermutation positions.now (map (λ p. p.1) v.items)) }
+    ensures fit { IfOk result (λ v. (g : ℕ → List ℕ) → rows.now ≡ map g positions.now → map (λ p. p.0.now) v.items ≡ map g (map (λ p. p.1) v.items)) }
+    ensures sorted { IfOk result (λ v. (k : ℕ) → k + 1 < length v.items → slice_cmp nat_cmp (get_or (map (λ p. p.0.now) v.items) k []) (get_or (map (λ p. p.0.now) v.items) (k + 1) []) ≢ Greater) }
+{
+    let mut pairs = paired(alloc, rows, positions)?;
+    pairs.sort_unstable();
+    Ok(pairs)
+}
+
+/// A vector of `count` zeros.
+#[tactic(auto, using(crate::proofs::FinishLaws::zeros_more))]
+fn zeros<A: Allocator>(alloc: A, count: usize) -> Result<Vec<u32, A>, AllocError>
+    ensures many { IfOk result (λ v. length v.items ≡ count) }
+    ensures bounded { IfOk result (λ v. (k : ℕ) → get_or v.items k 0 < 2 ^ 31) }
+{
+    let mut numbers = Vec::with_capacity(alloc, count)?;
+    for _ in 0..count {
+        numbers.push(0)?;
+    }
+    Ok(numbers)
+}
+
+/// Adds the next level after the list, and numbers its records.
+fn list_level<S: BuildHasher, A: Allocator + Copy>(
+    alloc: A,
+    table: &TextSet<S, A>,
+    depths: &KeyChains<A>,
+    level: u32,
+    numbers: &mut [u32],
+    out: &mut PackedTexts<A>,
+) -> Result<(), AllocError>
+    requires table { IsTable table.now }
+    requires short { length (concat table.now) < 2 ^ 32 }
+    requires many { length depths.now ≡ length table.now }
+    requires depths { AreDepths table.now depths.now }
+    requires listed { Listed table.now level out.old (λ k. get_or numbers.old k 0) }
+    requires numbered { length numbers.old ≡ length table.now }
+    requires bounded { (k : ℕ) → get_or numbers.old k 0 < 2 ^ 31 }
+    ensures listed { IfOk result (λ _. Listed table.now (level + 1) out.new (λ k. get_or numbers.new k 0)) }
+    ensures numbered { length numbers.new ≡ length table.now }
+    ensures bounded { (k : ℕ) → get_or numbers.new k 0 < 2 ^ 31 }
+{
+    let (rows, positions) = collect(alloc, table, depths, level, numbers)?;
+    let order = sorted_pairs(alloc, &rows, &positions)?;
+    let first = out.len();
+    append_rows(&order, out)?;
+    number_rows(&order, first, numbers);
+    Ok(())
+}
+
+/// The canonical list of the types of a table, level by level.
+///
+/// `numbers` has an entry of any value for each record; a record gets its number once it is listed.
+fn list_levels<S: BuildHasher, A: Allocator + Copy>(
+    alloc: A,
+    table: &TextSet<S, A>,
+    depths: &KeyChains<A>,
+    levels: u32,
+    numbers: &mut [u32],
+) -> Result<PackedTexts<A>, AllocError>
+    requires table { IsTable table.now }
+    requires short { length (concat table.now) < 2 ^ 32 }
+    requires many { length depths.now ≡ length table.now }
+    requires depths { AreDepths table.now depths.now }
+    requires levels { HasLevels table.now levels }
+    requires numbered { length numbers.old ≡ length table.now }
+    requires bounded { (k : ℕ) → get_or numbers.old k 0 < 2 ^ 31 }
+    ensures { IfOk result (λ out. IsCanonOf out (IsType table.now)) }
+{
+    let mut out = PackedTexts::new(alloc);
+    for level in 0..levels {
+        list_level(alloc, table, depths, level, numbers, &mut out)?;
+    }
+    Ok(out)
+}
+
+/// The canonical list of the types of a table.
+pub fn canonical_list<S: BuildHasher, A: Allocator + Copy>(
+    alloc: A,
+    table: &TextSet<S, A>,
+) -> Result<PackedTexts<A>, AllocError>
+    requires table { IsTable table.now }
+    requires short { length (concat table.now) < 2 ^ 32 }
+    ensures { IfOk result (λ out. IsCanonOf out (IsType table.now)) }
+{
+    let (depths, levels) = depths_of(alloc, table)?;
+    let mut numbers = zeros(alloc, table.len())?;
+    list_levels(alloc, table, &depths, levels, &mut numbers)
+}

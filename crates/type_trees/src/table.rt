@@ -1,0 +1,181 @@
+//! Tables: types in the order in which they came, each once.
+
+ghost use Rattle.std.specs.Prelude.{◌≡◌, ◌≢◌, ◌⊎◌, ◌↔◌, ◌+◌, ◌-◌, ◌%◌, ◌^◌, ◌<◌, ◌≤◌, [], ℕ, List, length, get_or, map, take, IfOk, IfErr};
+ghost use Rattle.std.specs.List.{AllByRecursion, concat};
+ghost use Rattle.tpi_records.specs.Records.{IsRecord};
+ghost use Rattle.cv_leaves.specs.HasPlaces.{IsChecked};
+ghost use Rattle.text_set.specs.TextSet.{Holds};
+ghost use Rattle.type_trees.specs.References.{references};
+ghost use Rattle.type_trees.specs.Tree.{Tree, IsType};
+ghost use Rattle.type_trees.specs.Canon.{weight};
+ghost use Rattle.type_trees.specs.Table.{AreBytes, IsTable, IsUnion, AreNumbered, renumbered};
+ghost use Rattle.type_trees.specs.Merge.{Adds};
+ghost use Rattle.type_trees.specs.Finish.{IsCanon, IsCanonOf};
+
+use crate::canon::Canon;
+use crate::fault::JoinFault;
+use crate::finish::canonical_list;
+use crate::renumber::renumber;
+use crate::types::Types;
+use std::alloc::{AllocError, Allocator, Global};
+use std::hash::BuildHasher;
+use std::marker::Model;
+use text_set::TextSet;
+
+/// Each number of a `&[u8]` is a byte. The function does nothing: its contract is the fact.
+fn are_bytes(text: &[u8])
+    ensures { AreBytes text.now }
+{}
+
+/// Puts a record into the set, and answers its position there.
+///
+/// `positions` gives the position in the set for each record that it names. `last` is where the
+/// record before it stands.
+#[tactic(auto, using(crate::proofs::AddLaws::padded_record, crate::proofs::AddLaws::long_record, crate::proofs::AddLaws::renumbered_long))]
+fn add_record<S: BuildHasher, A: Allocator>(
+    texts: &mut TextSet<S, A>,
+    copy: &mut Vec<u8, A>,
+    bytes: &[u8],
+    positions: &[u32],
+    last: usize,
+) -> Result<usize, AllocError>
+    requires framed { IsRecord bytes.now }
+    requires checked { IsChecked bytes.now }
+    requires named { AreNumbered positions.now (references bytes.now) }
+    requires few { length (concat texts.old) + length bytes.now < 2 ^ 33 }
+    ensures at { IfOk result (λ k. (k < length texts.new) × (get_or texts.new k [] ≡ renumbered (λ p. get_or positions.now p 0) bytes.now)) }
+    ensures holds { IfOk result (λ _. Holds texts.old texts.new (renumbered (λ p. get_or positions.now p 0) bytes.now)) }
+    ensures bytes { IfOk result (λ _. AreBytes (renumbered (λ p. get_or positions.now p 0) bytes.now)) }
+    ensures small { length texts.new < 2 ^ 31 }
+    ensures err { IfErr result (λ _. texts.new ≡ texts.old) }
+{
+    copy.clear();
+    let copied = copy.extend_from_slice(bytes);
+    // The proof learns here that there are few texts.
+    let _ = texts.len();
+    copied?;
+    renumber(bytes, positions, copy);
+    are_bytes(copy);
+    let position = texts.intern(copy, last);
+    let _ = texts.len();
+    position
+}
+
+/// Puts all types into the set. Some of them stay there where memory is refused.
+fn add_all<S: BuildHasher, A: Allocator + Copy>(
+    alloc: A,
+    texts: &mut TextSet<S, A>,
+    types: &Types<'_, A>,
+) -> Result<(), AllocError>
+    requires table { IsTable texts.old }
+    requires short { length (concat texts.old) < 2 ^ 32 }
+    ensures ok { IfOk result (λ _. IsTable texts.new × ((t : Tree) → IsType texts.new t ↔ (IsType texts.old t ⊎ IsType types.now t))) }
+    ensures front { (length texts.old ≤ length texts.new) × (take (length texts.old) texts.new ≡ texts.old) }
+{
+    let mut positions = Vec::with_capacity(alloc, types.len())?;
+    let mut copy = Vec::new(alloc);
+    // The proof learns here that all types have fewer than 2^32 bytes.
+    let _ = types.bytes_len();
+    let mut last = 0;
+    for bytes in types.records().iter() {
+        last = add_record(texts, &mut copy, bytes, &positions, last)?;
+        positions.push(last as u32)?;
+    }
+    Ok(())
+}
+
+/// A set of types, each once, in the order in which they came.
+///
+/// With a type the table holds each type that it names. The records have fewer than 2^32 bytes
+/// together.
+#[derive(Drop)]
+pub struct Table<S: BuildHasher, A: Allocator = Global> {
+    texts: TextSet<S, A>,
+}
+
+impl<S: BuildHasher, A: Allocator> Model for Table<S, A> {
+    ghost use Rattle.std.specs.Prelude.{List, ℕ, ◌<◌, ◌^◌, length};
+    ghost use Rattle.std.specs.List.{concat};
+    ghost use Rattle.type_trees.specs.Table.{IsTable};
+
+    ghost Value = { List (List ℕ) };
+
+    ghost view = { λ t. t.texts };
+
+    ghost invariant = { λ t. IsTable t.texts × (length (concat t.texts) < 2 ^ 32) };
+}
+
+impl<S: BuildHasher, A: Allocator + Copy> Table<S, A> {
+    /// A table of no types. It takes no memory.
+    #[tactic(auto, using(crate::proofs::PushLaws::no_table))]
+    pub fn with_hasher(alloc: A, hasher: S) -> Table<S, A>
+        ensures { result ≡ [] }
+    {
+        Table {
+            texts: TextSet::with_hasher(alloc, hasher),
+        }
+    }
+
+    /// Adds types to the table.
+    ///
+    /// `Memory` is answered where memory is refused. Else `TooLarge` is answered where the records
+    /// of the union have more bytes together than `limit`, their length fields included. Each type
+    /// counts once. After either fault the table holds the types that it held before. The table
+    /// takes memory for the records that are new, and keeps it after a fault too.
+    pub fn add(&mut self, alloc: A, types: &Types<'_, A>, limit: u32) -> Result<(), JoinFault>
+        ensures value { IfOk result (λ _. (t : Tree) → IsType self.new t ↔ (IsType self.old t ⊎ IsType types.now t)) }
+        ensures within { IfOk result (λ _. (l : List Tree) × IsUnion l self.old types.now × (weight l ≤ limit)) }
+        ensures bytes { IfOk result (λ _. length (concat self.new) ≤ limit) }
+        ensures kept { IfErr result (λ _. self.new ≡ self.old) }
+        // The union is larger than the limit, and has this many bytes.
+        ensures large { IfErr result (λ fault. (bytes : ℕ) → fault ≡ JoinFault.TooLarge bytes → (limit < bytes) × ((l : List Tree) × IsUnion l self.old types.now × (weight l ≡ bytes))) }
+    {
+        let before = self.texts.len();
+        let _ = self.texts.bytes();
+        let added = add_all(alloc, &mut self.texts, types);
+        let bytes = self.texts.bytes().len() as u64;
+        if let Err(fault) = added {
+            self.texts.truncate(before);
+            return Err(JoinFault::from(fault));
+        }
+        if bytes > u64::from(limit) {
+            self.texts.truncate(before);
+            return Err(JoinFault::TooLarge { bytes });
+        }
+        Ok(())
+    }
+
+    /// The table of the types of a canonical list, in the order of the list.
+    #[tactic(auto, using(crate::proofs::CanonTableLaws::canon_short))]
+    pub(crate) fn from_canon(
+        alloc: A,
+        hasher: S,
+        canon: &Canon<A>,
+    ) -> Result<Table<S, A>, AllocError>
+    where
+        S: Drop,
+        ensures { IfOk result (λ table. table ≡ canon.now) }
+    {
+        let mut texts = TextSet::with_hasher(alloc, hasher);
+        let mut last = 0;
+        for position in 0..canon.len() {
+            last = texts.intern(canon.texts.get(position), last)?;
+        }
+        Ok(Table { texts })
+    }
+
+    /// Makes the canonical list of the types.
+    ///
+    /// The only fault is `Memory`. The table stays as it is in any case. Memory is taken for the
+    /// list; until it is made, also for the depth and the number of each type and for the rows of
+    /// one level. Nothing recurses along references.
+    pub fn finish(&self, alloc: A) -> Result<Canon<A>, JoinFault>
+        ensures value { IfOk result (λ canon. IsCanonOf canon (IsType self.now)) }
+        ensures bytes { IfOk result (λ canon. length (concat canon) ≡ length (concat self.now)) }
+        ensures memory { IfErr result (λ fault. fault ≡ JoinFault.Memory) }
+    {
+        let texts = canonical_list(alloc, &self.texts)?;
+        are_bytes(texts.bytes());
+        Ok(Canon { texts })
+    }
+}

@@ -1,0 +1,418 @@
+//! Tables and canonical lists of records typed by hand: their order, limits and refused memory.
+
+use super::stream_of;
+use crate::{Canon, JoinFault, Table, Types};
+use linked_list_allocator::LocalHeap;
+use std::alloc::{AllocError, Allocator, Global};
+use std::hash::{BuildHasher, BuildHasherDefault, FoldHasher, Hasher};
+use std::test::Fail;
+use tpi_records::Records;
+
+/// A limit that no test reaches.
+const LIMIT: u32 = 1000;
+
+/// A const int.
+const CONST: &[u8] = &[10, 0, 0x01, 0x10, 0x74, 0, 0, 0, 1, 0, 0xF2, 0xF1];
+
+/// A volatile int.
+const VOLATILE: &[u8] = &[10, 0, 0x01, 0x10, 0x74, 0, 0, 0, 2, 0, 0xF2, 0xF1];
+
+/// A pointer to an int.
+const TO_INT: &[u8] = &[10, 0, 0x02, 0x10, 0x74, 0, 0, 0, 0x0C, 0, 1, 0];
+
+/// A pointer to the type 0x1000.
+const TO_FIRST: &[u8] = &[10, 0, 0x02, 0x10, 0, 0x10, 0, 0, 0x0C, 0, 1, 0];
+
+/// A pointer to the type 0x1001.
+const TO_SECOND: &[u8] = &[10, 0, 0x02, 0x10, 1, 0x10, 0, 0, 0x0C, 0, 1, 0];
+
+/// A pointer to an int member of the class 0x1000.
+const MEMBER_OF_FIRST: &[u8] = &[
+    0x12, 0, 0x02, 0x10, 0x74, 0, 0, 0, 0x4C, 0x80, 0, 0, 0, 0x10, 0, 0, 1, 0, 0xF2, 0xF1,
+];
+
+/// A pointer to an int member of the class 0x1001.
+const MEMBER_OF_SECOND: &[u8] = &[
+    0x12, 0, 0x02, 0x10, 0x74, 0, 0, 0, 0x4C, 0x80, 0, 0, 1, 0x10, 0, 0, 1, 0, 0xF2, 0xF1,
+];
+
+/// A field list.
+const LIST: &[u8] = &[10, 0, 0x03, 0x12, 0x02, 0x15, 3, 0, 0, 0, 0x41, 0];
+
+/// A field list that goes on in the type 0x1000.
+const LIST_BEFORE_FIRST: &[u8] = &[
+    22, 0, 0x03, 0x12, 0x02, 0x15, 3, 0, 1, 0, 0x41, 0x42, 0x43, 0, 0xF2, 0xF1, 0x04, 0x14, 0, 0,
+    0, 0x10, 0, 0,
+];
+
+/// A field list that goes on in the type 0x1001.
+const LIST_BEFORE_SECOND: &[u8] = &[
+    22, 0, 0x03, 0x12, 0x02, 0x15, 3, 0, 1, 0, 0x41, 0x42, 0x43, 0, 0xF2, 0xF1, 0x04, 0x14, 0, 0,
+    1, 0x10, 0, 0,
+];
+
+/// The forward declaration of a structure S.
+const DECLARATION: &[u8] = &[
+    22, 0, 0x05, 0x15, 0, 0, 0x80, 0, 0, 0, 0, 0, 0, 0, 0, 0, 0, 0, 0, 0, 0, 0, 0x53, 0,
+];
+
+/// The definition of a structure S.
+const DEFINITION: &[u8] = &[
+    22, 0, 0x05, 0x15, 0, 0, 0, 0, 0, 0, 0, 0, 0, 0, 0, 0, 0, 0, 0, 0, 1, 0, 0x53, 0,
+];
+
+/// The bytes of these records, one after the other.
+fn bytes_of(alloc: Global, records: &[&[u8]]) -> Result<Vec<u8>, Fail> {
+    let mut bytes = Vec::new(alloc);
+    for record in records {
+        bytes.extend_from_slice(record)?;
+    }
+    Ok(bytes)
+}
+
+/// A TPI stream of these records.
+fn stream_with(alloc: Global, records: &[&[u8]]) -> Result<Vec<u8>, Fail> {
+    let bytes = bytes_of(alloc, records)?;
+    stream_of(alloc, u32::try_from(records.len()).unwrap_or(0), &bytes)
+}
+
+/// The types of a TPI stream.
+fn types_of<'a, A: Allocator + Copy>(alloc: A, stream: &'a [u8]) -> Result<Types<'a, A>, Fail> {
+    Ok(Types::check(alloc, Records::read(alloc, stream)?)?)
+}
+
+/// The hasher that a caller takes if it has no other.
+fn folding() -> BuildHasherDefault<FoldHasher> {
+    BuildHasherDefault::new()
+}
+
+/// A hasher with the same number for every text.
+#[derive(Clone, Copy)]
+struct Constant;
+
+impl Hasher for Constant {
+    ghost write = { λ s _. s };
+
+    ghost finish = { λ _. 7 };
+
+    fn finish(&self) -> u64 {
+        7
+    }
+
+    fn write(&mut self, _bytes: &[u8]) {}
+}
+
+impl BuildHasher for Constant {
+    type Hasher = Constant;
+
+    ghost build_hasher = { λ s. s };
+
+    fn build_hasher(&self) -> Constant {
+        *self
+    }
+}
+
+/// The canonical list of two streams, by a table with this hasher.
+fn finished<S: BuildHasher + Drop>(
+    alloc: Global,
+    hasher: S,
+    first: &[u8],
+    second: &[u8],
+) -> Result<Canon, Fail> {
+    let mut table = Table::with_hasher(alloc, hasher);
+    table.add(alloc, &types_of(alloc, first)?, LIMIT)?;
+    table.add(alloc, &types_of(alloc, second)?, LIMIT)?;
+    Ok(table.finish(alloc)?)
+}
+
+/// The canonical list of two streams, by joining.
+fn joined<A: Allocator + Copy>(alloc: A, first: &[u8], second: &[u8]) -> Result<Canon<A>, Fail> {
+    let canon = Canon::empty(alloc).join(alloc, &types_of(alloc, first)?, LIMIT)?;
+    Ok(canon.join(alloc, &types_of(alloc, second)?, LIMIT)?)
+}
+
+#[test]
+fn each_join_fault_has_its_text(rt: HostRuntime) -> Result<(), Fail> {
+    for (fault, text) in [
+        (JoinFault::TooLarge { bytes: 24 }, "32 TooLarge bytes 24"),
+        (JoinFault::Memory, "33 Memory"),
+    ] {
+        let shown = fault.to_string(rt.alloc())?;
+        assert_eq!(rt; shown.as_str(), text);
+    }
+    Ok(())
+}
+
+/// What is tested, the records of two files, and their canonical list.
+type Row = (
+    &'static str,
+    &'static [&'static [u8]],
+    &'static [&'static [u8]],
+    &'static [&'static [u8]],
+);
+
+const ROWS: [Row; 8] = [
+    ("no types", &[], &[], &[]),
+    (
+        "equal bytes that name different types",
+        &[CONST, TO_FIRST],
+        &[VOLATILE, TO_FIRST],
+        &[CONST, VOLATILE, TO_FIRST, TO_SECOND],
+    ),
+    (
+        "another order of arrival",
+        &[VOLATILE, CONST, TO_FIRST, TO_SECOND],
+        &[],
+        &[CONST, VOLATILE, TO_FIRST, TO_SECOND],
+    ),
+    (
+        "the same type twice",
+        &[CONST, CONST, TO_FIRST, TO_SECOND],
+        &[],
+        &[CONST, TO_FIRST],
+    ),
+    (
+        "the class of a member pointer",
+        &[TO_INT, CONST, MEMBER_OF_FIRST],
+        &[],
+        &[CONST, TO_INT, MEMBER_OF_SECOND],
+    ),
+    (
+        "a field list that goes on in another",
+        &[LIST, LIST_BEFORE_FIRST, CONST],
+        &[],
+        &[CONST, LIST, LIST_BEFORE_SECOND],
+    ),
+    (
+        "a forward declaration before the definition",
+        &[DECLARATION],
+        &[DEFINITION],
+        &[DEFINITION, DECLARATION],
+    ),
+    (
+        "a forward declaration after the definition",
+        &[DEFINITION, DECLARATION],
+        &[],
+        &[DEFINITION, DECLARATION],
+    ),
+];
+
+/// Whether the methods of the list all tell these records.
+fn is_list(canon: &Canon, want: &[&[u8]]) -> bool {
+    let mut records = canon.records();
+    for (position, record) in want.iter().enumerate() {
+        if canon.get(position) != Some(*record) || records.next() != Some(*record) {
+            return false;
+        }
+    }
+    canon.get(want.len()).is_none()
+        && records.next().is_none()
+        && canon.len() == want.len()
+        && canon.is_empty() == want.is_empty()
+}
+
+/// Whether each way to the canonical list of two streams gives these bytes.
+fn all_give(alloc: Global, first: &[u8], second: &[u8], want: &[u8]) -> Result<bool, Fail> {
+    let there = finished(alloc, folding(), first, second)?;
+    let back = finished(alloc, folding(), second, first)?;
+    let slow_there = finished(alloc, Constant, first, second)?;
+    let slow_back = finished(alloc, Constant, second, first)?;
+    let canon = joined(alloc, first, second)?;
+    Ok(
+        there.bytes() == want
+            && back.bytes() == want
+            && slow_there.bytes() == want
+            && slow_back.bytes() == want
+            && canon.bytes() == want
+            && canon.bytes_len() as usize == want.len(),
+    )
+}
+
+#[test]
+fn each_type_once_in_canonical_order(rt: HostRuntime) -> Result<(), Fail> {
+    for (what, first, second, want) in ROWS {
+        let first = stream_with(rt.alloc(), first)?;
+        let second = stream_with(rt.alloc(), second)?;
+        let bytes = bytes_of(rt.alloc(), want)?;
+        assert!(rt; all_give(rt.alloc(), &first, &second, &bytes)?, "{what}");
+        assert!(rt;
+            is_list(&joined(rt.alloc(), &first, &second)?, want),
+            "{what}"
+        );
+    }
+    Ok(())
+}
+
+/// How many bytes the heap of a test with refused memory has.
+const HEAP: usize = 4096;
+
+/// What a call answers while some memory is taken, and the bytes of two lists: the one that the
+/// table or the list gives after that, and the one that it gives after the same call with ample
+/// memory.
+type Answer = (Result<(), JoinFault>, Vec<u8>, Vec<u8>);
+
+/// The bytes of a list in other memory.
+fn copied<A: Allocator>(alloc: Global, canon: &Canon<A>) -> Result<Vec<u8>, Fail> {
+    let mut bytes = Vec::new(alloc);
+    bytes.extend_from_slice(canon.bytes())?;
+    Ok(bytes)
+}
+
+/// Adds the types of a second stream to those of a first at this limit, while so many bytes of the
+/// heap are taken.
+fn add_beside<A: Allocator + Copy>(
+    heap: A,
+    taken: usize,
+    limit: u32,
+    alloc: Global,
+    first: &[u8],
+    second: &[u8],
+) -> Result<Answer, Fail> {
+    let mut table = Table::with_hasher(heap, folding());
+    table.add(heap, &types_of(heap, first)?, LIMIT)?;
+    let types = types_of(heap, second)?;
+    let filler: Result<Vec<u8, A>, AllocError> = Vec::with_capacity(heap, taken);
+    let answer = table.add(heap, &types, limit);
+    drop(filler);
+    let after = copied(alloc, &table.finish(heap)?)?;
+    table.add(heap, &types, LIMIT)?;
+    Ok((answer, after, copied(alloc, &table.finish(heap)?)?))
+}
+
+/// Joins a list with the types of a second stream at this limit, while so many bytes of the heap
+/// are taken.
+fn join_beside<A: Allocator + Copy>(
+    heap: A,
+    taken: usize,
+    limit: u32,
+    alloc: Global,
+    first: &[u8],
+    second: &[u8],
+) -> Result<Answer, Fail> {
+    let canon = Canon::empty(heap).join(heap, &types_of(heap, first)?, LIMIT)?;
+    let types = types_of(heap, second)?;
+    let filler: Result<Vec<u8, A>, AllocError> = Vec::with_capacity(heap, taken);
+    let answer = canon.join(heap, &types, limit);
+    drop(filler);
+    let (answer, after) = match answer {
+        Ok(both) => (Ok(()), copied(alloc, &both)?),
+        Err(fault) => (Err(fault), copied(alloc, &canon)?),
+    };
+    let end = canon.join(heap, &types, LIMIT)?;
+    Ok((answer, after, copied(alloc, &end)?))
+}
+
+/// Makes the list of two streams, while so many bytes of the heap are taken. After a refusal the
+/// first of the two lists in the answer is that of the first stream.
+fn finish_beside<A: Allocator + Copy>(
+    heap: A,
+    taken: usize,
+    alloc: Global,
+    first: &[u8],
+    second: &[u8],
+) -> Result<Answer, Fail> {
+    let mut table = Table::with_hasher(heap, folding());
+    table.add(heap, &types_of(heap, first)?, LIMIT)?;
+    let before = copied(alloc, &table.finish(heap)?)?;
+    table.add(heap, &types_of(heap, second)?, LIMIT)?;
+    let filler: Result<Vec<u8, A>, AllocError> = Vec::with_capacity(heap, taken);
+    let answer = table.finish(heap);
+    drop(filler);
+    let (answer, after) = match answer {
+        Ok(canon) => (Ok(()), copied(alloc, &canon)?),
+        Err(fault) => (Err(fault), before),
+    };
+    Ok((answer, after, copied(alloc, &table.finish(heap)?)?))
+}
+
+/// A call that takes memory.
+#[derive(Clone, Copy)]
+enum Call {
+    Add,
+    Join,
+    Finish,
+}
+
+/// What this call answers while so many bytes of a heap are taken.
+fn beside(
+    call: Call,
+    alloc: Global,
+    taken: usize,
+    first: &[u8],
+    second: &[u8],
+) -> Result<Answer, Fail> {
+    let heap = LocalHeap::new(alloc, HEAP)?;
+    match call {
+        Call::Add => add_beside(&heap, taken, LIMIT, alloc, first, second),
+        Call::Join => join_beside(&heap, taken, LIMIT, alloc, first, second),
+        Call::Finish => finish_beside(&heap, taken, alloc, first, second),
+    }
+}
+
+/// Whether the call was accepted, if what it left is right.
+fn was_accepted(answer: &Answer, before: &[u8], want: &[u8]) -> Option<bool> {
+    if answer.2.as_slice() != want {
+        return None;
+    }
+    match answer.0 {
+        Ok(()) if answer.1.as_slice() == want => Some(true),
+        Err(JoinFault::Memory) if answer.1.as_slice() == before => Some(false),
+        _ => None,
+    }
+}
+
+#[test]
+fn memory_is_refused(rt: HostRuntime) -> Result<(), Fail> {
+    let first = stream_with(rt.alloc(), &[CONST, TO_FIRST])?;
+    let second = stream_with(rt.alloc(), &[VOLATILE, TO_FIRST])?;
+    let before = bytes_of(rt.alloc(), &[CONST, TO_FIRST])?;
+    let want = bytes_of(rt.alloc(), &[CONST, VOLATILE, TO_FIRST, TO_SECOND])?;
+    for call in [Call::Add, Call::Join, Call::Finish] {
+        let mut refused = false;
+        let mut accepted = false;
+        for words in 0..HEAP / 8 {
+            let answer = beside(call, rt.alloc(), 8 * words, &first, &second)?;
+            match was_accepted(&answer, &before, &want) {
+                Some(true) => accepted = true,
+                Some(false) => refused = true,
+                None => assert!(rt; false, "with {words} words taken"),
+            }
+        }
+        assert!(rt; refused && accepted);
+    }
+    Ok(())
+}
+
+/// Adds a second stream at limit 23, and then the first one again at limit 12.
+fn add_again(alloc: Global, first: &[u8], second: &[u8]) -> Result<Answer, Fail> {
+    let mut table = Table::with_hasher(alloc, folding());
+    let types = types_of(alloc, first)?;
+    table.add(alloc, &types, 12)?;
+    let answer = table.add(alloc, &types_of(alloc, second)?, 23);
+    let after = copied(alloc, &table.finish(alloc)?)?;
+    table.add(alloc, &types, 12)?;
+    Ok((answer, after, copied(alloc, &table.finish(alloc)?)?))
+}
+
+/// Whether this is the answer, with these lists.
+fn is_answer(answer: &Answer, said: Result<(), JoinFault>, after: &[u8], end: &[u8]) -> bool {
+    answer.0 == said && answer.1.as_slice() == after && answer.2.as_slice() == end
+}
+
+#[test]
+fn a_union_at_the_limit(rt: HostRuntime) -> Result<(), Fail> {
+    let large = Err(JoinFault::TooLarge { bytes: 24 });
+    let pointer = stream_with(rt.alloc(), &[TO_INT])?;
+    let other = stream_with(rt.alloc(), &[CONST])?;
+    let both = stream_with(rt.alloc(), &[TO_INT, CONST])?;
+    let want = bytes_of(rt.alloc(), &[CONST, TO_INT])?;
+    let answer = join_beside(rt.alloc(), 0, 23, rt.alloc(), &pointer, &other)?;
+    assert!(rt; is_answer(&answer, large, TO_INT, &want));
+    let answer = join_beside(rt.alloc(), 0, 24, rt.alloc(), &pointer, &other)?;
+    assert!(rt; is_answer(&answer, Ok(()), &want, &want));
+    let answer = add_beside(rt.alloc(), 0, 24, rt.alloc(), &other, &both)?;
+    assert!(rt; is_answer(&answer, Ok(()), &want, &want));
+    let answer = add_again(rt.alloc(), &other, &both)?;
+    assert!(rt; is_answer(&answer, large, CONST, CONST));
+    Ok(())
+}
