@@ -1,5 +1,5 @@
 -- What an accepted file can't be besides.
-use Rattle.std.proofs.Common.{◌≡◌, ◌⊎◌, ℕ, ◌<◌, List, Some, length, get_or, ap, ◌∙◌, arith, inl, inr}
+use Rattle.std.proofs.Common.{◌≡◌, ◌⊎◌, ℕ, ◌<◌, ◌^◌, List, Some, length, get_or, ap, ◌∙◌, arith, inl, inr}
 use Rattle.std.specs.Prelude.{Result, Ok, Err, IfErr}
 use Rattle.msf_blocks.specs.Layout.{LayoutView, HasLayout}
 use Rattle.msf_blocks.proofs.FoundLaws.{layout_holds}
@@ -13,7 +13,7 @@ use Rattle.pdb_merge.specs.Accepted.{IsAccepted, HasNoInfo, HasTypeStream, HasNo
 use Rattle.pdb_merge.specs.Fault.{of_tpi}
 use Rattle.pdb_merge.specs.declared.fault.PdbFault.{PdbFault}
 use Rattle.pdb_merge.specs.declared.fault.PdbFault.TheVariants as fault
-use Rattle.pdb_merge.proofs.LayoutLaws.{one_layout}
+use Rattle.pdb_merge.proofs.LayoutLaws.{one_layout, one_layout_short}
 use Rattle.pdb_merge.proofs.StreamLaws.{is_listed}
 
 -- ---- refusals
@@ -39,6 +39,13 @@ stream_refused file stream inner outer has made (inr want) = inr (made ∙ ap of
 -- of a file, one list of bytes stands in a stream, whatever its layout is taken to be
 same_text : (file : List ℕ) (some other : LayoutView) (s : ℕ) (xs ys : List ℕ) → some ≡ other → stream_text file some s ≡ Some xs → stream_text file other s ≡ Some ys → xs ≡ ys
 same_text file some other s xs ys same is_x is_y = let there = rw same at is_x in cc
+
+-- with one list of records alone a file is accepted whose layout has numbers of four bytes
+pub one_list_short : (file : List ℕ) (some others : List (List ℕ)) (is_s : IsAccepted file some) → is_s.layout.superblock.num_blocks < 2 ^ 32 → is_s.layout.superblock.directory_bytes < 2 ^ 32 → IsAccepted file others → some ≡ others
+one_list_short file some others is_s few bytes is_o =
+    let layout = one_layout_short file is_s.layout is_o.layout few bytes is_s.has_layout is_o.has_layout in
+    let stream = same_text file is_s.layout is_o.layout 2 is_s.stream is_o.stream layout is_s.is_stream is_o.is_stream in
+    one_records is_s.stream some others is_s.has_records (rw stream is_o.has_records)
 
 -- a file is accepted with one list of records alone
 pub one_list : (file : List ℕ) (some others : List (List ℕ)) → ((i : ℕ) → get_or file i 0 < 256) → IsAccepted file some → IsAccepted file others → some ≡ others

@@ -4,7 +4,7 @@ use Rattle.std.specs.List.{flat_map, AllByRecursion, All}
 use Rattle.std.proofs.lemmas.Grind.{flat_map-append}
 use Rattle.std.proofs.lemmas.List.{length-append, length-map, append_cancel_left}
 use Rattle.std.proofs.lemmas.List.Elements.{All-head, All-tail}
-use Rattle.byte_fields.specs.Number.{number_at, four_bytes, words, word}
+use Rattle.byte_fields.specs.Number.{four_bytes, words, word}
 use Rattle.byte_fields.proofs.NumberLaws.{word-words, length-words, number_at-small}
 use Rattle.msf_blocks.specs.BlockNumber.{IsOrdinary, blocks_for}
 use Rattle.msf_blocks.specs.Superblock.{Fields}
@@ -101,14 +101,17 @@ streams_same fields text ss ts few short lists_s lists_t =
     let sizes = numbers_same sizes_s sizes_t (lists_of ss ++ lists_s.rest) (lists_of ts ++ lists_t.rest) many (sizes_small fields ss lists_s.each) (sizes_small fields ts lists_t.each) first.1 in
     lists_same fields ss ts lists_s.rest lists_t.rest few lists_s.each lists_t.each sizes.0 sizes.1
 
--- a file has one layout alone
-pub one_layout : (file : List ℕ) (some other : LayoutView) → ((i : ℕ) → get_or file i 0 < 256) → HasLayout file some → HasLayout file other → some ≡ other
-one_layout file some other bytes has_s has_o =
+-- a file has one layout alone, where the numbers of one of them are of four bytes
+pub one_layout_short : (file : List ℕ) (some other : LayoutView) → some.superblock.num_blocks < 2 ^ 32 → some.superblock.directory_bytes < 2 ^ 32 → HasLayout file some → HasLayout file other → some ≡ other
+one_layout_short file some other few bytes has_s has_o =
     let fields : some.superblock ≡ other.superblock = fields_are file some.superblock has_s.superblock ∙ sym (fields_are file other.superblock has_o.superblock) in
     let text : has_o.text ≡ has_s.text = has_o.directory.text_is ∙ ap (directory_text file) (sym fields) ∙ sym has_s.directory.text_is in
-    let few : some.superblock.num_blocks < 2 ^ 32 = rw (← has_s.superblock.num_blocks_is) (number_at-small file 40 bytes) in
-    let long : length has_s.text ≡ number_at 4 file 44 = ap length has_s.directory.text_is ∙ text_length file some.superblock ∙ sym has_s.superblock.directory_bytes_is in
-    let short : length has_s.text < 2 ^ 32 = rw long (number_at-small file 44 bytes) in
+    let short : length has_s.text < 2 ^ 32 = rw (ap length has_s.directory.text_is ∙ text_length file some.superblock) bytes in
     let lists : ListsStreams some.superblock has_s.text other.streams = rw (fields, ← text) has_o.lists in
     let streams = streams_same some.superblock has_s.text some.streams other.streams few short has_s.lists lists in
     rw (fields, streams) refl
+
+-- a file of bytes has one layout alone
+pub one_layout : (file : List ℕ) (some other : LayoutView) → ((i : ℕ) → get_or file i 0 < 256) → HasLayout file some → HasLayout file other → some ≡ other
+one_layout file some other bytes has_s has_o =
+    one_layout_short file some other (rw (← has_s.superblock.num_blocks_is) (number_at-small file 40 bytes)) (rw (← has_s.superblock.directory_bytes_is) (number_at-small file 44 bytes)) has_s has_o

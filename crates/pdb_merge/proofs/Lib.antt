@@ -2,3 +2,8 @@ pub mod LayoutLaws
 pub mod StreamLaws
 pub mod AcceptedLaws
 pub mod MemoryLaws
+pub mod UnionLaws
+pub mod MergingLaws
+pub mod FitLaws
+pub mod ReadBackLaws
+pub mod FileLaws

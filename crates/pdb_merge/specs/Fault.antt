@@ -9,6 +9,13 @@ use Rattle.tpi_records.specs.declared.fault.TpiFault.{TpiFault}
 use Rattle.tpi_records.specs.declared.fault.TpiFault.TheVariants as tpi
 use Rattle.type_trees.specs.declared.fault.TypeFault.{TypeFault}
 use Rattle.type_trees.specs.declared.fault.TypeFault.TheVariants as types
+use Rattle.std.specs.Prelude.{ℕ}
+use Rattle.type_trees.specs.declared.fault.JoinFault.{JoinFault}
+use Rattle.type_trees.specs.declared.fault.JoinFault.TheVariants as join
+use Rattle.pdb_merge.specs.declared.fault.AddFault.{AddFault}
+use Rattle.pdb_merge.specs.declared.fault.AddFault.TheVariants as add
+use Rattle.pdb_merge.specs.declared.fault.MergeFault.{MergeFault}
+use Rattle.pdb_merge.specs.declared.fault.MergeFault.TheVariants as merge
 use Rattle.pdb_merge.specs.declared.fault.PdbFault.{PdbFault}
 use Rattle.pdb_merge.specs.declared.fault.PdbFault.TheVariants as fault
 
@@ -36,3 +43,21 @@ of_tpi inner = fault.Tpi inner
 abbrev pub of_type : TypeFault → PdbFault
 of_type types.Memory = fault.Memory
 of_type inner = fault.Type inner
+
+-- ---- of one file among several
+
+-- of the file that is added
+abbrev pub of_pdb : PdbFault → AddFault
+of_pdb fault.Memory = add.Memory
+of_pdb inner = add.Refused inner
+
+-- of the union
+abbrev pub of_join : JoinFault → AddFault
+of_join (join.TooLarge bytes) = add.TooLarge bytes
+of_join join.Memory = add.Memory
+
+-- of the file at this position of a list
+abbrev pub of_add : ℕ → AddFault → MergeFault
+of_add file (add.Refused inner) = merge.Refused file inner
+of_add file (add.TooLarge bytes) = merge.TooLarge file bytes
+of_add file add.Memory = merge.Memory

@@ -1,7 +1,75 @@
--- What holds of accepted files.
-use Rattle.std.specs.Prelude.{ℕ, ◌≡◌, ◌<◌, List, get_or}
+-- What holds of accepted files, and of the files that are written for their types.
+use Rattle.std.specs.Prelude.{ℕ, ◌≡◌, ◌≢◌, ◌⊎◌, ◌↔◌, List, [], ◌∷◌, ◌++◌, get_or}
+use Rattle.pdb_info.specs.Settings.{SettingsView}
+use Rattle.type_trees.specs.Tree.{Tree}
 use Rattle.pdb_merge.specs.Accepted.{IsAccepted}
+use Rattle.pdb_merge.specs.Union.{AreBytes, FileHas, HasTypeBelow, HasType, SameFiles, SameTypes, Weighs, Within, CanMerge, Stops}
+use Rattle.pdb_merge.specs.Merged.{Merged, HoldsJust}
+use Rattle.pdb_merge.specs.declared.fault.MergeFault.{MergeFault}
+use Rattle.pdb_merge.specs.declared.fault.MergeFault.TheVariants as merge
 
 -- a file of bytes is accepted with one list of records alone
 abbrev pub OneListEach : Type 0
-OneListEach = (file : List ℕ) (some others : List (List ℕ)) → ((i : ℕ) → get_or file i 0 < 256) → IsAccepted file some → IsAccepted file others → some ≡ others
+OneListEach = (file : List ℕ) (some others : List (List ℕ)) → AreBytes file → IsAccepted file some → IsAccepted file others → some ≡ others
+
+-- ---- files that are written with these settings
+
+-- a file that is written for the types of files is accepted, and has just these types
+abbrev pub MergedReadsBack : SettingsView → Type 0
+MergedReadsBack settings =
+    (files : List (List ℕ)) (x : List ℕ) → Within (HasType files) settings.limit → Merged (HasType files) settings x
+    → (records : List (List ℕ)) × HoldsJust (HasType files) x records
+
+-- the types of a file that is written for files are theirs
+abbrev pub MergedHas : SettingsView → Type 0
+MergedHas settings =
+    (files : List (List ℕ)) (x : List ℕ) → Within (HasType files) settings.limit → Merged (HasType files) settings x
+    → (t : Tree) → FileHas x t ↔ HasType files t
+
+-- lists of files for which one file is written have the same types, whatever the settings are
+abbrev pub MergedFilesDiffer : SettingsView → SettingsView → Type 0
+MergedFilesDiffer settings other =
+    (files others : List (List ℕ)) (x : List ℕ) → Within (HasType files) settings.limit → Within (HasType others) other.limit
+    → Merged (HasType files) settings x → Merged (HasType others) other x → SameTypes files others
+
+-- a file that is written for files can be merged alone, and is written again
+abbrev pub MergedAgain : SettingsView → Type 0
+MergedAgain settings =
+    (files : List (List ℕ)) (x : List ℕ) → Within (HasType files) settings.limit → Merged (HasType files) settings x
+    → CanMerge (x ∷ []) settings.limit × Merged (HasType (x ∷ [])) settings x
+
+-- a file that is written for files, in their place, changes no types
+abbrev pub EarlierMerge : SettingsView → Type 0
+EarlierMerge settings =
+    (files others : List (List ℕ)) (x : List ℕ) → Within (HasType files) settings.limit → Merged (HasType files) settings x
+    → SameTypes (x ∷ others) (files ++ others)
+
+-- for lists of files with the same types one file is written, whatever the limits are
+abbrev pub OneMergedFile : Type 0
+OneMergedFile =
+    (files others : List (List ℕ)) (settings its : SettingsView) (x y : List ℕ) → settings.age ≡ its.age → settings.guid ≡ its.guid
+    → SameTypes files others → Merged (HasType files) settings x → Merged (HasType others) its y → x ≡ y
+
+-- ---- lists of files
+
+-- the types of a list of files are those of the first and those of the others
+abbrev pub TypesOfFirst : Type 0
+TypesOfFirst = (x : List ℕ) (files : List (List ℕ)) (t : Tree) → HasType (x ∷ files) t ↔ (FileHas x t ⊎ HasType files t)
+
+-- the types of two lists of files, one after the other, are those of both
+abbrev pub TypesOfBoth : Type 0
+TypesOfBoth = (files others : List (List ℕ)) (t : Tree) → HasType (files ++ others) t ↔ (HasType files t ⊎ HasType others t)
+
+-- lists of the same files, in any order and each as often as may be, can be merged alike, and have the same types
+abbrev pub AnyOrder : Type 0
+AnyOrder = (files others : List (List ℕ)) (limit : ℕ) → SameFiles files others → (CanMerge files limit ↔ CanMerge others limit) × SameTypes files others
+
+-- where a list of files is refused, each list of the same files is, in any order
+abbrev pub RefusedInAnyOrder : Type 0
+RefusedInAnyOrder =
+    (files others : List (List ℕ)) (limit : ℕ) (fault : MergeFault) → ((i : ℕ) → AreBytes (get_or files i [])) → SameFiles files others
+    → Stops files limit fault → fault ≢ merge.Memory → CanMerge others limit → ⊥
+
+-- the types of files have one number of bytes together
+abbrev pub OneWeight : Type 0
+OneWeight = (files : List (List ℕ)) (end some other : ℕ) → Weighs (HasTypeBelow files end) some → Weighs (HasTypeBelow files end) other → some ≡ other

@@ -1,3 +1,6 @@
 pub mod Fault
 pub mod Accepted
 pub mod Laws
+pub mod Union
+pub mod Merged
+pub mod Merging

@@ -1,8 +1,9 @@
-//! Why a file isn't accepted.
+//! Why a file isn't accepted, and why files aren't merged.
 
 ghost use Rattle.std.specs.Prelude.{◌≡◌};
-ghost use Rattle.pdb_merge.specs.Fault.{of_msf, of_stream, of_info, of_tpi, of_type};
+ghost use Rattle.pdb_merge.specs.Fault.{of_msf, of_stream, of_info, of_tpi, of_type, of_pdb, of_join};
 ghost use Rattle.pdb_merge.specs.declared.fault.PdbFault.TheVariants.{Memory};
+ghost use Rattle.pdb_merge.specs.declared.fault.OutFault.TheVariants as out;
 
 use msf_blocks::MsfFault;
 use msf_streams::StreamFault;
@@ -10,7 +11,7 @@ use pdb_info::InfoFault;
 use std::alloc::AllocError;
 use thiserror::Error;
 use tpi_records::TpiFault;
-use type_trees::TypeFault;
+use type_trees::{JoinFault, TypeFault};
 
 /// The first fault of a file on the way to its types.
 ///
@@ -98,5 +99,79 @@ impl From<TypeFault> for PdbFault {
             TypeFault::Memory => PdbFault::Memory,
             fault => PdbFault::Type(fault),
         }
+    }
+}
+
+/// Why a file wasn't added to a merge.
+#[derive(Debug, PartialEq, Eq, Drop, Error)]
+pub enum AddFault {
+    /// The file isn't accepted. Want of memory isn't inside.
+    #[error("{0}")]
+    Refused(PdbFault),
+    /// The types so far and those of the file have so many bytes together, which is more than the
+    /// limit.
+    #[error("32 TooLarge bytes {bytes}")]
+    TooLarge { bytes: u64 },
+    /// A growth was refused.
+    #[error("33 Memory")]
+    Memory,
+}
+
+impl From<PdbFault> for AddFault {
+    ghost from_gives = { λ inner fault. fault ≡ of_pdb inner };
+
+    fn from(fault: PdbFault) -> AddFault {
+        match fault {
+            PdbFault::Memory => AddFault::Memory,
+            fault => AddFault::Refused(fault),
+        }
+    }
+}
+
+impl From<JoinFault> for AddFault {
+    ghost from_gives = { λ inner fault. fault ≡ of_join inner };
+
+    fn from(fault: JoinFault) -> AddFault {
+        match fault {
+            JoinFault::TooLarge { bytes } => AddFault::TooLarge { bytes },
+            JoinFault::Memory => AddFault::Memory,
+        }
+    }
+}
+
+/// Why files weren't merged. A file is named by its position, from 0.
+#[derive(Debug, PartialEq, Eq, Drop, Error)]
+pub enum MergeFault {
+    /// This file isn't accepted; those in front of it are. Want of memory isn't inside.
+    #[error("file {file}: {fault}")]
+    Refused { file: usize, fault: PdbFault },
+    /// The types of the files up to this one have so many bytes together, which is more than the
+    /// limit; those of the files in front of it are within the limit.
+    #[error("file {file}: 32 TooLarge bytes {bytes}")]
+    TooLarge { file: usize, bytes: u64 },
+    /// A growth was refused.
+    #[error("33 Memory")]
+    Memory,
+}
+
+/// Why no file was written.
+#[derive(Debug, PartialEq, Eq, Drop, Error)]
+pub enum OutFault {
+    /// The files weren't merged. Nothing was written.
+    #[error("{0}")]
+    Merge(MergeFault),
+    /// A growth was refused while the file was written. Nothing was written.
+    #[error("33 Memory")]
+    Memory,
+    /// The sink took the first bytes of the file, and not all of them.
+    #[error("36 Write")]
+    Write,
+}
+
+impl From<MergeFault> for OutFault {
+    ghost from_gives = { λ inner fault. fault ≡ out.Merge inner };
+
+    fn from(fault: MergeFault) -> OutFault {
+        OutFault::Merge(fault)
     }
 }

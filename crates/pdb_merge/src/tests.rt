@@ -1,7 +1,9 @@
 //! What no clause says: the texts of the faults, samples that were changed, one buffer for many
 //! files, and refused growth.
 
-use crate::{Buffer, PdbFault, read_types};
+mod merging;
+
+use crate::{Buffer, MergeFault, PdbFault, read_types};
 use acceptance::{put, sample};
 use cv_leaves::LeafFault;
 use linked_list_allocator::LocalHeap;
@@ -105,6 +107,23 @@ fn each_fault_has_its_text(rt: HostRuntime) -> Result<(), Fail> {
         (InfoFault::Memory.into(), "33 Memory"),
         (TpiFault::Memory.into(), "33 Memory"),
         (TypeFault::Memory.into(), "33 Memory"),
+    ] {
+        let shown = fault.to_string(rt.alloc())?;
+        assert_eq!(rt; shown.as_str(), text);
+    }
+    for (fault, text) in [
+        (
+            MergeFault::Refused {
+                file: 1,
+                fault: PdbFault::Msf(MsfFault::Magic),
+            },
+            "file 1: 2 Magic",
+        ),
+        (
+            MergeFault::TooLarge { file: 1, bytes: 24 },
+            "file 1: 32 TooLarge bytes 24",
+        ),
+        (MergeFault::Memory, "33 Memory"),
     ] {
         let shown = fault.to_string(rt.alloc())?;
         assert_eq!(rt; shown.as_str(), text);

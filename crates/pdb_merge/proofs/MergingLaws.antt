@@ -1,0 +1,153 @@
+-- Files that a merge takes one after the other.
+use Rattle.std.proofs.Common.{◌≡◌, ◌↔◌, ℕ, ◌+◌, ◌<◌, ◌≤◌, List, [], ◌∷◌, ◌++◌, length, get_or, take, drop, refl, ap, ◌∙◌, arith, length-append}
+use Rattle.std.proofs.lemmas.List.{get_or_append_left, take_more, take-append-drop, length-take-le}
+use Rattle.std.proofs.Math.Seq.{get_or-append_seam}
+use Rattle.type_trees.specs.Tree.{Tree, IsType}
+use Rattle.std.specs.Prelude.{Result, Ok, Err, IfOk, IfErr}
+use Rattle.type_trees.specs.Finish.{IsCanonOf}
+use Rattle.type_trees.proofs.CanonTableLaws.{canon_same}
+use Rattle.pdb_merge.specs.Fault.{of_add}
+use Rattle.pdb_merge.specs.Merging.{MergeView, HasTaken}
+use Rattle.pdb_merge.specs.Union.{AreBytes, HasType, HasTypeBelow, AcceptedBelow, Within, Takes, Hinders, CanMerge, CanMergeBelow, Stops, Unites}
+use Rattle.pdb_merge.specs.declared.fault.AddFault.{AddFault}
+use Rattle.pdb_merge.specs.declared.fault.AddFault.TheVariants as add
+use Rattle.pdb_merge.specs.declared.fault.MergeFault.{MergeFault}
+use Rattle.pdb_merge.specs.declared.fault.MergeFault.TheVariants as merge
+use Rattle.pdb_merge.proofs.UnionLaws.{none_within, none_united, none_accepted, united_more, accepted_more, hindered, added_alone, weighs_same, within_same, all_merged}
+
+-- ---- more files after some
+
+-- they change no file before them
+same_file : (files more : List (List ℕ)) (i : ℕ) → i < length files → get_or (files ++ more) i [] ≡ get_or files i []
+same_file files more i inside = get_or_append_left files more [] i inside
+
+-- nor the types of these
+same_below : (files more : List (List ℕ)) (end : ℕ) → end ≤ length files → (t : Tree) → HasTypeBelow files end t ↔ HasTypeBelow (files ++ more) end t
+same_below files more end inside t = (
+  λ h. let same = same_file files more h.0 (omega (arith, h.1, inside)) in (h.0, h.1, rw same h.2),
+  λ h. let same = same_file files more h.0 (omega (arith, h.1, inside)) in (h.0, h.1, rw same at h.2),
+)
+
+accepted_still : (files more : List (List ℕ)) (end : ℕ) → end ≤ length files → AcceptedBelow files end → AcceptedBelow (files ++ more) end
+accepted_still files more end inside accepted i below = rw (same_file files more i (omega (arith, below, inside))) (accepted i below)
+
+unites_still : (records files more : List (List ℕ)) (end : ℕ) → end ≤ length files → Unites records files end → Unites records (files ++ more) end
+unites_still records files more end inside unites t =
+    let same = same_below files more end inside t in
+    (λ h. same.0 ((unites t).0 h), λ h. (unites t).1 (same.1 h))
+
+can_still : (files more : List (List ℕ)) (end limit : ℕ) → end ≤ length files → CanMergeBelow files end limit → CanMergeBelow (files ++ more) end limit
+can_still files more end limit inside can = record {
+  accepted = accepted_still files more end inside can.accepted;
+  within = within_same (HasTypeBelow files end) (HasTypeBelow (files ++ more) end) limit (same_below files more end inside) can.within;
+}
+
+-- what stops some files stops them with more after them
+pub stops_still : (files more : List (List ℕ)) (limit : ℕ) (fault : MergeFault) → Stops files limit fault → Stops (files ++ more) limit fault
+stops_still files more limit (merge.Refused file fault) (inside, can, refused) =
+    let same = same_file files more file inside in
+    (omega (arith, inside, length-append files more), can_still files more file limit (omega (arith, inside)) can, rw same refused)
+stops_still files more limit (merge.TooLarge file bytes) (inside, can, accepted, weighs, over) = (
+  omega (arith, inside, length-append files more),
+  can_still files more file limit (omega (arith, inside)) can,
+  accepted_still files more (file + 1) (omega (arith, inside)) accepted,
+  weighs_same (HasTypeBelow files (file + 1)) (HasTypeBelow (files ++ more) (file + 1)) bytes (same_below files more (file + 1) (omega (arith, inside))) weighs,
+  over,
+)
+stops_still files more limit merge.Memory stops = tt
+
+-- ---- one more file
+
+-- a merge begins with no files
+pub nothing_taken : (limit : ℕ) → HasTaken (record { types = []; limit = limit }) []
+nothing_taken limit = record { accepted = none_accepted []; unites = none_united []; within = none_within limit }
+
+last_file : (files : List (List ℕ)) (file : List ℕ) → get_or (files ++ file ∷ []) (length files) [] ≡ file
+last_file files file = get_or-append_seam files file [] []
+
+pub taken_more : (before after : MergeView) (files : List (List ℕ)) (file : List ℕ) → AreBytes file → Takes before.types after.types file → Within (IsType after.types) after.limit
+    → HasTaken before files → HasTaken after (files ++ file ∷ [])
+taken_more before after files file bytes takes within taken =
+    let all = files ++ file ∷ [] in
+    let last = last_file files file in
+    let many : length files + 1 ≡ length all = omega (arith, length-append files (file ∷ [])) in
+    let unites = unites_still before.types files (file ∷ []) (length files) (omega arith) taken.unites in
+    let accepted = accepted_still files (file ∷ []) (length files) (omega arith) taken.accepted in
+    record {
+      accepted = rw (← many) (accepted_more all (length files) takes.records (rw last takes.accepted) accepted);
+      unites = rw (← many) (united_more before.types after.types all (length files) (rw last bytes) unites (rw last takes));
+      within = within;
+    }
+
+-- what hinders a file is the fault of the list of all files
+pub taken_stops : (before : MergeView) (files : List (List ℕ)) (file : List ℕ) (inner : AddFault) → AreBytes file → Hinders before.types before.limit file inner
+    → HasTaken before files → Stops (files ++ file ∷ []) before.limit (of_add (length files) inner)
+taken_stops before files file inner bytes hinders taken =
+    let all = files ++ file ∷ [] in
+    let last = last_file files file in
+    let inside : length files < length all = omega (arith, length-append files (file ∷ [])) in
+    let unites = unites_still before.types files (file ∷ []) (length files) (omega arith) taken.unites in
+    let accepted = accepted_still files (file ∷ []) (length files) (omega arith) taken.accepted in
+    hindered before.types all (length files) before.limit inner (of_add (length files) inner) inside (rw last bytes) unites accepted taken.within refl (rw last hinders)
+
+-- ---- all files
+
+-- files that were all taken can be merged
+pub taken_can : (merge : MergeView) (files : List (List ℕ)) → HasTaken merge files → CanMerge files merge.limit
+taken_can merge files taken = all_merged merge.types files (length files) merge.limit refl taken.unites taken.accepted taken.within
+
+-- a file that can be merged with those before it, and with more after it, is hindered by nothing but memory
+pub taken_alone : (before : MergeView) (files more : List (List ℕ)) (file : List ℕ) (inner : AddFault) → AreBytes file → Hinders before.types before.limit file inner
+    → HasTaken before files → CanMerge ((files ++ file ∷ []) ++ more) before.limit → inner ≡ add.Memory
+taken_alone before files more file inner bytes hinders taken can =
+    let first = files ++ file ∷ [] in
+    let all = first ++ more in
+    let inside : length files < length first = omega (arith, length-append files (file ∷ [])) in
+    let whole : length files < length all = omega (arith, inside, length-append first more) in
+    let last : get_or all (length files) [] ≡ file = same_file first more (length files) inside ∙ last_file files file in
+    let unites = unites_still before.types first more (length files) (omega (arith, inside)) (unites_still before.types files (file ∷ []) (length files) (omega arith) taken.unites) in
+    let accepted = accepted_still first more (length files) (omega (arith, inside)) (accepted_still files (file ∷ []) (length files) (omega arith) taken.accepted) in
+    added_alone before.types all (length files) before.limit inner whole (rw last bytes) unites accepted taken.within (rw last hinders) can
+
+-- ---- what one more file comes to
+
+pub taken_after : {A E : Type 0} (before after : MergeView) (file : List ℕ) (answer : Result A E) → AreBytes file → IfOk answer (λ _. Takes before.types after.types file)
+    → IfOk answer (λ _. Within (IsType after.types) after.limit) → IfOk answer (λ _. (files : List (List ℕ)) → HasTaken before files → HasTaken after (files ++ file ∷ []))
+taken_after before after file (Ok done) bytes takes within = λ files taken. taken_more before after files file bytes takes within taken
+taken_after before after file (Err fault) bytes takes within = tt
+
+pub stops_after : {A : Type 0} (before : MergeView) (file : List ℕ) (answer : Result A AddFault) → AreBytes file → IfErr answer (Hinders before.types before.limit file)
+    → IfErr answer (λ fault. (files : List (List ℕ)) → HasTaken before files → Stops (files ++ file ∷ []) before.limit (of_add (length files) fault))
+stops_after before file (Ok done) bytes hinders = tt
+stops_after before file (Err fault) bytes hinders = λ files taken. taken_stops before files file fault bytes hinders taken
+
+pub alone_after : {A : Type 0} (before : MergeView) (file : List ℕ) (answer : Result A AddFault) → AreBytes file → IfErr answer (Hinders before.types before.limit file)
+    → IfErr answer (λ fault. (files more : List (List ℕ)) → HasTaken before files → CanMerge ((files ++ file ∷ []) ++ more) before.limit → fault ≡ add.Memory)
+alone_after before file (Ok done) bytes hinders = tt
+alone_after before file (Err fault) bytes hinders = λ files more taken can. taken_alone before files more file fault bytes hinders taken can
+
+-- a list is what stands before a file, the file, and what stands after it
+split_at : (files : List (List ℕ)) (k : ℕ) → k < length files → (take k files ++ get_or files k [] ∷ []) ++ drop (k + 1) files ≡ files
+split_at files k inside = rw (← take_more files k [] inside) (take-append-drop (k + 1) files)
+
+-- the fault of a file is that of the whole list
+pub stops_whole : (files : List (List ℕ)) (k limit : ℕ) (inner : AddFault) (outer : MergeFault) → k < length files → outer ≡ of_add k inner
+    → Stops (take k files ++ get_or files k [] ∷ []) limit (of_add (length (take k files)) inner) → Stops files limit outer
+stops_whole files k limit inner outer inside made stops =
+    let many : length (take k files) ≡ k = length-take-le k files (omega (arith, inside)) in
+    let there = stops_still (take k files ++ get_or files k [] ∷ []) (drop (k + 1) files) limit (of_add (length (take k files)) inner) stops in
+    let whole = rw (split_at files k inside, many) at there in
+    rw made whole
+
+-- a file of a list that can be merged is refused by nothing but memory
+pub alone_whole : (files : List (List ℕ)) (k limit : ℕ) (inner : AddFault) (outer : MergeFault) → k < length files → outer ≡ of_add k inner
+    → ((more : List (List ℕ)) → CanMerge ((take k files ++ get_or files k [] ∷ []) ++ more) limit → inner ≡ add.Memory) → CanMerge files limit → outer ≡ merge.Memory
+alone_whole files k limit inner outer inside made alone can =
+    let whole : CanMerge ((take k files ++ get_or files k [] ∷ []) ++ drop (k + 1) files) limit = rw (split_at files k inside) can in
+    made ∙ ap (of_add k) (alone (drop (k + 1) files) whole)
+
+-- the list that a merge ends with is that of the files that it took
+pub finished : {E : Type 0} (merge : MergeView) (answer : Result (List (List ℕ)) E) → IfOk answer (λ canon. IsCanonOf canon (IsType merge.types))
+    → IfOk answer (λ canon. (files : List (List ℕ)) → HasTaken merge files → IsCanonOf canon (HasType files))
+finished merge (Ok canon) is = λ files taken. canon_same canon (IsType merge.types) (HasType files) is taken.unites
+finished merge (Err fault) is = tt

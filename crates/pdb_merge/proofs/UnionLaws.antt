@@ -1,0 +1,227 @@
+-- The types of several files, and how many bytes they have.
+use Rattle.std.proofs.Common.{◌≡◌, ◌⊎◌, ◌↔◌, ℕ, ◌+◌, ◌<◌, ◌≤◌, List, [], ◌∷◌, ◌++◌, zero, suc, subst, length, get_or, refl, sym, ◌∙◌, arith, inl, inr}
+use Rattle.std.specs.Prelude.{◌≢◌, Result, Ok, Err, IfErr}
+use Rattle.std.specs.List.{Contains}
+use Rattle.std.proofs.lemmas.Bool.{cases_lt}
+use Rattle.std.proofs.lemmas.List.{get_or_default}
+use Rattle.std.proofs.lemmas.List.Elements.{Contains-get_or}
+use Rattle.type_trees.specs.Tree.{Tree, tree, IsType}
+use Rattle.type_trees.specs.Canon.{weight}
+use Rattle.type_trees.specs.Table.{IsUnion}
+use Rattle.type_trees.specs.declared.fault.JoinFault.{JoinFault}
+use Rattle.type_trees.specs.declared.fault.JoinFault.TheVariants as join
+use Rattle.type_trees.proofs.WeightLaws.{weight-none, weight_grows}
+use Rattle.pdb_merge.specs.Accepted.{IsAccepted}
+use Rattle.pdb_merge.specs.Fault.{of_join, of_add}
+use Rattle.pdb_merge.specs.Laws.{TypesOfFirst, TypesOfBoth, AnyOrder, RefusedInAnyOrder, OneWeight}
+use Rattle.pdb_merge.specs.Union.{AreBytes, FileHas, HasTypeBelow, HasType, SameFiles, AcceptedBelow, Weighs, Within, Takes, Hinders, CanMerge, CanMergeBelow, Stops, Unites}
+use Rattle.pdb_merge.specs.declared.fault.AddFault.{AddFault}
+use Rattle.pdb_merge.specs.declared.fault.AddFault.TheVariants as add
+use Rattle.pdb_merge.specs.declared.fault.MergeFault.{MergeFault}
+use Rattle.pdb_merge.specs.declared.fault.MergeFault.TheVariants as merge
+use Rattle.pdb_merge.proofs.AcceptedLaws.{one_list, accepted_unrefused}
+
+-- ---- weights
+
+-- no records have no types
+pub no_types : (t : Tree) → IsType [] t → ⊥
+no_types (tree b bs) (i, stands) = omega (arith, stands.0)
+
+pub none_within : (limit : ℕ) → Within (IsType []) limit
+none_within limit =
+    (0, ([], record { distinct = λ i j d less inside. absurd (omega (arith, inside)); members = λ t. (λ c. absurd (omega (arith, c.1)), λ h. absurd (no_types t h)) }, weight-none), omega arith)
+
+pub weighs_same : (P Q : Tree → Type 0) (bytes : ℕ) → ((t : Tree) → P t ↔ Q t) → Weighs P bytes → Weighs Q bytes
+weighs_same P Q bytes same (l, lists, heavy) =
+    (l, record { distinct = lists.distinct; members = λ t. (λ c. (same t).0 ((lists.members t).0 c), λ q. (lists.members t).1 ((same t).1 q)) }, heavy)
+
+pub within_same : (P Q : Tree → Type 0) (limit : ℕ) → ((t : Tree) → P t ↔ Q t) → Within P limit → Within Q limit
+within_same P Q limit same (bytes, weighs, few) = (bytes, weighs_same P Q bytes same weighs, few)
+
+-- types weigh one number of bytes
+pub one_weight : (P : Tree → Type 0) (some other : ℕ) → Weighs P some → Weighs P other → some ≡ other
+one_weight P some other (l, lists_l, is_l) (m, lists_m, is_m) =
+    let up = weight_grows l m lists_l.distinct (λ t c. (lists_m.members t).1 ((lists_l.members t).0 c)) in
+    let down = weight_grows m l lists_m.distinct (λ t c. (lists_l.members t).1 ((lists_m.members t).0 c)) in
+    omega (arith, up, down, is_l, is_m)
+
+-- what a table says of a union
+union_weighs : (before types : List (List ℕ)) (l : List Tree) (bytes : ℕ) → IsUnion l before types → weight l ≡ bytes → Weighs (λ t. IsType before t ⊎ IsType types t) bytes
+union_weighs before types l bytes union heavy = (l, record { distinct = union.distinct; members = union.members }, heavy)
+
+pub union_within : (before types after : List (List ℕ)) (limit : ℕ) → (l : List Tree) × IsUnion l before types × (weight l ≤ limit) → ((t : Tree) → IsType after t ↔ (IsType before t ⊎ IsType types t)) → Within (IsType after) limit
+union_within before types after limit u same =
+    within_same (λ t. IsType before t ⊎ IsType types t) (IsType after) limit (λ t. ((same t).1, (same t).0)) (weight u.0, union_weighs before types u.0 (weight u.0) u.1 refl, u.2)
+
+-- why types weren't added
+pub join_hinders : (before types : List (List ℕ)) (limit : ℕ) (file : List ℕ) (inner : JoinFault) (outer : AddFault) → IsAccepted file types → outer ≡ of_join inner
+    → ((bytes : ℕ) → inner ≡ join.TooLarge bytes → (limit < bytes) × ((l : List Tree) × IsUnion l before types × (weight l ≡ bytes))) → Hinders before limit file outer
+join_hinders before types limit file (join.TooLarge bytes) outer accepted made large =
+    let u = large bytes refl in
+    rw made (types, accepted, union_weighs before types u.1.0 bytes u.1.1 u.1.2, u.0)
+join_hinders before types limit file join.Memory outer accepted made large = rw made tt
+
+-- ---- one more file
+
+pub none_united : (files : List (List ℕ)) → Unites [] files 0
+none_united files t = (λ h. absurd (no_types t h), λ h. absurd (omega (arith, h.1)))
+
+joined : (before types files : List (List ℕ)) (k : ℕ) → AreBytes (get_or files k []) → Unites before files k → IsAccepted (get_or files k []) types
+    → (t : Tree) → (IsType before t ⊎ IsType types t) ↔ HasTypeBelow files (k + 1) t
+joined before types files k bytes unites accepted t = (
+  λ h. elim h [
+    | inl old ↦ let there = (unites t).0 old in (there.0, omega (arith, there.1), there.2)
+    | inr new ↦ (k, omega arith, (types, accepted, new))
+  ],
+  λ h. elim (cases_lt h.0 k) [
+    | inl less ↦ inl ((unites t).1 (h.0, less, h.2))
+    | inr le ↦
+        let same : h.0 ≡ k = omega (arith, h.1, le) in
+        let has : IsAccepted (get_or files k []) h.2.0 = rw (← same) h.2.1 in
+        let list : h.2.0 ≡ types = one_list (get_or files k []) h.2.0 types bytes has accepted in
+        inr (rw (← list) h.2.2)
+  ],
+)
+
+pub united_more : (before after files : List (List ℕ)) (k : ℕ) → AreBytes (get_or files k []) → Unites before files k → Takes before after (get_or files k []) → Unites after files (k + 1)
+united_more before after files k bytes unites takes t =
+    let both = joined before takes.records files k bytes unites takes.accepted t in
+    (λ h. both.0 ((takes.types t).0 h), λ h. (takes.types t).1 (both.1 h))
+
+pub accepted_more : (files : List (List ℕ)) (k : ℕ) (types : List (List ℕ)) → IsAccepted (get_or files k []) types → AcceptedBelow files k → AcceptedBelow files (k + 1)
+accepted_more files k types accepted below i inside = elim (cases_lt i k) [
+  | inl less ↦ below i less
+  | inr le ↦ let same : i ≡ k = omega (arith, inside, le) in rw same (types, accepted)
+]
+
+pub none_accepted : (files : List (List ℕ)) → AcceptedBelow files 0
+none_accepted files i inside = absurd (omega (arith, inside))
+
+pub one_accepted : (file : List ℕ) (types : List (List ℕ)) → IsAccepted file types → AcceptedBelow (file ∷ []) 1
+one_accepted file types accepted = accepted_more (file ∷ []) 0 types accepted (none_accepted (file ∷ []))
+
+-- ---- a list of files
+
+pub merged_below : (before files : List (List ℕ)) (k limit : ℕ) → Unites before files k → AcceptedBelow files k → Within (IsType before) limit → CanMergeBelow files k limit
+merged_below before files k limit unites accepted within = record { accepted = accepted; within = within_same (IsType before) (HasTypeBelow files k) limit unites within }
+
+pub all_merged : (before files : List (List ℕ)) (k limit : ℕ) → k ≡ length files → Unites before files k → AcceptedBelow files k → Within (IsType before) limit → CanMerge files limit
+all_merged before files k limit all unites accepted within =
+    record { accepted = rw (← all) accepted; within = rw (← all) (within_same (IsType before) (HasTypeBelow files k) limit unites within) }
+
+-- what hinders a file stops the merge
+pub hindered : (before files : List (List ℕ)) (k limit : ℕ) (inner : AddFault) (outer : MergeFault) → k < length files → AreBytes (get_or files k []) → Unites before files k → AcceptedBelow files k
+    → Within (IsType before) limit → outer ≡ of_add k inner → Hinders before limit (get_or files k []) inner → Stops files limit outer
+hindered before files k limit (add.Refused fault) outer inside bytes unites accepted within made hinders =
+    rw made (inside, merged_below before files k limit unites accepted within, hinders)
+hindered before files k limit (add.TooLarge heavy) outer inside bytes unites accepted within made (types, has, weighs, more) =
+    rw made (
+      inside,
+      merged_below before files k limit unites accepted within,
+      accepted_more files k types has accepted,
+      weighs_same (λ t. IsType before t ⊎ IsType types t) (HasTypeBelow files (k + 1)) heavy (joined before types files k bytes unites has) weighs,
+      more,
+    )
+hindered before files k limit add.Memory outer inside bytes unites accepted within made hinders = rw made tt
+
+-- files that can be merged aren't too large
+can_large : (files : List (List ℕ)) (limit file heavy : ℕ) → Stops files limit (merge.TooLarge file heavy) → CanMerge files limit → ⊥
+can_large files limit file heavy (inside, below, accepted, (l, lists, is), more) can =
+    let all = can.within.1 in
+    let less = weight_grows l all.0 lists.distinct (λ t c. let there = (lists.members t).0 c in (all.1.members t).1 (there.0, omega (arith, there.1, inside), there.2)) in
+    omega (arith, less, is, all.2, can.within.2, more)
+
+-- files that can be merged are stopped by nothing but memory
+pub stopped_alone : (files : List (List ℕ)) (limit : ℕ) (fault : MergeFault) → ((i : ℕ) → AreBytes (get_or files i [])) → Stops files limit fault → CanMerge files limit → fault ≡ merge.Memory
+stopped_alone files limit (merge.Refused file fault) bytes (inside, below, refused) can =
+    let has = can.accepted file inside in
+    absurd (accepted_unrefused (get_or files file []) has.0 fault (bytes file) has.1 refused)
+stopped_alone files limit (merge.TooLarge file heavy) bytes stops can = absurd (can_large files limit file heavy stops can)
+stopped_alone files limit merge.Memory bytes stops can = refl
+
+-- nor is a last file that can be merged with those before it
+pub added_alone : (before files : List (List ℕ)) (k limit : ℕ) (inner : AddFault) → k < length files → AreBytes (get_or files k []) → Unites before files k → AcceptedBelow files k
+    → Within (IsType before) limit → Hinders before limit (get_or files k []) inner → CanMerge files limit → inner ≡ add.Memory
+added_alone before files k limit (add.Refused fault) inside bytes unites accepted within hinders can =
+    let has = can.accepted k inside in
+    absurd (accepted_unrefused (get_or files k []) has.0 fault bytes has.1 hinders)
+added_alone before files k limit (add.TooLarge heavy) inside bytes unites accepted within hinders can =
+    absurd (can_large files limit k heavy (hindered before files k limit (add.TooLarge heavy) (merge.TooLarge k heavy) inside bytes unites accepted within refl hinders) can)
+added_alone before files k limit add.Memory inside bytes unites accepted within hinders can = refl
+
+pub within_more : (P : Tree → Type 0) (limit more : ℕ) → limit ≤ more → Within P limit → Within P more
+within_more P limit more le (bytes, weighs, few) = (bytes, weighs, omega (arith, few, le))
+
+-- ---- lists of the same files
+
+first_or_other : (x : List ℕ) (files : List (List ℕ)) (t : Tree) (i : ℕ) → i < length (x ∷ files) → FileHas (get_or (x ∷ files) i []) t → FileHas x t ⊎ HasType files t
+first_or_other x files t zero inside has = inl has
+first_or_other x files t (suc i) inside has = inr (i, omega (arith, inside), has)
+
+pub types_of_first : TypesOfFirst
+types_of_first x files t = (
+  λ h. first_or_other x files t h.0 h.1 h.2,
+  λ h. elim h [
+    | inl here ↦ (0, omega arith, here)
+    | inr other ↦ (suc other.0, omega (arith, other.1), other.2)
+  ],
+)
+
+pub types_of_both : TypesOfBoth
+types_of_both [] others t = (λ h. inr h, λ h. elim h [ inl none ↦ absurd (omega (arith, none.1)) | inr other ↦ other ])
+types_of_both (x ∷ files) others t =
+    let all = types_of_first x (files ++ others) t in
+    let some = types_of_first x files t in
+    let both = types_of_both files others t in (
+      λ h. elim (all.0 h) [
+        | inl here ↦ inl (some.1 (inl here))
+        | inr later ↦ elim (both.0 later) [ inl first ↦ inl (some.1 (inr first)) | inr other ↦ inr other ]
+      ],
+      λ h. elim h [
+        | inl first ↦ elim (some.0 first) [ inl here ↦ all.1 (inl here) | inr later ↦ all.1 (inr (both.1 (inl later))) ]
+        | inr other ↦ all.1 (inr (both.1 (inr other)))
+      ],
+    )
+
+-- a file of one list stands in the other
+stands_in : (files others : List (List ℕ)) (i : ℕ) → ((x : List ℕ) → Contains files x → Contains others x) → i < length files → (j : ℕ) × (j < length others) × (get_or files i [] ≡ get_or others j [])
+stands_in files others i within inside =
+    let c = within (get_or files i []) (Contains-get_or files i [] inside) in
+    (c.0, c.1, sym (get_or_default others c.0 [] (get_or files i []) c.1 ∙ c.2))
+
+types_move : (files others : List (List ℕ)) → ((x : List ℕ) → Contains files x → Contains others x) → (t : Tree) → HasType files t → HasType others t
+types_move files others within t has =
+    let there = stands_in files others has.0 within has.1 in
+    (there.0, there.1, subst (λ (x : List ℕ). FileHas x t) there.2 has.2)
+
+accepted_move : (files others : List (List ℕ)) → ((x : List ℕ) → Contains others x → Contains files x) → AcceptedBelow files (length files) → AcceptedBelow others (length others)
+accepted_move files others within accepted i inside =
+    let there = stands_in others files i within inside in
+    rw there.2 (accepted there.0 there.1)
+
+can_move : (files others : List (List ℕ)) (limit : ℕ) → ((x : List ℕ) → Contains files x → Contains others x) → ((x : List ℕ) → Contains others x → Contains files x) → CanMerge files limit → CanMerge others limit
+can_move files others limit there back can = record {
+  accepted = accepted_move files others back can.accepted;
+  within = within_same (HasType files) (HasType others) limit (λ t. (types_move files others there t, types_move others files back t)) can.within;
+}
+
+pub any_order : AnyOrder
+any_order files others limit same =
+    let there : (x : List ℕ) → Contains files x → Contains others x = λ x. (same x).0 in
+    let back : (x : List ℕ) → Contains others x → Contains files x = λ x. (same x).1 in (
+      (can_move files others limit there back, can_move others files limit back there),
+      λ t. (types_move files others there t, types_move others files back t),
+    )
+
+pub weight_of_files : OneWeight
+weight_of_files files end some other weighs_s weighs_o = one_weight (HasTypeBelow files end) some other weighs_s weighs_o
+
+pub refused_in_any_order : RefusedInAnyOrder
+refused_in_any_order files others limit fault bytes same stops other can =
+    other (stopped_alone files limit fault bytes stops ((any_order files others limit same).0.1 can))
+
+-- so it is where only memory refuses files that can be merged
+pub refused_any : {A : Type 0} (files : List (List ℕ)) (limit : ℕ) (answer : Result A MergeFault) → (CanMerge files limit → IfErr answer (λ fault. fault ≡ merge.Memory))
+    → IfErr answer (λ fault. fault ≢ merge.Memory → (others : List (List ℕ)) → SameFiles files others → CanMerge others limit → ⊥)
+refused_any files limit (Ok done) found = tt
+refused_any files limit (Err fault) found = λ other others same can. other (found ((any_order files others limit same).0.1 can))

@@ -1,0 +1,37 @@
+use Rattle.std.proofs.Common.{◌≡◌, ◌∙◌, sym, arith, true}
+use Rattle.std.proofs.lemmas.Result.{err_from_is_err_and}
+use Rattle.msf_streams.specs.Image.{texts_of}
+use Rattle.pdb_merge.specs.Union.{HasType}
+use Rattle.pdb_merge.proofs.UnionLaws.{within_more}
+use Rattle.pdb_merge.proofs.ReadBackLaws.{canon_within}
+use Rattle.pdb_merge.proofs.FileLaws.{wrote, wrote_part}
+use Rattle.pdb_merge.specs.declared.fault.MergeFault.{MergeFault}
+use Rattle.pdb_merge.specs.declared.fault.OutFault.TheVariants as out
+use Rattle.pdb_merge.proofs.merged.merge_to.Goals as goal
+
+-- one fault of merging is inside
+merge_injective : (a b : MergeFault) → out.Merge a ≡ out.Merge b → a ≡ b
+merge_injective a b same = cc
+
+pub write_canon-requires : goal.write_canon-requires
+write_canon-requires g c =
+    let P = HasType (texts_of c.args.files.now) in
+    let within = within_more P c.args.settings.now.limit 1073741824 (omega (arith, c.limit.ensures.value, c.limit.ensures.fits)) c.in_ok-canon.ensures.can.within in
+    canon_within P c.in_ok-canon.canon 1073741824 c.in_ok-canon.ensures.value within
+
+pub returns-clause-value : goal.returns-clause-value
+returns-clause-value g c =
+    wrote (texts_of c.args.files.now) c.args.settings.now c.in_ok-canon.canon (g.W.Sink.taken c.args.out.now) (g.W.Sink.taken c.write_canon.new.out) c.write_canon.result
+    (rw c.guid.ensures.value at c.guid.ensures.whole) (omega (arith, c.limit.ensures.value, c.limit.ensures.fits)) c.in_ok-canon.ensures.can.within c.in_ok-canon.ensures.value c.write_canon.ensures.value
+
+pub returns-clause-write : goal.returns-clause-write
+returns-clause-write g c =
+    wrote_part (texts_of c.args.files.now) c.args.settings.now c.in_ok-canon.canon (g.W.Sink.taken c.args.out.now) (g.W.Sink.taken c.write_canon.new.out) (g.W.Sink.is_broken c.write_canon.new.out ≡ true) _ c.write_canon.result
+    (rw c.guid.ensures.value at c.guid.ensures.whole) (omega (arith, c.limit.ensures.value, c.limit.ensures.fits)) c.in_ok-canon.ensures.can.within c.in_ok-canon.ensures.value c.write_canon.ensures.write
+
+pub returns-in_err-canon-clause-any_order : goal.returns-in_err-canon-clause-any_order
+returns-in_err-canon-clause-any_order g c =
+    let p = err_from_is_err_and c.from_residual.result c.from_residual.ensures.1 in
+    rw p.1 (λ inner is other others same can.
+    let one : out.Merge c.in_err-canon.field-0.0 ≡ out.Merge inner = sym p.2 ∙ is in
+    c.in_err-canon.ensures.any_order (λ e. other (sym (merge_injective c.in_err-canon.field-0.0 inner one) ∙ e)) others same can)

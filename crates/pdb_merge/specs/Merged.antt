@@ -1,0 +1,93 @@
+-- The file that is written for types.
+use Rattle.std.specs.Prelude.{ℕ, ◌≡◌, ◌+◌, ◌↔◌, List, [], ◌∷◌, ◌++◌, Option, length}
+use Rattle.std.specs.List.{concat}
+use Rattle.std.specs.Io.KnownBytes.{Appends}
+use Rattle.msf_streams.specs.Image.{image}
+use Rattle.msf_streams.specs.Woven.{AppendsPart}
+use Rattle.pdb_info.specs.Settings.{SettingsView}
+use Rattle.pdb_info.specs.Written.{info_text}
+use Rattle.tpi_records.specs.Written.{header_text}
+use Rattle.type_trees.specs.Tree.{Tree, Stands, IsType}
+use Rattle.type_trees.specs.Finish.{IsCanonOf}
+use Rattle.pdb_merge.specs.Accepted.{IsAccepted}
+use Rattle.pdb_merge.specs.Union.{HasType, SameTypes, Weighs, CanMerge}
+use Rattle.pdb_merge.specs.declared.summary.Summary.{Summary}
+
+-- ---- the bytes of the file
+
+-- the stream of these records: a header, and the records one after the other
+unfoldable pub type_stream : List (List ℕ) → List ℕ
+type_stream records = header_text (length records) (length (concat records)) ++ concat records
+
+-- the texts of a file with these settings and these records: an empty one, the info stream, the records, and two empty ones
+abbrev pub merged_texts : SettingsView → List (List ℕ) → List (List ℕ)
+merged_texts settings records = [] ∷ info_text settings.age settings.guid ∷ type_stream records ∷ [] ∷ [] ∷ []
+
+-- how long they are, where the records have so many bytes together
+abbrev pub merged_sizes : ℕ → List ℕ
+merged_sizes bytes = 0 ∷ 52 ∷ (56 + bytes) ∷ 0 ∷ 0 ∷ []
+
+-- the file with these settings and these records
+unfoldable pub merged_file : SettingsView → List (List ℕ) → List ℕ
+merged_file settings records = image 4096 (merged_texts settings records)
+
+-- x is the file with these settings of the canonical list of the types with P
+abbrev pub Merged : (Tree → Type 0) → SettingsView → List ℕ → Type 0
+Merged P settings x = (records : List (List ℕ)) × IsCanonOf records P × (x ≡ merged_file settings records)
+
+-- ---- what holds of the file
+
+-- each type stands at one position alone
+abbrev pub StandOnce : List (List ℕ) → Type 0
+StandOnce records = (i j : ℕ) (t : Tree) → Stands records i t → Stands records j t → i ≡ j
+
+-- the file is accepted with these records, which are a canonical list of the types with P: it has just these types, each once
+pub record HoldsJust (P : Tree → Type 0) (file : List ℕ) (records : List (List ℕ)) : Type 0 where
+  pub accepted : IsAccepted file records
+  pub canon : IsCanonOf records P
+  pub types : (t : Tree) → IsType records t ↔ P t
+  pub once : StandOnce records
+
+-- every list of files with the same types has this file, under every settings with the same age and GUID
+abbrev pub IsSameFor : List (List ℕ) → SettingsView → List ℕ → Type 0
+IsSameFor files settings file =
+    (others : List (List ℕ)) (its : SettingsView) (other : List ℕ) → its.age ≡ settings.age → its.guid ≡ settings.guid
+    → SameTypes files others → Merged (HasType others) its other → other ≡ file
+
+-- this is the file of the types of some files, with these records
+pub record IsFileOf (files : List (List ℕ)) (settings : SettingsView) (file : List ℕ) (records : List (List ℕ)) : Type 0 where
+  -- its bytes are those of the canonical list of their types
+  pub made : file ≡ merged_file settings records
+  -- it is accepted, and its types are exactly theirs, each once, in canonical order
+  pub holds : HoldsJust (HasType files) file records
+  -- every other list of files with the same types has the same file
+  pub same : IsSameFor files settings file
+  -- it can be merged alone, and has itself as its file
+  pub can : CanMerge (file ∷ []) settings.limit
+  pub again : Merged (HasType (file ∷ [])) settings file
+
+-- ---- what a sink took
+
+-- a sink took the file of these records
+pub record WroteFile (records : List (List ℕ)) (settings : SettingsView) (old new : Option (List ℕ)) (summary : Summary) : Type 0 where
+  pub taken : Appends old new (merged_file settings records)
+  pub types : summary.types ≡ length records
+  pub bytes : summary.bytes ≡ length (concat records)
+  pub long : summary.length ≡ length (merged_file settings records)
+
+-- a sink took the file of the types of some files, and the summary says how many types it has, how many bytes they have together, and how long it is
+pub record Wrote (files : List (List ℕ)) (settings : SettingsView) (old new : Option (List ℕ)) (summary : Summary) : Type 0 where
+  pub file : List ℕ
+  pub records : List (List ℕ)
+  pub taken : Appends old new file
+  pub is_file : IsFileOf files settings file records
+  pub types : summary.types ≡ length records
+  pub bytes : Weighs (HasType files) summary.bytes
+  pub long : summary.length ≡ length file
+
+-- a sink took the first bytes of that file, and not all of them
+pub record WrotePart (files : List (List ℕ)) (settings : SettingsView) (old new : Option (List ℕ)) : Type 0 where
+  pub file : List ℕ
+  pub records : List (List ℕ)
+  pub taken : AppendsPart old new file
+  pub is_file : IsFileOf files settings file records

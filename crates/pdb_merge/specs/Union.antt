@@ -1,0 +1,93 @@
+-- The types of a list of files, and what merging them comes to.
+use Rattle.std.specs.Prelude.{ℕ, ◌≡◌, ◌≢◌, ◌+◌, ◌<◌, ◌≤◌, ◌⊎◌, ◌↔◌, List, [], length, get_or}
+use Rattle.std.specs.List.{AllPairs, Contains}
+use Rattle.type_trees.specs.Tree.{Tree, IsType}
+use Rattle.type_trees.specs.Canon.{weight}
+use Rattle.pdb_merge.specs.Accepted.{IsAccepted, HasNoTypes}
+use Rattle.pdb_merge.specs.declared.fault.AddFault.{AddFault}
+use Rattle.pdb_merge.specs.declared.fault.AddFault.TheVariants as add
+use Rattle.pdb_merge.specs.declared.fault.MergeFault.{MergeFault}
+use Rattle.pdb_merge.specs.declared.fault.MergeFault.TheVariants as merge
+
+-- ---- the types of files
+
+-- a file is made of bytes
+abbrev pub AreBytes : List ℕ → Type 0
+AreBytes file = (i : ℕ) → get_or file i 0 < 256
+
+-- the file is accepted, with records one of whose types this is
+abbrev pub FileHas : List ℕ → Tree → Type 0
+FileHas file t = (records : List (List ℕ)) × IsAccepted file records × IsType records t
+
+-- this is a type of one of the first `end` files
+abbrev pub HasTypeBelow : List (List ℕ) → ℕ → Tree → Type 0
+HasTypeBelow files end t = (i : ℕ) × (i < end) × FileHas (get_or files i []) t
+
+-- this is a type of one of the files
+abbrev pub HasType : List (List ℕ) → Tree → Type 0
+HasType files = HasTypeBelow files (length files)
+
+-- two lists have the same files, each as often as may be and in any order
+abbrev pub SameFiles : List (List ℕ) → List (List ℕ) → Type 0
+SameFiles files others = (x : List ℕ) → Contains files x ↔ Contains others x
+
+-- two lists of files have the same types
+abbrev pub SameTypes : List (List ℕ) → List (List ℕ) → Type 0
+SameTypes files others = (t : Tree) → HasType files t ↔ HasType others t
+
+-- the first `end` files are accepted
+abbrev pub AcceptedBelow : List (List ℕ) → ℕ → Type 0
+AcceptedBelow files end = (i : ℕ) → i < end → (records : List (List ℕ)) × IsAccepted (get_or files i []) records
+
+-- ---- how many bytes types have
+
+-- l lists the trees with P, each once
+pub record Lists (l : List Tree) (P : Tree → Type 0) : Type 0 where
+  pub distinct : AllPairs (λ t u. t ≢ u) l
+  pub members : (t : Tree) → Contains l t ↔ P t
+
+-- the trees with P have so many bytes together
+abbrev pub Weighs : (Tree → Type 0) → ℕ → Type 0
+Weighs P bytes = (l : List Tree) × Lists l P × (weight l ≡ bytes)
+
+-- they have at most so many
+abbrev pub Within : (Tree → Type 0) → ℕ → Type 0
+Within P limit = (bytes : ℕ) × Weighs P bytes × (bytes ≤ limit)
+
+-- ---- one more file
+
+-- `after` has the types of `before` and of the file, which is accepted
+pub record Takes (before after : List (List ℕ)) (file : List ℕ) : Type 0 where
+  pub records : List (List ℕ)
+  pub accepted : IsAccepted file records
+  pub types : (t : Tree) → IsType after t ↔ (IsType before t ⊎ IsType records t)
+
+-- this is why the file isn't added to the types of `before`: it isn't accepted, or the union has so many bytes, which is more than the limit
+abbrev pub Hinders : List (List ℕ) → ℕ → List ℕ → AddFault → Type 0
+Hinders before limit file (add.Refused fault) = HasNoTypes file fault
+Hinders before limit file (add.TooLarge bytes) =
+    (records : List (List ℕ)) × IsAccepted file records × Weighs (λ t. IsType before t ⊎ IsType records t) bytes × (limit < bytes)
+Hinders before limit file add.Memory = Unit {0}
+
+-- ---- a list of files
+
+-- the files are accepted, and their types have at most so many bytes together
+pub record CanMerge (files : List (List ℕ)) (limit : ℕ) : Type 0 where
+  pub accepted : AcceptedBelow files (length files)
+  pub within : Within (HasType files) limit
+
+-- the first `end` files can be merged
+pub record CanMergeBelow (files : List (List ℕ)) (end limit : ℕ) : Type 0 where
+  pub accepted : AcceptedBelow files end
+  pub within : Within (HasTypeBelow files end) limit
+
+-- this is why the files aren't merged: those before one of them can be merged, and it has this fault, or the union with it has so many bytes, which is more than the limit
+abbrev pub Stops : List (List ℕ) → ℕ → MergeFault → Type 0
+Stops files limit (merge.Refused file fault) = (file < length files) × CanMergeBelow files file limit × HasNoTypes (get_or files file []) fault
+Stops files limit (merge.TooLarge file bytes) =
+    (file < length files) × CanMergeBelow files file limit × AcceptedBelow files (file + 1) × Weighs (HasTypeBelow files (file + 1)) bytes × (limit < bytes)
+Stops files limit merge.Memory = Unit {0}
+
+-- the records have the types of the first `end` files
+abbrev pub Unites : List (List ℕ) → List (List ℕ) → ℕ → Type 0
+Unites records files end = (t : Tree) → IsType records t ↔ HasTypeBelow files end t

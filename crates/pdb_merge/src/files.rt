@@ -1,0 +1,98 @@
+//! The types of several files, each once.
+
+ghost use Rattle.std.specs.Prelude.{◌≡◌, ◌≢◌, ◌<◌, [], ℕ, List, length, get_or, IfOk, IfErr};
+ghost use Rattle.msf_streams.specs.Image.{texts_of};
+ghost use Rattle.type_trees.specs.Finish.{IsCanonOf};
+ghost use Rattle.pdb_merge.specs.Fault.{of_add};
+ghost use Rattle.pdb_merge.specs.Union.{HasType, SameFiles, CanMerge, Stops};
+ghost use Rattle.pdb_merge.specs.Merging.{HasTaken};
+
+use crate::buffer::Buffer;
+use crate::fault::{AddFault, MergeFault};
+use crate::merge::Merge;
+use pdb_info::Settings;
+use std::alloc::Allocator;
+use std::hash::BuildHasher;
+use type_trees::Canon;
+
+/// The fault of the file at this position.
+fn at_file(file: usize, fault: AddFault) -> MergeFault
+    ensures { result ≡ of_add file fault }
+{
+    match fault {
+        AddFault::Refused(fault) => MergeFault::Refused { file, fault },
+        AddFault::TooLarge { bytes } => MergeFault::TooLarge { file, bytes },
+        AddFault::Memory => MergeFault::Memory,
+    }
+}
+
+/// The file at a position.
+fn file_at<'a>(files: &[&'a [u8]], position: usize) -> &'a [u8]
+    requires { position < length files.now }
+    ensures { get_or (texts_of files.now) position [] ≡ result.now }
+{
+    files[position]
+}
+
+/// Adds the types of all files, in order.
+fn add_all<S: BuildHasher, A: Allocator + Copy>(
+    alloc: A,
+    files: &[&[u8]],
+    merge: &mut Merge<S, A>,
+) -> Result<(), MergeFault>
+    requires { HasTaken merge.old [] }
+    ensures value { IfOk result (λ _. HasTaken merge.new (texts_of files.now)) }
+    ensures limit { merge.new.limit ≡ merge.old.limit }
+    ensures found { CanMerge (texts_of files.now) merge.old.limit → IfErr result (λ fault. fault ≡ MergeFault.Memory) }
+    ensures first { IfErr result (Stops (texts_of files.now) merge.old.limit) }
+{
+    let mut buffer = Buffer::new(alloc);
+    for file in 0..files.len() {
+        if let Err(fault) = merge.add(alloc, file_at(files, file), &mut buffer) {
+            return Err(at_file(file, fault));
+        }
+    }
+    Ok(())
+}
+
+/// The canonical list of the types of these files, or the first fault.
+fn list_all<S: BuildHasher + Drop, A: Allocator + Copy>(
+    alloc: A,
+    files: &[&[u8]],
+    limit: u32,
+    hasher: S,
+) -> Result<Canon<A>, MergeFault>
+    ensures value { IfOk result (λ canon. IsCanonOf canon (HasType (texts_of files.now))) }
+    ensures can { IfOk result (λ _. CanMerge (texts_of files.now) limit) }
+    ensures found { CanMerge (texts_of files.now) limit → IfErr result (λ fault. fault ≡ MergeFault.Memory) }
+    ensures first { IfErr result (Stops (texts_of files.now) limit) }
+{
+    let mut merge = Merge::new(alloc, limit, hasher);
+    add_all(alloc, files, &mut merge)?;
+    match merge.finish(alloc) {
+        Ok(canon) => Ok(canon),
+        Err(_) => Err(MergeFault::Memory),
+    }
+}
+
+/// The canonical list of the types of these files.
+///
+/// The files are looked at in order, of each first its own fault, then whether the types so far
+/// are within the limit of the settings; the fault names the file by its position, from 0. Only
+/// the types of one file stand in memory beside those of the union.
+pub fn merge_files<S: BuildHasher + Drop, A: Allocator + Copy>(
+    alloc: A,
+    files: &[&[u8]],
+    settings: &Settings,
+    hasher: S,
+) -> Result<Canon<A>, MergeFault>
+    ensures value { IfOk result (λ canon. IsCanonOf canon (HasType (texts_of files.now))) }
+    ensures can { IfOk result (λ _. CanMerge (texts_of files.now) settings.now.limit) }
+    // Files that can be merged are refused only where memory is.
+    ensures found { CanMerge (texts_of files.now) settings.now.limit → IfErr result (λ fault. fault ≡ MergeFault.Memory) }
+    ensures first { IfErr result (Stops (texts_of files.now) settings.now.limit) }
+    // What is refused is refused in any order.
+    ensures any_order { IfErr result (λ fault. fault ≢ MergeFault.Memory → (others : List (List ℕ)) → SameFiles (texts_of files.now) others → CanMerge others settings.now.limit → ⊥) }
+{
+    list_all(alloc, files, settings.limit(), hasher)
+}

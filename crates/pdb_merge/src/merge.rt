@@ -1,0 +1,98 @@
+//! A merge in progress.
+
+ghost use Rattle.std.specs.Prelude.{◌≡◌, ◌++◌, [], ◌∷◌, ℕ, List, length, IfOk, IfErr};
+ghost use Rattle.type_trees.specs.Tree.{IsType};
+ghost use Rattle.type_trees.specs.Finish.{IsCanonOf};
+ghost use Rattle.pdb_merge.specs.Fault.{of_add};
+ghost use Rattle.pdb_merge.specs.Union.{AreBytes, HasType, Within, Takes, Hinders, CanMerge, Stops};
+ghost use Rattle.pdb_merge.specs.Merging.{HasTaken};
+
+use crate::buffer::Buffer;
+use crate::fault::AddFault;
+use crate::read::read_types;
+use std::alloc::{Allocator, Global};
+use std::hash::BuildHasher;
+use std::marker::Model;
+use type_trees::{Canon, JoinFault, Table};
+
+/// The types of the files so far, and how many bytes they may have together.
+///
+/// The files are handed in one after the other, so that no two of them need be in memory at once.
+/// `HasTaken merge files` says in contracts which files were taken: [`Merge::new`] begins with
+/// none, and each [`Merge::add`] takes one more.
+#[derive(Drop)]
+pub struct Merge<S: BuildHasher, A: Allocator = Global> {
+    table: Table<S, A>,
+    limit: u32,
+}
+
+impl<S: BuildHasher, A: Allocator> Model for Merge<S, A> {
+    ghost use Rattle.pdb_merge.specs.Merging.{MergeView};
+
+    ghost Value = { MergeView };
+
+    ghost view = { λ m. record { types = m.table; limit = m.limit } };
+}
+
+/// The bytes of a file are bytes.
+fn are_bytes(file: &[u8])
+    ensures { AreBytes file.now }
+{}
+
+impl<S: BuildHasher, A: Allocator + Copy> Merge<S, A> {
+    /// A merge of no files yet, whose types may have `limit` bytes together. It takes no memory.
+    pub fn new(alloc: A, limit: u32, hasher: S) -> Merge<S, A>
+        ensures value { result ≡ record { types = []; limit = limit } }
+        ensures none { HasTaken result [] }
+    {
+        Merge {
+            table: Table::with_hasher(alloc, hasher),
+            limit,
+        }
+    }
+
+    /// Adds the types of a file to the table.
+    fn add_types(&mut self, alloc: A, file: &[u8], buffer: &mut Buffer<A>) -> Result<(), AddFault>
+        ensures value { IfOk result (λ _. Takes self.old.types self.new.types file.now) }
+        ensures within { IfOk result (λ _. Within (IsType self.new.types) self.new.limit) }
+        ensures limit { self.new.limit ≡ self.old.limit }
+        ensures kept { IfErr result (λ _. self.new ≡ self.old) }
+        ensures first { IfErr result (Hinders self.old.types self.old.limit file.now) }
+    {
+        let types = read_types(alloc, file, buffer)?;
+        self.table.add(alloc, &types, self.limit)?;
+        Ok(())
+    }
+
+    /// Adds the types of a file, which are read through the buffer.
+    ///
+    /// The file's own fault comes first, then `TooLarge`, with the bytes that the types of the
+    /// files so far and of this one have together. After any refusal the merge is what it was,
+    /// and it may be given the next file.
+    pub fn add(&mut self, alloc: A, file: &[u8], buffer: &mut Buffer<A>) -> Result<(), AddFault>
+        ensures value { IfOk result (λ _. Takes self.old.types self.new.types file.now) }
+        ensures limit { self.new.limit ≡ self.old.limit }
+        ensures kept { IfErr result (λ _. self.new ≡ self.old) }
+        ensures first { IfErr result (Hinders self.old.types self.old.limit file.now) }
+
+        // The files that were taken so far, and this one.
+        ensures taken { IfOk result (λ _. (files : List (List ℕ)) → HasTaken self.old files → HasTaken self.new (files ++ file.now ∷ [])) }
+        // The fault is the first one of the list of all these files.
+        ensures stops { IfErr result (λ fault. (files : List (List ℕ)) → HasTaken self.old files → Stops (files ++ file.now ∷ []) self.old.limit (of_add (length files) fault)) }
+        // A file that can be merged with them, and with any that follow, is refused only where memory is.
+        ensures found { IfErr result (λ fault. (files more : List (List ℕ)) → HasTaken self.old files → CanMerge ((files ++ file.now ∷ []) ++ more) self.old.limit → fault ≡ AddFault.Memory) }
+    {
+        // The proof learns here that the file is made of bytes.
+        are_bytes(file);
+        self.add_types(alloc, file, buffer)
+    }
+
+    /// The canonical list of the types so far. The merge stays as it is.
+    pub fn finish(&self, alloc: A) -> Result<Canon<A>, JoinFault>
+        ensures value { IfOk result (λ canon. IsCanonOf canon (IsType self.now.types)) }
+        ensures taken { IfOk result (λ canon. (files : List (List ℕ)) → HasTaken self.now files → IsCanonOf canon (HasType files)) }
+        ensures memory { IfErr result (λ fault. fault ≡ JoinFault.Memory) }
+    {
+        self.table.finish(alloc)
+    }
+}

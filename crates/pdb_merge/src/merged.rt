@@ -1,0 +1,93 @@
+//! The file of the types of several files.
+
+ghost use Rattle.std.specs.Prelude.{◌≡◌, ◌≢◌, ◌⊎◌, ◌≤◌, true, ℕ, List, length, IfOk, IfErr};
+ghost use Rattle.std.specs.List.{concat};
+ghost use Rattle.msf_streams.specs.Image.{texts_of};
+ghost use Rattle.msf_streams.specs.Woven.{AppendsPart};
+ghost use Rattle.pdb_merge.specs.Merged.{merged_file, WroteFile, Wrote, WrotePart};
+ghost use Rattle.pdb_merge.specs.Union.{SameFiles, CanMerge, Stops};
+ghost use Rattle.pdb_merge.specs.declared.fault.MergeFault.{MergeFault};
+
+use crate::fault::OutFault;
+use crate::files::merge_files;
+use crate::summary::Summary;
+use crate::written::{merged_len, write_merged};
+use msf_blocks::Sink;
+use msf_streams::WriteFault;
+use pdb_info::Settings;
+use std::alloc::Allocator;
+use std::hash::BuildHasher;
+use type_trees::Canon;
+
+/// The fault of a file that isn't too long.
+fn out_fault(fault: WriteFault) -> OutFault
+    requires { (fault ≡ WriteFault.Memory) ⊎ (fault ≡ WriteFault.Write) }
+    ensures memory { fault ≡ WriteFault.Memory → result ≡ OutFault.Memory }
+    ensures write { fault ≡ WriteFault.Write → result ≡ OutFault.Write }
+{
+    match fault {
+        WriteFault::Memory => OutFault::Memory,
+        _ => OutFault::Write,
+    }
+}
+
+/// Writes the file of a canonical list that fits, and says what it has.
+fn write_canon<W: Sink, A: Allocator + Copy>(
+    alloc: A,
+    canon: &Canon<A>,
+    settings: &Settings,
+    out: &mut W,
+) -> Result<Summary, OutFault>
+    requires { length (concat canon.now) ≤ 1073741824 }
+    ensures value { IfOk result (WroteFile canon.now settings.now (W.taken out.old) (W.taken out.new)) }
+    ensures fault { IfErr result (λ fault. (fault ≡ OutFault.Memory) ⊎ (fault ≡ OutFault.Write)) }
+    ensures write { IfErr result (λ fault. fault ≡ OutFault.Write → (W.is_broken out.new ≡ true)
+        × AppendsPart (W.taken out.old) (W.taken out.new) (merged_file settings.now canon.now)) }
+    ensures untouched { IfErr result (λ fault. fault ≢ OutFault.Write → out.new ≡ out.old) }
+{
+    // The proof learns here that a GUID has 16 bytes.
+    let _ = settings.guid();
+    if let Err(fault) = write_merged(alloc, canon, settings, out) {
+        return Err(out_fault(fault));
+    }
+    let count = canon.len();
+    let bytes = canon.bytes_len();
+    let length = merged_len(bytes);
+    Ok(Summary {
+        types: count as u32,
+        bytes,
+        length,
+    })
+}
+
+/// Merges files, and writes the file of their types with these settings into a sink.
+///
+/// It has the types of all files, each once, in canonical order, and is accepted with just these.
+/// Nothing is written unless all files are accepted and their types are within the limit; a fault
+/// of the files is that of [`merge_files`]. After `Write` the sink has taken the first bytes of
+/// the file.
+pub fn merge_to<W: Sink, S: BuildHasher + Drop, A: Allocator + Copy>(
+    alloc: A,
+    files: &[&[u8]],
+    settings: &Settings,
+    out: &mut W,
+    hasher: S,
+) -> Result<Summary, OutFault>
+    ensures value { IfOk result (Wrote (texts_of files.now) settings.now (W.taken out.old) (W.taken out.new)) }
+    ensures can { IfOk result (λ _. CanMerge (texts_of files.now) settings.now.limit) }
+    // Files that can be merged are refused only where memory is, or by the sink.
+    ensures found { CanMerge (texts_of files.now) settings.now.limit → IfErr result (λ fault. (fault ≡ OutFault.Merge MergeFault.Memory) ⊎ (fault ≡ OutFault.Memory) ⊎ (fault ≡ OutFault.Write)) }
+    ensures first { IfErr result (λ fault. (inner : MergeFault) → fault ≡ OutFault.Merge inner → Stops (texts_of files.now) settings.now.limit inner) }
+    // Files that are refused are refused in any order.
+    ensures any_order { IfErr result (λ fault. (inner : MergeFault) → fault ≡ OutFault.Merge inner → inner ≢ MergeFault.Memory
+        → (others : List (List ℕ)) → SameFiles (texts_of files.now) others → CanMerge others settings.now.limit → ⊥) }
+    ensures write { IfErr result (λ fault. fault ≡ OutFault.Write → (W.is_broken out.new ≡ true)
+        × WrotePart (texts_of files.now) settings.now (W.taken out.old) (W.taken out.new)) }
+    ensures untouched { IfErr result (λ fault. fault ≢ OutFault.Write → out.new ≡ out.old) }
+{
+    // The proof learns here that a GUID has 16 bytes, and that the limit is one of settings.
+    let _ = settings.guid();
+    let _ = settings.limit();
+    let canon = merge_files(alloc, files, settings, hasher)?;
+    write_canon(alloc, &canon, settings, out)
+}
