@@ -1,4 +1,5 @@
 pub mod InputLaws
+pub mod MergeLaws
 pub mod RecordsLaws
 pub mod StreamsLaws
 pub mod TextLaws

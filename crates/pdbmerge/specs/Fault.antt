@@ -9,10 +9,14 @@ use Rattle.pdb_info.specs.declared.fault.InfoFault.{InfoFault}
 use Rattle.pdb_info.specs.declared.fault.InfoFault.TheVariants as infos
 use Rattle.pdb_merge.specs.declared.fault.PdbFault.{PdbFault}
 use Rattle.pdb_merge.specs.declared.fault.PdbFault.TheVariants as pdb
+use Rattle.pdb_merge.specs.declared.fault.MergeFault.{MergeFault}
+use Rattle.pdb_merge.specs.declared.fault.MergeFault.TheVariants as merges
+use Rattle.pdb_merge.specs.declared.fault.OutFault.{OutFault}
+use Rattle.pdb_merge.specs.declared.fault.OutFault.TheVariants as outs
 use Rattle.pdbmerge.specs.declared.input.ReadFault.{ReadFault}
 use Rattle.pdbmerge.specs.declared.input.ReadFault.TheVariants as reads
 use Rattle.pdbmerge.specs.declared.fault.RunFault.{RunFault}
-use Rattle.pdbmerge.specs.declared.fault.RunFault.TheVariants.{Read, Msf, Stream, Info, Tpi, Pdb, Memory}
+use Rattle.pdbmerge.specs.declared.fault.RunFault.TheVariants.{Read, Msf, Stream, Info, Tpi, Pdb, Merge, Memory, Write}
 
 -- of reading
 abbrev pub of_read : ReadFault → RunFault
@@ -43,3 +47,14 @@ of_info fault = Info fault
 abbrev pub of_pdb : PdbFault → RunFault
 of_pdb pdb.Memory = Memory
 of_pdb fault = Pdb fault
+
+-- of merging
+abbrev pub of_merge : MergeFault → RunFault
+of_merge merges.Memory = Memory
+of_merge fault = Merge fault
+
+-- of merging, or of writing the file
+abbrev pub of_out : OutFault → RunFault
+of_out (outs.Merge fault) = of_merge fault
+of_out outs.Memory = Memory
+of_out outs.Write = Write

@@ -3,6 +3,7 @@ pub mod Fault
 pub mod Index
 pub mod Info
 pub mod Input
+pub mod Merge
 pub mod Record
 pub mod Records
 pub mod Run

@@ -1,7 +1,7 @@
 //! Why a command is refused.
 
 ghost use Rattle.std.specs.Prelude.{◌≡◌};
-ghost use Rattle.pdbmerge.specs.Fault.{of_read, of_msf, of_stream, of_info, of_tpi, of_pdb};
+ghost use Rattle.pdbmerge.specs.Fault.{of_read, of_msf, of_stream, of_info, of_tpi, of_pdb, of_merge, of_out};
 ghost use Rattle.pdbmerge.specs.declared.fault.RunFault.TheVariants.{Memory, Write};
 
 use crate::input::ReadFault;
@@ -9,12 +9,12 @@ use cv_leaves::LeafFault;
 use msf_blocks::{MsfFault, NotTaken};
 use msf_streams::StreamFault;
 use pdb_info::InfoFault;
-use pdb_merge::PdbFault;
+use pdb_merge::{MergeFault, OutFault, PdbFault};
 use std::alloc::AllocError;
 use thiserror::Error;
 use tpi_records::TpiFault;
 
-/// Why a command that shows a file is refused.
+/// Why a command is refused.
 ///
 /// Want of memory is `Memory` wherever it was met: the faults inside the others never are it.
 #[derive(Debug, PartialEq, Eq, Drop, Error)]
@@ -37,6 +37,9 @@ pub enum RunFault {
     /// The file isn't accepted.
     #[error("{0}")]
     Pdb(PdbFault),
+    /// The files can't be merged.
+    #[error("{0}")]
+    Merge(MergeFault),
     /// No type record has this index.
     #[error("39 NoRecord {0:#x}")]
     NoRecord(u32),
@@ -46,7 +49,7 @@ pub enum RunFault {
     /// A growth was refused.
     #[error("33 Memory")]
     Memory,
-    /// The text wasn't taken whole.
+    /// The text or the file wasn't taken whole.
     #[error("36 Write")]
     Write,
 }
@@ -129,6 +132,29 @@ impl From<PdbFault> for RunFault {
         match fault {
             PdbFault::Memory => RunFault::Memory,
             fault => RunFault::Pdb(fault),
+        }
+    }
+}
+
+impl From<MergeFault> for RunFault {
+    ghost from_gives = { λ inner fault. fault ≡ of_merge inner };
+
+    fn from(fault: MergeFault) -> RunFault {
+        match fault {
+            MergeFault::Memory => RunFault::Memory,
+            fault => RunFault::Merge(fault),
+        }
+    }
+}
+
+impl From<OutFault> for RunFault {
+    ghost from_gives = { λ inner fault. fault ≡ of_out inner };
+
+    fn from(fault: OutFault) -> RunFault {
+        match fault {
+            OutFault::Merge(fault) => RunFault::from(fault),
+            OutFault::Memory => RunFault::Memory,
+            OutFault::Write => RunFault::Write,
         }
     }
 }

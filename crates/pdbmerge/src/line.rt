@@ -6,14 +6,19 @@ ghost use Rattle.pdbmerge.specs.declared.line.LineFault.TheVariants.{Refused, Me
 use crate::index::read_index;
 use clap::error::ErrorKind;
 use clap::{Arg, ArgAction, ArgMatches, Command};
-use std::alloc::{AllocError, Global};
+use pdb_info::Settings;
+use std::alloc::{AllocError, AllocFailed, Global};
+use uuid::Uuid;
 
 /// What is printed where there are no words.
 pub const USAGE: &str = "usage: pdbmerge COMMAND [WORDS]\n";
 
 /// The head of the help text.
 const ABOUT: &str =
-    "pdbmerge 0.1.0: shows what Program Database (PDB) files hold, for any bytes whatever";
+    "pdbmerge 0.1.0: merges the types of Program Database (PDB) files, and shows what files hold";
+
+/// What `merge` does.
+const MERGE: &str = "Merges the types of files into one: the same types give the same bytes";
 
 /// What `records` does.
 const RECORDS: &str = "Shows each type record: its type index, its kind, its size in bytes";
@@ -39,23 +44,45 @@ const STATUSES: &str =
     "Exit status: 0 done; 1 refused, with one line on standard error that begins \
     with 'pdbmerge: '\nand the fault's number and name; 2 the words are wrong.";
 
+/// The limit of `merge` where its words give none, in bytes.
+const LIMIT: u32 = 1_073_741_824;
+
 /// A command, with its words as values.
 #[derive(Debug, Drop)]
 pub enum Line {
     /// There are no words.
     Usage,
     /// `records FILE`
-    Records { file: String },
+    Records {
+        file: String,
+    },
     /// `record FILE INDEX`
-    Record { file: String, index: u32 },
+    Record {
+        file: String,
+        index: u32,
+    },
     /// `types FILE`
-    Types { file: String },
+    Types {
+        file: String,
+    },
     /// `check FILE`
-    Check { file: String },
+    Check {
+        file: String,
+    },
     /// `info FILE`
-    Info { file: String },
+    Info {
+        file: String,
+    },
     /// `streams FILE`
-    Streams { file: String },
+    Streams {
+        file: String,
+    },
+    /// `merge --guid G --age N [--limit L] OUT IN...`
+    Merge {
+        settings: Settings,
+        out: String,
+        inputs: Vec<String>,
+    },
 }
 
 /// Why the words are no command.
@@ -73,6 +100,14 @@ impl From<AllocError> for LineFault {
     ghost from_gives = { λ _ fault. fault ≡ Memory };
 
     fn from(_error: AllocError) -> LineFault {
+        LineFault::Memory
+    }
+}
+
+impl<T: Drop> From<AllocFailed<T>> for LineFault {
+    ghost from_gives = { λ _ fault. fault ≡ Memory };
+
+    fn from(_error: AllocFailed<T>) -> LineFault {
         LineFault::Memory
     }
 }
@@ -126,6 +161,45 @@ fn showing_record<'a>(alloc: Global) -> Result<Command<'a>, AllocError> {
     showing(alloc, "record", RECORD)?.arg(index)
 }
 
+/// An option that takes a value.
+fn option<'a>(alloc: Global, name: &'a str, value: &'a str, help: &'a str) -> Arg<'a> {
+    Arg::new(alloc, name)
+        .long(name)
+        .value_name(value)
+        .help(help)
+        .action(ArgAction::Set)
+}
+
+/// The command that reads files and writes one file with their types.
+fn merging<'a>(alloc: Global) -> Result<Command<'a>, AllocError> {
+    let guid = option(alloc, "guid", "G", "The GUID of the file that is written");
+    let age = option(alloc, "age", "N", "Its age, a number up to 4294967295");
+    let limit = option(
+        alloc,
+        "limit",
+        "L",
+        "How many bytes the types may have together, up to 1073741824, which is the default",
+    );
+    let out = Arg::new(alloc, "OUT")
+        .help("The PDB file to write")
+        .required(true)
+        .action(ArgAction::Set);
+    let inputs = Arg::new(alloc, "IN")
+        .help("The PDB files whose types are merged")
+        .required(true)
+        .num_args(1..)
+        .action(ArgAction::Append);
+    Command::new(alloc, "merge")
+        .before_help(ABOUT)
+        .about(MERGE)
+        .after_help(STATUSES)
+        .arg(guid.required(true))?
+        .arg(age.required(true))?
+        .arg(limit)?
+        .arg(out)?
+        .arg(inputs)
+}
+
 /// The program with its commands.
 fn program<'a>(alloc: Global) -> Result<Command<'a>, AllocError> {
     Command::new(alloc, "pdbmerge")
@@ -134,6 +208,7 @@ fn program<'a>(alloc: Global) -> Result<Command<'a>, AllocError> {
         .bin_name("pdbmerge")?
         .no_binary_name(true)
         .subcommand_required(true)
+        .subcommand(merging(alloc)?)?
         .subcommand(showing(alloc, "records", RECORDS)?)?
         .subcommand(showing_record(alloc)?)?
         .subcommand(showing(alloc, "types", TYPES)?)?
@@ -142,12 +217,17 @@ fn program<'a>(alloc: Global) -> Result<Command<'a>, AllocError> {
         .subcommand(showing(alloc, "info", INFO)?)
 }
 
-/// The file that a command names.
-fn file_of(alloc: Global, words: &ArgMatches<'_>) -> Result<String, LineFault> {
-    match words.get_str("FILE") {
-        Some(file) => Ok(String::from_str(alloc, file)?),
+/// The word that stands under a name.
+fn word_of(alloc: Global, words: &ArgMatches<'_>, name: &str) -> Result<String, LineFault> {
+    match words.get_str(name) {
+        Some(word) => Ok(String::from_str(alloc, word)?),
         None => Err(LineFault::Word),
     }
+}
+
+/// The file that a command names.
+fn file_of(alloc: Global, words: &ArgMatches<'_>) -> Result<String, LineFault> {
+    word_of(alloc, words, "FILE")
 }
 
 /// The type index that a command names.
@@ -156,6 +236,34 @@ fn index_of(words: &ArgMatches<'_>) -> Result<u32, LineFault> {
         .get_str("INDEX")
         .and_then(read_index)
         .ok_or(LineFault::Word)
+}
+
+/// The number that stands under a name.
+fn number_of(words: &ArgMatches<'_>, name: &str) -> Result<u32, LineFault> {
+    let word = words.get_str(name).ok_or(LineFault::Word)?;
+    word.parse().map_err(|_| LineFault::Word)
+}
+
+/// The settings of the file that is written.
+fn settings_of(words: &ArgMatches<'_>) -> Result<Settings, LineFault> {
+    let guid = words.get_str("guid").ok_or(LineFault::Word)?;
+    let guid = Uuid::parse_str(guid).map_err(|_| LineFault::Word)?;
+    let age = number_of(words, "age")?;
+    let limit = if words.contains_id("limit") {
+        number_of(words, "limit")?
+    } else {
+        LIMIT
+    };
+    Settings::new(guid, age, limit).ok_or(LineFault::Word)
+}
+
+/// The files that are merged.
+fn inputs_of(alloc: Global, words: &ArgMatches<'_>) -> Result<Vec<String>, LineFault> {
+    let mut inputs = Vec::new(alloc);
+    for input in words.get_strs("IN").ok_or(LineFault::Word)? {
+        inputs.push(String::from_str(alloc, input)?)?;
+    }
+    Ok(inputs)
 }
 
 /// Reads the words of a command line, without the program's name.
@@ -185,6 +293,11 @@ pub fn read_line(alloc: Global, words: &[String]) -> Result<Line, LineFault>
         }),
         Some(("info", words)) => Ok(Line::Info {
             file: file_of(alloc, words)?,
+        }),
+        Some(("merge", words)) => Ok(Line::Merge {
+            settings: settings_of(words)?,
+            out: word_of(alloc, words, "OUT")?,
+            inputs: inputs_of(alloc, words)?,
         }),
         _ => Err(LineFault::Word),
     }

@@ -1,13 +1,16 @@
-//! The command `pdbmerge`: shows what Program Database (PDB) files hold.
+//! The command `pdbmerge`: merges the types of Program Database (PDB) files, and shows what files
+//! hold.
 //!
-//! `line` reads the words and `input` the file; each command has a file of its own, which makes
-//! the whole text before any of it is written. What a command refuses, it refuses with a fault of
+//! `line` reads the words and `input` a file; each command has a file of its own. A command that
+//! shows makes its whole text before any of it is written; `merge` writes into an `output`, which
+//! is created at its first write. What a command refuses, it refuses with a fault of
 //! `fault`. This file joins these to the system: arguments, files, the standard streams and the
 //! exit status.
 #![tactic(auto)]
 
 ghost use Rattle.std.specs.Prelude.{◌≡◌};
 ghost use Rattle.pdbmerge.specs.declared.ProgramFault.TheVariants.{Run};
+ghost use Rattle.pdbmerge.specs.declared.fault.RunFault.TheVariants.{Memory};
 
 mod check;
 mod fault;
@@ -15,6 +18,8 @@ mod index;
 mod info;
 mod input;
 mod line;
+mod merge;
+mod output;
 mod record;
 mod records;
 mod show;
@@ -25,13 +30,19 @@ mod types;
 use check::run_check;
 use fault::RunFault;
 use info::run_info;
+use input::{ReadFault, read_all};
 use line::{Line, LineFault, USAGE, read_line};
+use merge::run_merge;
 use msf_blocks::{In, Out, put_all};
+use output::NewFile;
+use pdb_info::Settings;
 use record::run_record;
 use records::run_records;
-use std::fs::File;
+use std::alloc::{AllocError, AllocFailed};
+use std::hash::{BuildHasher, BuildHasherDefault, FoldHasher, RandomState};
 use std::io::{self, ErrorKind, writer};
 use std::process::ExitCode;
+use std::random::RandomSource;
 use std::rt::{Env, Files};
 use std::{env, fs};
 use streams::run_streams;
@@ -47,6 +58,31 @@ pub enum ProgramFault {
     /// A file can't be opened.
     #[error("40 Open")]
     Open,
+    /// This file of several, counted from 0, can't be opened.
+    #[error("file {0}: 40 Open")]
+    OpenOne(usize),
+    /// This file of several, counted from 0, wasn't read to its end.
+    #[error("file {file}: {fault}")]
+    ReadOne { file: usize, fault: ReadFault },
+    /// The file that is to be written can't be created.
+    #[error("41 Create")]
+    Create,
+}
+
+impl From<AllocError> for ProgramFault {
+    ghost from_gives = { λ _ fault. fault ≡ Run Memory };
+
+    fn from(_error: AllocError) -> ProgramFault {
+        ProgramFault::Run(RunFault::Memory)
+    }
+}
+
+impl<T: Drop> From<AllocFailed<T>> for ProgramFault {
+    ghost from_gives = { λ _ fault. fault ≡ Run Memory };
+
+    fn from(_error: AllocFailed<T>) -> ProgramFault {
+        ProgramFault::Run(RunFault::Memory)
+    }
 }
 
 impl From<RunFault> for ProgramFault {
@@ -75,8 +111,84 @@ fn open<R: Files>(rt: &R, file: &str) -> Result<In<R::File>, ProgramFault> {
     }
 }
 
+/// Reads one of several files to its end.
+fn read_one<R: Files + AllocGlobal>(
+    rt: &R,
+    file: usize,
+    name: &str,
+) -> Result<Vec<u8>, ProgramFault> {
+    let Ok(mut input) = open(rt, name) else {
+        return Err(ProgramFault::OpenOne(file));
+    };
+    match read_all(rt.alloc(), &mut input, u32::MAX) {
+        Ok(bytes) => Ok(bytes),
+        Err(ReadFault::Memory) => Err(RunFault::Memory.into()),
+        Err(fault) => Err(ProgramFault::ReadOne { file, fault }),
+    }
+}
+
+/// Reads all files, in order.
+fn read_each<R: Files + AllocGlobal>(
+    rt: &R,
+    names: &[String],
+) -> Result<Vec<Vec<u8>>, ProgramFault> {
+    let mut files = Vec::new(rt.alloc());
+    for (file, name) in names.iter().enumerate() {
+        files.push(read_one(rt, file, name.as_str())?)?;
+    }
+    Ok(files)
+}
+
+/// Merges files into a new one, and reports on it on standard output.
+fn merge_with<R: Files + Print + AllocGlobal, S: BuildHasher + Drop>(
+    rt: &R,
+    settings: &Settings,
+    out: &str,
+    inputs: &[String],
+    hasher: S,
+) -> Result<(), ProgramFault> {
+    let files = read_each(rt, inputs)?;
+    let mut slices = Vec::new(rt.alloc());
+    for file in &files {
+        slices.push(file.as_slice())?;
+    }
+    let mut new_file = NewFile::new(rt, out);
+    let mut report = Out::new(writer(rt));
+    let merged = run_merge(
+        rt.alloc(),
+        &slices,
+        settings,
+        &mut new_file,
+        &mut report,
+        hasher,
+    );
+    if new_file.is_refused() {
+        return Err(ProgramFault::Create);
+    }
+    Ok(merged?)
+}
+
+/// Merges files with hashes that nobody can foresee, where the system gives random words.
+fn merge_into<R: Files + Print + AllocGlobal + RandomSource>(
+    rt: &R,
+    settings: &Settings,
+    out: &str,
+    inputs: &[String],
+) -> Result<(), ProgramFault> {
+    match RandomState::new(rt) {
+        Ok(hasher) => merge_with(rt, settings, out, inputs, hasher),
+        Err(_) => {
+            let hasher: BuildHasherDefault<FoldHasher> = BuildHasherDefault::new();
+            merge_with(rt, settings, out, inputs, hasher)
+        }
+    }
+}
+
 /// Runs a command on standard output.
-fn run<R: Files + Print + AllocGlobal>(rt: &R, line: &Line) -> Result<(), ProgramFault> {
+fn run<R: Files + Print + AllocGlobal + RandomSource>(
+    rt: &R,
+    line: &Line,
+) -> Result<(), ProgramFault> {
     let mut out = Out::new(writer(rt));
     match line {
         Line::Usage => put_all(&mut out, USAGE.as_bytes()).map_err(|_| RunFault::Write)?,
@@ -104,6 +216,11 @@ fn run<R: Files + Print + AllocGlobal>(rt: &R, line: &Line) -> Result<(), Progra
             let mut input = open(rt, file.as_str())?;
             run_streams(rt.alloc(), &mut input, u32::MAX, &mut out)?;
         }
+        Line::Merge {
+            settings,
+            out,
+            inputs,
+        } => merge_into(rt, settings, out.as_str(), inputs)?,
     }
     Ok(())
 }

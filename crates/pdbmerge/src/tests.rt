@@ -3,6 +3,7 @@
 
 mod growth;
 mod lines;
+mod merge;
 mod reading;
 mod shown;
 mod writing;

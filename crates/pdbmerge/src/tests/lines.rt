@@ -5,6 +5,11 @@ use crate::line::{Line, read_line};
 use std::alloc::Global;
 use std::test::Fail;
 
+/// A GUID, and the same in braces.
+const GUID: &str = "00112233-4455-6677-8899-aabbccddeeff";
+
+const BRACED: &str = "{00112233-4455-6677-8899-AABBCCDDEEFF}";
+
 /// What words mean: the file of `records`, the word `usage`, or the exit status of a fault.
 fn meaning(alloc: Global, texts: &[&str]) -> Result<String, Fail> {
     let mut words = Vec::new(alloc);
@@ -19,6 +24,7 @@ fn meaning(alloc: Global, texts: &[&str]) -> Result<String, Fail> {
         Ok(Line::Check { file }) => Ok(file),
         Ok(Line::Info { file }) => Ok(file),
         Ok(Line::Streams { file }) => Ok(file),
+        Ok(Line::Merge { out, .. }) => Ok(out),
         Err(fault) => Ok(fault.status().to_string(alloc)?),
     }
 }
@@ -36,6 +42,56 @@ fn lines(rt: HostRuntime) -> Result<(), Fail> {
         (["check", "x.pdb"].as_slice(), "x.pdb"),
         (["streams", "y.pdb"].as_slice(), "y.pdb"),
         (["info", "z.pdb"].as_slice(), "z.pdb"),
+        (
+            ["merge", "--guid", GUID, "--age", "1", "o.pdb", "x.pdb"].as_slice(),
+            "o.pdb",
+        ),
+        (
+            [
+                "merge",
+                "o.pdb",
+                "x.pdb",
+                "y.pdb",
+                "--age=4294967295",
+                "--limit",
+                "0",
+                "--guid",
+                BRACED,
+            ]
+            .as_slice(),
+            "o.pdb",
+        ),
+        (
+            ["merge", "--guid", "zz", "--age", "1", "o", "i"].as_slice(),
+            "2",
+        ),
+        (
+            ["merge", "--guid", GUID, "--age", "-1", "o", "i"].as_slice(),
+            "2",
+        ),
+        (
+            ["merge", "--guid", GUID, "--age", "4294967296", "o", "i"].as_slice(),
+            "2",
+        ),
+        (
+            [
+                "merge",
+                "--guid",
+                GUID,
+                "--age",
+                "1",
+                "--limit",
+                "1073741825",
+                "o",
+                "i",
+            ]
+            .as_slice(),
+            "2",
+        ),
+        (["merge", "--guid", GUID, "--age", "1", "o"].as_slice(), "2"),
+        (["merge", "--guid", GUID, "o", "i"].as_slice(), "2"),
+        (["merge", "--age", "1", "o", "i"].as_slice(), "2"),
+        (["merge", "--help"].as_slice(), "0"),
         (["records"].as_slice(), "2"),
         (["records", "x.pdb", "y.pdb"].as_slice(), "2"),
         (["nonsense"].as_slice(), "2"),

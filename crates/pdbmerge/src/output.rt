@@ -1,0 +1,72 @@
+//! The file that the program writes.
+
+ghost use Rattle.std.specs.Prelude.{◌≡◌, None, false};
+
+use msf_blocks::{Out, Sink};
+use std::fs;
+use std::rt::Files;
+
+/// How far a file is that is created at its first write.
+#[derive(Drop)]
+enum State<F> {
+    Absent,
+    Created(Out<F>),
+    Refused,
+}
+
+/// A file that is created at its first write, so that nothing is done to an older one before
+/// there is something to write.
+#[derive(Drop)]
+pub struct NewFile<'a, R: Files> {
+    rt: &'a R,
+    path: &'a str,
+    state: State<R::File>,
+    broken: bool,
+}
+
+impl<'a, R: Files> NewFile<'a, R> {
+    /// The file at this path, which isn't looked at yet. It isn't broken.
+    pub fn new(rt: &'a R, path: &'a str) -> NewFile<'a, R>
+        ensures { ⟦<NewFile<'a, R> as Sink>⟧.is_broken result ≡ false }
+    {
+        NewFile {
+            rt,
+            path,
+            state: State::Absent,
+            broken: false,
+        }
+    }
+
+    /// Whether the file couldn't be created.
+    pub fn is_refused(&self) -> bool {
+        matches!(&self.state, State::Refused)
+    }
+
+    /// Creates the file, where that wasn't tried yet.
+    fn create(&mut self) {
+        if let State::Absent = &self.state {
+            self.state = match fs::create(self.rt, self.path) {
+                Ok(file) => State::Created(Out::new(file)),
+                Err(_) => State::Refused,
+            };
+        }
+    }
+}
+
+impl<R: Files> Sink for NewFile<'_, R> {
+    ghost taken = { λ _. None };
+
+    ghost is_broken = { λ s. s.broken };
+
+    fn put(&mut self, bytes: &[u8]) -> usize {
+        self.create();
+        let count = match &mut self.state {
+            State::Created(out) => out.put(bytes),
+            _ => 0,
+        };
+        if count == 0 && !bytes.is_empty() {
+            self.broken = true;
+        }
+        count
+    }
+}
