@@ -14,9 +14,16 @@ $(PROGRAM): $(SOURCES)
 	mkdir -p build
 	cp crates/pdbmerge/out/pdbmerge $@
 
-demo: $(PROGRAM)
-	@echo '$$ $(PROGRAM) records examples/sample.pdb'
-	@$(PROGRAM) records examples/sample.pdb
+# Merges two shipped files in both orders, and compares what comes out.
+GUID := 00112233-4455-6677-8899-aabbccddeeff
+MERGE := $(PROGRAM) merge --guid $(GUID) --age 1
+demo:
+	@echo 'The whole program is proved before it is built: about 15 minutes the first time.'
+	@$(MAKE) --no-print-directory $(PROGRAM)
+	$(MERGE) build/one.pdb examples/memptr.pdb examples/sample.pdb
+	$(MERGE) build/other.pdb examples/sample.pdb examples/memptr.pdb
+	cmp build/one.pdb build/other.pdb
+	@echo 'The order of the files makes no difference: the same bytes.'
 
 # The gate: every proof from nothing, every must-fail edit, every test; then the program as a process.
 test:
