@@ -151,8 +151,20 @@ type Row = (
     &'static [&'static [u8]],
 );
 
-const ROWS: [Row; 8] = [
+const ROWS: [Row; 10] = [
     ("no types", &[], &[], &[]),
+    (
+        "the same types in another order",
+        &[TO_INT, CONST],
+        &[CONST, TO_INT],
+        &[CONST, TO_INT],
+    ),
+    (
+        "types of two files, one of which both have",
+        &[VOLATILE, CONST, TO_FIRST, TO_SECOND],
+        &[TO_INT, CONST],
+        &[CONST, VOLATILE, TO_INT, TO_FIRST, TO_SECOND],
+    ),
     (
         "equal bytes that name different types",
         &[CONST, TO_FIRST],
