@@ -18,7 +18,7 @@ $(PROGRAM): $(SOURCES)
 GUID := 00112233-4455-6677-8899-aabbccddeeff
 MERGE := $(PROGRAM) merge --guid $(GUID) --age 1
 demo:
-	@echo 'The whole program is proved before it is built: about 15 minutes the first time.'
+	@echo 'The whole program is proved before it is built: up to 25 minutes the first time.'
 	@$(MAKE) --no-print-directory $(PROGRAM)
 	$(MERGE) build/one.pdb examples/memptr.pdb examples/sample.pdb
 	$(MERGE) build/other.pdb examples/sample.pdb examples/memptr.pdb
