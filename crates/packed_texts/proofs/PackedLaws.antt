@@ -5,14 +5,14 @@ use Rattle.std.specs.List.{concat}
 use Rattle.packed_texts.specs.PackedTexts.{texts_in, Rise, in_bytes}
 
 -- there is a text for each offset
-length-texts_in : (bytes : List ℕ) (from : ℕ) (ends : List ℕ) → length (texts_in bytes from ends) ≡ length ends
+pub length_of_texts : (bytes : List ℕ) (from : ℕ) (ends : List ℕ) → length (texts_in bytes from ends) ≡ length ends
 unfolding texts_in
-length-texts_in bytes from [] = refl
-length-texts_in bytes from (end ∷ ends) = let e = length-texts_in (drop (end - from) bytes) end ends in omega arith
+length_of_texts bytes from [] = refl
+length_of_texts bytes from (end ∷ ends) = let e = length_of_texts (drop (end - from) bytes) end ends in omega arith
 
 pub many_texts : (bytes words : List ℕ) → length (texts_in bytes 0 (in_bytes words)) ≡ length words
 unfolding in_bytes
-many_texts bytes words = length-texts_in bytes 0 (in_bytes words) ∙ length-map words (λ w. 4 * w)
+many_texts bytes words = length_of_texts bytes 0 (in_bytes words) ∙ length-map words (λ w. 4 * w)
 
 rise_le : (from last : ℕ) (ends : List ℕ) → Rise from ends last → from ≤ last
 rise_le from last [] h = omega (arith, h)
@@ -49,12 +49,12 @@ start_le from last ends zero h inside = (omega arith, rise_le from last ends h)
 start_le from last [] (suc k) h inside = absurd (omega (arith, inside))
 start_le from last (end ∷ ends) (suc k) h inside = let e = start_le end last ends k h.1 (omega (arith, inside)) in (omega (arith, e.0, h.0), e.1)
 
-end_ge : (from last : ℕ) (ends : List ℕ) (k : ℕ) → Rise from ends last → k < length ends → (get_or (from ∷ ends) k 0 ≤ get_or ends k 0) × (get_or ends k 0 ≤ last)
+pub end_ge : (from last : ℕ) (ends : List ℕ) (k : ℕ) → Rise from ends last → k < length ends → (get_or (from ∷ ends) k 0 ≤ get_or ends k 0) × (get_or ends k 0 ≤ last)
 end_ge from last [] k h inside = absurd (omega (arith, inside))
 end_ge from last (end ∷ ends) zero h inside = (h.0, rise_le end last ends h.1)
 end_ge from last (end ∷ ends) (suc k) h inside = end_ge end last ends k h.1 (omega (arith, inside))
 
-text_from : (bytes : List ℕ) (from last : ℕ) (ends : List ℕ) (k : ℕ) → Rise from ends last → k < length ends
+pub text_from : (bytes : List ℕ) (from last : ℕ) (ends : List ℕ) (k : ℕ) → Rise from ends last → k < length ends
     → get_or (texts_in bytes from ends) k [] ≡ take (get_or ends k 0 - get_or (from ∷ ends) k 0) (drop (get_or (from ∷ ends) k 0 - from) bytes)
 unfolding texts_in
 text_from bytes from last [] k h inside = absurd (omega (arith, inside))
@@ -104,11 +104,11 @@ text_inside bytes words k end h inside e =
 
 -- ---- one text more
 
-rise_more : (from last new : ℕ) (ends : List ℕ) → Rise from ends last → last ≤ new → Rise from (ends ++ new ∷ []) new
+pub rise_more : (from last new : ℕ) (ends : List ℕ) → Rise from ends last → last ≤ new → Rise from (ends ++ new ∷ []) new
 rise_more from last new [] h le = (omega (arith, h, le), refl)
 rise_more from last new (end ∷ ends) h le = (h.0, rise_more end last new ends h.1 le)
 
-texts_more : (bytes text : List ℕ) (from new : ℕ) (ends : List ℕ) → Rise from ends (from + length bytes) → new ≡ from + length bytes + length text → texts_in (bytes ++ text) from (ends ++ new ∷ []) ≡ texts_in bytes from ends ++ text ∷ []
+pub texts_more : (bytes text : List ℕ) (from new : ℕ) (ends : List ℕ) → Rise from ends (from + length bytes) → new ≡ from + length bytes + length text → texts_in (bytes ++ text) from (ends ++ new ∷ []) ≡ texts_in bytes from ends ++ text ∷ []
 unfolding texts_in
 texts_more bytes text from new [] h is =
     let none : bytes ≡ [] = no_bytes bytes (omega (arith, h)) in

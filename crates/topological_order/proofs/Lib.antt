@@ -1,0 +1,4 @@
+pub mod GraphLaws
+pub mod WalkLaws
+pub mod OrderLaws
+pub mod CycleLaws

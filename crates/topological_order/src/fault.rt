@@ -1,0 +1,35 @@
+//! Why a graph has no topological order.
+
+ghost use Rattle.std.specs.Prelude.{◌≡◌};
+ghost use Rattle.topological_order.specs.declared.fault.OrderFault.TheVariants.{Memory};
+
+use std::alloc::{AllocError, AllocFailed, Allocator, Global};
+use thiserror::Error;
+
+/// Why there is no topological order.
+#[derive(Debug, PartialEq, Eq, Drop, Error)]
+pub enum OrderFault<A: Allocator = Global> {
+    /// Each of these nodes, in rising order, names one of them. They are all nodes that lead into
+    /// a cycle.
+    #[error("some nodes lead into a cycle")]
+    Cycle { nodes: Vec<u32, A> },
+    /// Memory was refused.
+    #[error("out of memory")]
+    Memory,
+}
+
+impl<A: Allocator> From<AllocError> for OrderFault<A> {
+    ghost from_gives = { λ _ fault. fault ≡ Memory };
+
+    fn from(_error: AllocError) -> OrderFault<A> {
+        OrderFault::Memory
+    }
+}
+
+impl<T: Drop, A: Allocator> From<AllocFailed<T>> for OrderFault<A> {
+    ghost from_gives = { λ _ fault. fault ≡ Memory };
+
+    fn from(_error: AllocFailed<T>) -> OrderFault<A> {
+        OrderFault::Memory
+    }
+}

@@ -1,0 +1,110 @@
+//! Graphs.
+
+ghost use Rattle.std.specs.Prelude.{◌≡◌, ◌↔◌, ◌+◌, ◌^◌, ◌<◌, ◌++◌, [], ◌∷◌, IsTrue, length, get_or, IfOk, IfErr};
+ghost use Rattle.std.specs.List.{concat};
+
+use std::alloc::{AllocError, Allocator, Global};
+use std::marker::Model;
+
+/// A graph: for each node, the nodes that it names.
+///
+/// Nodes are numbered from 0, in the order in which they were pushed. There are fewer than 2^32,
+/// and they name fewer than 2^32 together.
+#[derive(Drop)]
+pub struct Graph<A: Allocator = Global> {
+    // what node 0 names, then what node 1 names, and so on
+    named: Vec<u32, A>,
+    // for each node, where its part of this list ends
+    ends: Vec<u32, A>,
+}
+
+impl<A: Allocator> Model for Graph<A> {
+    ghost use Rattle.std.specs.Prelude.{List, ℕ, ◌<◌, ◌^◌, length};
+    ghost use Rattle.packed_texts.specs.PackedTexts.{texts_in, Rise};
+
+    ghost Value = { List (List ℕ) };
+
+    ghost view = { λ g. texts_in g.named.items 0 g.ends.items };
+
+    ghost invariant = { λ g. Rise 0 g.ends.items (length g.named.items) × (length g.named.items < 2 ^ 32) × (length g.ends.items < 2 ^ 32) };
+}
+
+/// Where the part of a node begins.
+#[tactic(auto, using(packed_texts::proofs::PackedLaws::first_start, packed_texts::proofs::PackedLaws::next_start))]
+fn start_of(ends: &[u32], node: usize) -> usize
+    requires inside { node < length ends.now }
+    ensures { result ≡ get_or (0 ∷ ends.now) node 0 }
+{
+    match node.checked_sub(1) {
+        Some(before) => ends[before] as usize,
+        None => 0,
+    }
+}
+
+/// Where the part of a node ends.
+fn end_of(ends: &[u32], node: usize) -> usize
+    requires inside { node < length ends.now }
+    ensures { result ≡ get_or ends.now node 0 }
+{
+    ends[node] as usize
+}
+
+impl<A: Allocator + Copy> Graph<A> {
+    /// A graph without nodes, and with the space for this many.
+    #[tactic(auto, using(crate::proofs::GraphLaws::no_nodes))]
+    pub fn with_capacity(alloc: A, nodes: usize) -> Result<Graph<A>, AllocError>
+        ensures { IfOk result (λ graph. graph ≡ []) }
+    {
+        Ok(Graph {
+            named: Vec::new(alloc),
+            ends: Vec::with_capacity(alloc, nodes)?,
+        })
+    }
+}
+
+impl<A: Allocator> Graph<A> {
+    /// How many nodes there are.
+    #[tactic(auto, using(packed_texts::proofs::PackedLaws::length_of_texts))]
+    pub fn len(&self) -> usize
+        ensures value { result ≡ length self.now }
+        ensures few { result < 2 ^ 32 }
+    {
+        self.ends.len()
+    }
+
+    /// Whether there are no nodes.
+    pub fn is_empty(&self) -> bool
+        ensures { IsTrue result ↔ (length self.now ≡ 0) }
+    {
+        self.len() == 0
+    }
+
+    /// The nodes that a node names, in the order in which it names them.
+    #[tactic(auto, using(packed_texts::proofs::PackedLaws::length_of_texts, crate::proofs::GraphLaws::row_at, crate::proofs::GraphLaws::row_inside, crate::proofs::GraphLaws::row_forward))]
+    pub fn get(&self, node: usize) -> &[u32]
+        requires inside { node < length self.now }
+        ensures value { result.now ≡ get_or self.now node [] }
+        ensures few { length result.now < 2 ^ 32 }
+    {
+        let start = start_of(&self.ends, node);
+        let end = end_of(&self.ends, node);
+        &self.named[start..end]
+    }
+
+    /// Adds a node that names these nodes.
+    ///
+    /// If this runs out of memory, the graph stays as it was.
+    #[tactic(auto, using(packed_texts::proofs::PackedLaws::whole, packed_texts::proofs::PackedLaws::length_of_texts, crate::proofs::GraphLaws::row_pushed, crate::proofs::GraphLaws::rise_pushed))]
+    pub fn push(&mut self, named: &[u32]) -> Result<(), AllocError>
+        requires short { length (concat self.old) + length named.now < 2 ^ 32 }
+        requires few { length self.old + 1 < 2 ^ 32 }
+        ensures ok { IfOk result (λ _. self.new ≡ self.old ++ named.now ∷ []) }
+        ensures err { IfErr result (λ _. self.new ≡ self.old) }
+    {
+        // With the space reserved, the push after the names succeeds.
+        self.ends.reserve(1)?;
+        self.named.extend_from_slice(named)?;
+        self.ends.push(self.named.len() as u32)?;
+        Ok(())
+    }
+}
