@@ -8,7 +8,7 @@ use Rattle.tpi_records.specs.Records.{HasRecords, IsFirstFault}
 use Rattle.tpi_records.specs.declared.fault.TpiFault.{TpiFault}
 use Rattle.tpi_records.specs.declared.fault.TpiFault.TheVariants as tpi
 use Rattle.tpi_records.proofs.StreamLaws.{one_records, no_fault}
-use Rattle.type_trees.proofs.CheckLaws.{not_refused}
+use Rattle.type_trees.proofs.CycleLaws.{types_sound}
 use Rattle.pdb_merge.specs.Accepted.{IsAccepted, HasNoInfo, HasTypeStream, HasNoTypes}
 use Rattle.pdb_merge.specs.Fault.{of_tpi}
 use Rattle.pdb_merge.specs.declared.fault.PdbFault.{PdbFault}
@@ -19,7 +19,7 @@ use Rattle.pdb_merge.proofs.StreamLaws.{is_listed}
 -- ---- refusals
 
 -- a fault of stream 1 is the file's
-pub info_refused : (file : List ℕ) (layout : LayoutView) (inner : PdbFault) → HasLayout file layout → HasNoInfo file layout inner → HasNoTypes file inner
+pub info_refused : {A : Type 0} (file : List ℕ) (layout : LayoutView) (inner : PdbFault A) → HasLayout file layout → HasNoInfo file layout inner → HasNoTypes file inner
 info_refused file layout (fault.Msf inner) has refused = absurd refused
 info_refused file layout (fault.NoStream s) has refused = (layout, has, inl refused)
 info_refused file layout (fault.Info inner) has refused = (layout, has, refused.0, refused.1)
@@ -28,7 +28,7 @@ info_refused file layout (fault.Type inner) has refused = absurd refused
 info_refused file layout fault.Memory has refused = absurd refused
 
 -- a fault of stream 2 is the file's
-pub stream_refused : (file stream : List ℕ) (inner : TpiFault) (outer : PdbFault) → HasTypeStream file stream → outer ≡ of_tpi inner
+pub stream_refused : {A : Type 0} (file stream : List ℕ) (inner : TpiFault) (outer : PdbFault A) → HasTypeStream file stream → outer ≡ of_tpi inner
     → IsFirstFault stream inner ⊎ ((inner ≡ tpi.Memory) × ((records : List (List ℕ)) × HasRecords stream records)) → HasNoTypes file outer ⊎ (outer ≡ fault.Memory)
 stream_refused file stream tpi.Memory outer has made refused = inr made
 stream_refused file stream inner outer has made (inl first) = inl (rw made (has.layout, stream, has.has_layout, has.has_info, has.is_stream, first))
@@ -55,7 +55,7 @@ one_list file some others bytes is_s is_o =
     one_records is_s.stream some others is_s.has_records (rw stream is_o.has_records)
 
 -- an accepted file has no fault
-pub accepted_unrefused : (file : List ℕ) (records : List (List ℕ)) (inner : PdbFault) → ((i : ℕ) → get_or file i 0 < 256) → IsAccepted file records → HasNoTypes file inner → ⊥
+pub accepted_unrefused : {A : Type 0} (file : List ℕ) (records : List (List ℕ)) (inner : PdbFault A) → ((i : ℕ) → get_or file i 0 < 256) → IsAccepted file records → HasNoTypes file inner → ⊥
 accepted_unrefused file records (fault.Msf inner) bytes is refused = let none = layout_holds file is.layout bytes is.has_layout in absurd cc
 accepted_unrefused file records (fault.NoStream s) bytes is (layout, has, inl (one, few)) =
     let same = one_layout file is.layout layout bytes is.has_layout has in
@@ -79,11 +79,11 @@ accepted_unrefused file records (fault.Type inner) bytes is (layout, stream, fou
     let same = one_layout file is.layout layout bytes is.has_layout has in
     let text = same_text file is.layout layout 2 is.stream stream same is.is_stream there in
     let list = one_records stream records found (rw (← text) is.has_records) has_records in
-    not_refused found inner first (rw (← list) is.types)
+    types_sound found inner (rw (← list) is.types) first
 accepted_unrefused file records fault.Memory bytes is refused = absurd refused
 
 -- where an accepted file is refused, memory was wanting
-pub wants_memory : {A : Type 0} (file : List ℕ) (records : List (List ℕ)) (answer : Result A PdbFault) → ((i : ℕ) → get_or file i 0 < 256) → IsAccepted file records
+pub wants_memory : {T A : Type 0} (file : List ℕ) (records : List (List ℕ)) (answer : Result T (PdbFault A)) → ((i : ℕ) → get_or file i 0 < 256) → IsAccepted file records
     → IfErr answer (λ e. HasNoTypes file e ⊎ (e ≡ fault.Memory)) → IfErr answer (λ e. e ≡ fault.Memory)
 wants_memory file records (Ok types) bytes is refused = tt
 wants_memory file records (Err e) bytes is (inl refused) = absurd (accepted_unrefused file records e bytes is refused)

@@ -12,16 +12,16 @@ use Rattle.pdb_merge.specs.declared.fault.PdbFault.{PdbFault}
 use Rattle.pdb_merge.specs.declared.fault.PdbFault.TheVariants.{Memory}
 
 -- what is want of memory of a file, was that of its container
-of_msf_want : (inner : MsfFault) → of_msf inner ≡ Memory → inner ≡ msf.Memory
+of_msf_want : {A : Type 0} (inner : MsfFault) → ◌≡◌ {A = PdbFault A} (of_msf inner) Memory → inner ≡ msf.Memory
 of_msf_want msf.Memory is = refl
 of_msf_want inner is = absurd cc
 
 -- where the container was refused for want of memory, it has no fault
-pub layout_want : (file : List ℕ) (inner : MsfFault) (fault : PdbFault) → fault ≡ of_msf inner → Refuses msf.Memory (first_failing (layout_checks file)) inner → fault ≡ Memory → first_failing (layout_checks file) ≡ None
+pub layout_want : {A : Type 0} (file : List ℕ) (inner : MsfFault) (fault : PdbFault A) → fault ≡ of_msf inner → Refuses msf.Memory (first_failing (layout_checks file)) inner → fault ≡ Memory → first_failing (layout_checks file) ≡ None
 layout_want file inner fault made (inr want) is = want.1
 layout_want file inner fault made (inl first) is = absurd (layout_wants_none file (first ∙ ap Some (of_msf_want inner (sym made ∙ is))))
 
 -- a container that was read has none
-pub layout_sound : {A : Type 0} (file : List ℕ) (layout : LayoutView) (result : Result A PdbFault) → ((i : ℕ) → get_or file i 0 < 256) → HasLayout file layout → IfErr result (λ fault. fault ≡ Memory → first_failing (layout_checks file) ≡ None)
+pub layout_sound : {T A : Type 0} (file : List ℕ) (layout : LayoutView) (result : Result T (PdbFault A)) → ((i : ℕ) → get_or file i 0 < 256) → HasLayout file layout → IfErr result (λ fault. fault ≡ Memory → first_failing (layout_checks file) ≡ None)
 layout_sound file layout (Ok value) bytes has = tt
 layout_sound file layout (Err fault) bytes has = λ is. layout_holds file layout bytes has

@@ -43,7 +43,7 @@ can_still files more end limit inside can = record {
 }
 
 -- what stops some files stops them with more after them
-pub stops_still : (files more : List (List ℕ)) (limit : ℕ) (fault : MergeFault) → Stops files limit fault → Stops (files ++ more) limit fault
+pub stops_still : {A : Type 0} (files more : List (List ℕ)) (limit : ℕ) (fault : MergeFault A) → Stops files limit fault → Stops (files ++ more) limit fault
 stops_still files more limit (merge.Refused file fault) (inside, can, refused) =
     let same = same_file files more file inside in
     (omega (arith, inside, length-append files more), can_still files more file limit (omega (arith, inside)) can, rw same refused)
@@ -80,7 +80,7 @@ taken_more before after files file bytes takes within taken =
     }
 
 -- what hinders a file is the fault of the list of all files
-pub taken_stops : (before : MergeView) (files : List (List ℕ)) (file : List ℕ) (inner : AddFault) → AreBytes file → Hinders before.types before.limit file inner
+pub taken_stops : {A : Type 0} (before : MergeView) (files : List (List ℕ)) (file : List ℕ) (inner : AddFault A) → AreBytes file → Hinders before.types before.limit file inner
     → HasTaken before files → Stops (files ++ file ∷ []) before.limit (of_add (length files) inner)
 taken_stops before files file inner bytes hinders taken =
     let all = files ++ file ∷ [] in
@@ -97,7 +97,7 @@ pub taken_can : (merge : MergeView) (files : List (List ℕ)) → HasTaken merge
 taken_can merge files taken = all_merged merge.types files (length files) merge.limit refl taken.unites taken.accepted taken.within
 
 -- a file that can be merged with those before it, and with more after it, is hindered by nothing but memory
-pub taken_alone : (before : MergeView) (files more : List (List ℕ)) (file : List ℕ) (inner : AddFault) → AreBytes file → Hinders before.types before.limit file inner
+pub taken_alone : {A : Type 0} (before : MergeView) (files more : List (List ℕ)) (file : List ℕ) (inner : AddFault A) → AreBytes file → Hinders before.types before.limit file inner
     → HasTaken before files → CanMerge ((files ++ file ∷ []) ++ more) before.limit → inner ≡ add.Memory
 taken_alone before files more file inner bytes hinders taken can =
     let first = files ++ file ∷ [] in
@@ -116,12 +116,12 @@ pub taken_after : {A E : Type 0} (before after : MergeView) (file : List ℕ) (a
 taken_after before after file (Ok done) bytes takes within = λ files taken. taken_more before after files file bytes takes within taken
 taken_after before after file (Err fault) bytes takes within = tt
 
-pub stops_after : {A : Type 0} (before : MergeView) (file : List ℕ) (answer : Result A AddFault) → AreBytes file → IfErr answer (Hinders before.types before.limit file)
+pub stops_after : {T A : Type 0} (before : MergeView) (file : List ℕ) (answer : Result T (AddFault A)) → AreBytes file → IfErr answer (Hinders before.types before.limit file)
     → IfErr answer (λ fault. (files : List (List ℕ)) → HasTaken before files → Stops (files ++ file ∷ []) before.limit (of_add (length files) fault))
 stops_after before file (Ok done) bytes hinders = tt
 stops_after before file (Err fault) bytes hinders = λ files taken. taken_stops before files file fault bytes hinders taken
 
-pub alone_after : {A : Type 0} (before : MergeView) (file : List ℕ) (answer : Result A AddFault) → AreBytes file → IfErr answer (Hinders before.types before.limit file)
+pub alone_after : {T A : Type 0} (before : MergeView) (file : List ℕ) (answer : Result T (AddFault A)) → AreBytes file → IfErr answer (Hinders before.types before.limit file)
     → IfErr answer (λ fault. (files more : List (List ℕ)) → HasTaken before files → CanMerge ((files ++ file ∷ []) ++ more) before.limit → fault ≡ add.Memory)
 alone_after before file (Ok done) bytes hinders = tt
 alone_after before file (Err fault) bytes hinders = λ files more taken can. taken_alone before files more file fault bytes hinders taken can
@@ -131,7 +131,7 @@ split_at : (files : List (List ℕ)) (k : ℕ) → k < length files → (take k 
 split_at files k inside = rw (← take_more files k [] inside) (take-append-drop (k + 1) files)
 
 -- the fault of a file is that of the whole list
-pub stops_whole : (files : List (List ℕ)) (k limit : ℕ) (inner : AddFault) (outer : MergeFault) → k < length files → outer ≡ of_add k inner
+pub stops_whole : {A : Type 0} (files : List (List ℕ)) (k limit : ℕ) (inner : AddFault A) (outer : MergeFault A) → k < length files → outer ≡ of_add k inner
     → Stops (take k files ++ get_or files k [] ∷ []) limit (of_add (length (take k files)) inner) → Stops files limit outer
 stops_whole files k limit inner outer inside made stops =
     let many : length (take k files) ≡ k = length-take-le k files (omega (arith, inside)) in
@@ -140,7 +140,7 @@ stops_whole files k limit inner outer inside made stops =
     rw made whole
 
 -- a file of a list that can be merged is refused by nothing but memory
-pub alone_whole : (files : List (List ℕ)) (k limit : ℕ) (inner : AddFault) (outer : MergeFault) → k < length files → outer ≡ of_add k inner
+pub alone_whole : {A : Type 0} (files : List (List ℕ)) (k limit : ℕ) (inner : AddFault A) (outer : MergeFault A) → k < length files → outer ≡ of_add k inner
     → ((more : List (List ℕ)) → CanMerge ((take k files ++ get_or files k [] ∷ []) ++ more) limit → inner ≡ add.Memory) → CanMerge files limit → outer ≡ merge.Memory
 alone_whole files k limit inner outer inside made alone can =
     let whole : CanMerge ((take k files ++ get_or files k [] ∷ []) ++ drop (k + 1) files) limit = rw (split_at files k inside) can in

@@ -106,7 +106,7 @@ canon_back P l canonical members known =
     let many = length-map l (text l) in
     record {
       each = all_positions IsRecord (texts l) back.good.framed;
-      types = record { checked = all_positions IsChecked (texts l) (λ i lt. (back.good.checked i lt).0); lower = back.lower };
+      types = record { checked = all_positions IsChecked (texts l) (λ i lt. (back.good.checked i lt).0); ranked = (λ i. i, back.lower) };
       just = λ t. (
         λ h.
             let here : get_or l h.0 nothing ≡ t = sym (back.alone h.0 t h.1) in

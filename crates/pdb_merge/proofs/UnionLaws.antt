@@ -54,7 +54,7 @@ union_within before types after limit u same =
     within_same (λ t. IsType before t ⊎ IsType types t) (IsType after) limit (λ t. ((same t).1, (same t).0)) (weight u.0, union_weighs before types u.0 (weight u.0) u.1 refl, u.2)
 
 -- why types weren't added
-pub join_hinders : (before types : List (List ℕ)) (limit : ℕ) (file : List ℕ) (inner : JoinFault) (outer : AddFault) → IsAccepted file types → outer ≡ of_join inner
+pub join_hinders : {A : Type 0} (before types : List (List ℕ)) (limit : ℕ) (file : List ℕ) (inner : JoinFault) (outer : AddFault A) → IsAccepted file types → outer ≡ of_join inner
     → ((bytes : ℕ) → inner ≡ join.TooLarge bytes → (limit < bytes) × ((l : List Tree) × IsUnion l before types × (weight l ≡ bytes))) → Hinders before limit file outer
 join_hinders before types limit file (join.TooLarge bytes) outer accepted made large =
     let u = large bytes refl in
@@ -110,7 +110,7 @@ all_merged before files k limit all unites accepted within =
     record { accepted = rw (← all) accepted; within = rw (← all) (within_same (IsType before) (HasTypeBelow files k) limit unites within) }
 
 -- what hinders a file stops the merge
-pub hindered : (before files : List (List ℕ)) (k limit : ℕ) (inner : AddFault) (outer : MergeFault) → k < length files → AreBytes (get_or files k []) → Unites before files k → AcceptedBelow files k
+pub hindered : {A : Type 0} (before files : List (List ℕ)) (k limit : ℕ) (inner : AddFault A) (outer : MergeFault A) → k < length files → AreBytes (get_or files k []) → Unites before files k → AcceptedBelow files k
     → Within (IsType before) limit → outer ≡ of_add k inner → Hinders before limit (get_or files k []) inner → Stops files limit outer
 hindered before files k limit (add.Refused fault) outer inside bytes unites accepted within made hinders =
     rw made (inside, merged_below before files k limit unites accepted within, hinders)
@@ -125,29 +125,29 @@ hindered before files k limit (add.TooLarge heavy) outer inside bytes unites acc
 hindered before files k limit add.Memory outer inside bytes unites accepted within made hinders = rw made tt
 
 -- files that can be merged aren't too large
-can_large : (files : List (List ℕ)) (limit file heavy : ℕ) → Stops files limit (merge.TooLarge file heavy) → CanMerge files limit → ⊥
-can_large files limit file heavy (inside, below, accepted, (l, lists, is), more) can =
+can_large : (A : Type 0) (files : List (List ℕ)) (limit file heavy : ℕ) → Stops {A = A} files limit (merge.TooLarge file heavy) → CanMerge files limit → ⊥
+can_large A files limit file heavy (inside, below, accepted, (l, lists, is), more) can =
     let all = can.within.1 in
     let less = weight_grows l all.0 lists.distinct (λ t c. let there = (lists.members t).0 c in (all.1.members t).1 (there.0, omega (arith, there.1, inside), there.2)) in
     omega (arith, less, is, all.2, can.within.2, more)
 
 -- files that can be merged are stopped by nothing but memory
-pub stopped_alone : (files : List (List ℕ)) (limit : ℕ) (fault : MergeFault) → ((i : ℕ) → AreBytes (get_or files i [])) → Stops files limit fault → CanMerge files limit → fault ≡ merge.Memory
-stopped_alone files limit (merge.Refused file fault) bytes (inside, below, refused) can =
+pub stopped_alone : {A : Type 0} (files : List (List ℕ)) (limit : ℕ) (fault : MergeFault A) → ((i : ℕ) → AreBytes (get_or files i [])) → Stops files limit fault → CanMerge files limit → fault ≡ merge.Memory
+stopped_alone {A = A} files limit (merge.Refused file fault) bytes (inside, below, refused) can =
     let has = can.accepted file inside in
     absurd (accepted_unrefused (get_or files file []) has.0 fault (bytes file) has.1 refused)
-stopped_alone files limit (merge.TooLarge file heavy) bytes stops can = absurd (can_large files limit file heavy stops can)
-stopped_alone files limit merge.Memory bytes stops can = refl
+stopped_alone {A = A} files limit (merge.TooLarge file heavy) bytes stops can = absurd (can_large A files limit file heavy stops can)
+stopped_alone {A = A} files limit merge.Memory bytes stops can = refl
 
 -- nor is a last file that can be merged with those before it
-pub added_alone : (before files : List (List ℕ)) (k limit : ℕ) (inner : AddFault) → k < length files → AreBytes (get_or files k []) → Unites before files k → AcceptedBelow files k
+pub added_alone : {A : Type 0} (before files : List (List ℕ)) (k limit : ℕ) (inner : AddFault A) → k < length files → AreBytes (get_or files k []) → Unites before files k → AcceptedBelow files k
     → Within (IsType before) limit → Hinders before limit (get_or files k []) inner → CanMerge files limit → inner ≡ add.Memory
-added_alone before files k limit (add.Refused fault) inside bytes unites accepted within hinders can =
+added_alone {A = A} before files k limit (add.Refused fault) inside bytes unites accepted within hinders can =
     let has = can.accepted k inside in
     absurd (accepted_unrefused (get_or files k []) has.0 fault bytes has.1 hinders)
-added_alone before files k limit (add.TooLarge heavy) inside bytes unites accepted within hinders can =
-    absurd (can_large files limit k heavy (hindered before files k limit (add.TooLarge heavy) (merge.TooLarge k heavy) inside bytes unites accepted within refl hinders) can)
-added_alone before files k limit add.Memory inside bytes unites accepted within hinders can = refl
+added_alone {A = A} before files k limit (add.TooLarge heavy) inside bytes unites accepted within hinders can =
+    absurd (can_large A files limit k heavy (hindered {A = A} before files k limit (add.TooLarge heavy) (merge.TooLarge k heavy) inside bytes unites accepted within refl hinders) can)
+added_alone {A = A} before files k limit add.Memory inside bytes unites accepted within hinders can = refl
 
 pub within_more : (P : Tree → Type 0) (limit more : ℕ) → limit ≤ more → Within P limit → Within P more
 within_more P limit more le (bytes, weighs, few) = (bytes, weighs, omega (arith, few, le))
@@ -216,12 +216,12 @@ any_order files others limit same =
 pub weight_of_files : OneWeight
 weight_of_files files end some other weighs_s weighs_o = one_weight (HasTypeBelow files end) some other weighs_s weighs_o
 
-pub refused_in_any_order : RefusedInAnyOrder
+pub refused_in_any_order : {A : Type 0} → RefusedInAnyOrder A
 refused_in_any_order files others limit fault bytes same stops other can =
     other (stopped_alone files limit fault bytes stops ((any_order files others limit same).0.1 can))
 
 -- so it is where only memory refuses files that can be merged
-pub refused_any : {A : Type 0} (files : List (List ℕ)) (limit : ℕ) (answer : Result A MergeFault) → (CanMerge files limit → IfErr answer (λ fault. fault ≡ merge.Memory))
+pub refused_any : {T A : Type 0} (files : List (List ℕ)) (limit : ℕ) (answer : Result T (MergeFault A)) → (CanMerge files limit → IfErr answer (λ fault. fault ≡ merge.Memory))
     → IfErr answer (λ fault. fault ≢ merge.Memory → (others : List (List ℕ)) → SameFiles files others → CanMerge others limit → ⊥)
 refused_any files limit (Ok done) found = tt
 refused_any files limit (Err fault) found = λ other others same can. other (found ((any_order files others limit same).0.1 can))

@@ -5,7 +5,7 @@ use Rattle.msf_blocks.specs.Layout.{LayoutView, HasLayout, layout_checks}
 use Rattle.msf_streams.specs.Stream.{stream_text}
 use Rattle.pdb_info.specs.declared.fault.InfoFault.TheVariants.{InfoShort}
 use Rattle.tpi_records.specs.Records.{HasRecords, IsFirstFault}
-use Rattle.type_trees.specs.Checked.{AreTypes, checks_from}
+use Rattle.type_trees.specs.Checked.{AreTypes, HasTypeFault}
 use Rattle.pdb_merge.specs.declared.fault.PdbFault.{PdbFault}
 use Rattle.pdb_merge.specs.declared.fault.PdbFault.TheVariants as fault
 
@@ -37,13 +37,13 @@ pub record HasTypeStream (file stream : List ℕ) : Type 0 where
   pub is_stream : stream_text file layout 2 ≡ Some stream
 
 -- this is the fault of stream 1: that it isn't there, or that it is short
-abbrev pub HasNoInfo : List ℕ → LayoutView → PdbFault → Type 0
+abbrev pub HasNoInfo : {A : Type 0} → List ℕ → LayoutView → PdbFault A → Type 0
 HasNoInfo file layout (fault.NoStream s) = (s ≡ 1) × (length layout.streams < 2)
 HasNoInfo file layout (fault.Info inner) = HasShortInfo file layout × (inner ≡ InfoShort)
 HasNoInfo file layout _ = ⊥
 
--- this is the first fault of the file on the way to its types: of its layout; that it has no stream 1; that stream 1 is short; that it has no stream 2; of stream 2; of a record
-abbrev pub HasNoTypes : List ℕ → PdbFault → Type 0
+-- this is the first fault of the file on the way to its types: of its layout; that it has no stream 1; that stream 1 is short; that it has no stream 2; of stream 2; of a record; a cycle of records
+abbrev pub HasNoTypes : {A : Type 0} → List ℕ → PdbFault A → Type 0
 HasNoTypes file (fault.Msf inner) = first_failing (layout_checks file) ≡ Some inner
 HasNoTypes file (fault.NoStream s) =
     (layout : LayoutView) × HasLayout file layout × (((s ≡ 1) × (length layout.streams < 2)) ⊎ ((s ≡ 2) × HasInfo file layout × (length layout.streams < 3)))
@@ -52,5 +52,5 @@ HasNoTypes file (fault.Tpi inner) =
     (layout : LayoutView) × (stream : List ℕ) × HasLayout file layout × HasInfo file layout × (stream_text file layout 2 ≡ Some stream) × IsFirstFault stream inner
 HasNoTypes file (fault.Type inner) =
     (layout : LayoutView) × (stream : List ℕ) × (records : List (List ℕ)) × HasLayout file layout × HasInfo file layout × (stream_text file layout 2 ≡ Some stream)
-    × HasRecords stream records × (first_failing (checks_from 0 records) ≡ Some inner)
+    × HasRecords stream records × HasTypeFault records inner
 HasNoTypes file fault.Memory = ⊥

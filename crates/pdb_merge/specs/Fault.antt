@@ -20,44 +20,44 @@ use Rattle.pdb_merge.specs.declared.fault.PdbFault.{PdbFault}
 use Rattle.pdb_merge.specs.declared.fault.PdbFault.TheVariants as fault
 
 -- of the container
-abbrev pub of_msf : MsfFault → PdbFault
+abbrev pub of_msf : {A : Type 0} → MsfFault → PdbFault A
 of_msf msf.Memory = fault.Memory
 of_msf inner = fault.Msf inner
 
 -- of its streams
-abbrev pub of_stream : StreamFault → PdbFault
+abbrev pub of_stream : {A : Type 0} → StreamFault → PdbFault A
 of_stream (streams.NoStream s) = fault.NoStream s
 of_stream streams.Memory = fault.Memory
 
 -- of the info stream
-abbrev pub of_info : InfoFault → PdbFault
+abbrev pub of_info : {A : Type 0} → InfoFault → PdbFault A
 of_info infos.Memory = fault.Memory
 of_info inner = fault.Info inner
 
 -- of the stream of type records
-abbrev pub of_tpi : TpiFault → PdbFault
+abbrev pub of_tpi : {A : Type 0} → TpiFault → PdbFault A
 of_tpi tpi.Memory = fault.Memory
 of_tpi inner = fault.Tpi inner
 
 -- of the type records
-abbrev pub of_type : TypeFault → PdbFault
+abbrev pub of_type : {A : Type 0} → TypeFault A → PdbFault A
 of_type types.Memory = fault.Memory
 of_type inner = fault.Type inner
 
 -- ---- of one file among several
 
 -- of the file that is added
-abbrev pub of_pdb : PdbFault → AddFault
+abbrev pub of_pdb : {A : Type 0} → PdbFault A → AddFault A
 of_pdb fault.Memory = add.Memory
 of_pdb inner = add.Refused inner
 
 -- of the union
-abbrev pub of_join : JoinFault → AddFault
+abbrev pub of_join : {A : Type 0} → JoinFault → AddFault A
 of_join (join.TooLarge bytes) = add.TooLarge bytes
 of_join join.Memory = add.Memory
 
 -- of the file at this position of a list
-abbrev pub of_add : ℕ → AddFault → MergeFault
+abbrev pub of_add : {A : Type 0} → ℕ → AddFault A → MergeFault A
 of_add file (add.Refused inner) = merge.Refused file inner
 of_add file (add.TooLarge bytes) = merge.TooLarge file bytes
 of_add file add.Memory = merge.Memory

@@ -65,9 +65,9 @@ abbrev pub AnyOrder : Type 0
 AnyOrder = (files others : List (List ℕ)) (limit : ℕ) → SameFiles files others → (CanMerge files limit ↔ CanMerge others limit) × SameTypes files others
 
 -- where a list of files is refused, each list of the same files is, in any order
-abbrev pub RefusedInAnyOrder : Type 0
-RefusedInAnyOrder =
-    (files others : List (List ℕ)) (limit : ℕ) (fault : MergeFault) → ((i : ℕ) → AreBytes (get_or files i [])) → SameFiles files others
+abbrev pub RefusedInAnyOrder : Type 0 → Type 0
+RefusedInAnyOrder A =
+    (files others : List (List ℕ)) (limit : ℕ) (fault : MergeFault A) → ((i : ℕ) → AreBytes (get_or files i [])) → SameFiles files others
     → Stops files limit fault → fault ≢ merge.Memory → CanMerge others limit → ⊥
 
 -- the types of files have one number of bytes together

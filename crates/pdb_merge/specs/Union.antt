@@ -63,7 +63,7 @@ pub record Takes (before after : List (List ℕ)) (file : List ℕ) : Type 0 whe
   pub types : (t : Tree) → IsType after t ↔ (IsType before t ⊎ IsType records t)
 
 -- this is why the file isn't added to the types of `before`: it isn't accepted, or the union has so many bytes, which is more than the limit
-abbrev pub Hinders : List (List ℕ) → ℕ → List ℕ → AddFault → Type 0
+abbrev pub Hinders : {A : Type 0} → List (List ℕ) → ℕ → List ℕ → AddFault A → Type 0
 Hinders before limit file (add.Refused fault) = HasNoTypes file fault
 Hinders before limit file (add.TooLarge bytes) =
     (records : List (List ℕ)) × IsAccepted file records × Weighs (λ t. IsType before t ⊎ IsType records t) bytes × (limit < bytes)
@@ -82,7 +82,7 @@ pub record CanMergeBelow (files : List (List ℕ)) (end limit : ℕ) : Type 0 wh
   pub within : Within (HasTypeBelow files end) limit
 
 -- this is why the files aren't merged: those before one of them can be merged, and it has this fault, or the union with it has so many bytes, which is more than the limit
-abbrev pub Stops : List (List ℕ) → ℕ → MergeFault → Type 0
+abbrev pub Stops : {A : Type 0} → List (List ℕ) → ℕ → MergeFault A → Type 0
 Stops files limit (merge.Refused file fault) = (file < length files) × CanMergeBelow files file limit × HasNoTypes (get_or files file []) fault
 Stops files limit (merge.TooLarge file bytes) =
     (file < length files) × CanMergeBelow files file limit × AcceptedBelow files (file + 1) × Weighs (HasTypeBelow files (file + 1)) bytes × (limit < bytes)

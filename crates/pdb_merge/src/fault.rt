@@ -8,7 +8,7 @@ ghost use Rattle.pdb_merge.specs.declared.fault.OutFault.TheVariants as out;
 use msf_blocks::MsfFault;
 use msf_streams::StreamFault;
 use pdb_info::InfoFault;
-use std::alloc::AllocError;
+use std::alloc::{AllocError, Allocator, Global};
 use thiserror::Error;
 use tpi_records::TpiFault;
 use type_trees::{JoinFault, TypeFault};
@@ -18,7 +18,7 @@ use type_trees::{JoinFault, TypeFault};
 /// The container comes first, then stream 1, then stream 2 and its records. Want of memory is
 /// `Memory` wherever it was met: the faults inside the others never are it.
 #[derive(Debug, PartialEq, Eq, Drop, Error)]
-pub enum PdbFault {
+pub enum PdbFault<A: Allocator = Global> {
     /// The container is refused.
     #[error("{0}")]
     Msf(MsfFault),
@@ -33,24 +33,24 @@ pub enum PdbFault {
     Tpi(TpiFault),
     /// The type records are no types.
     #[error("{0}")]
-    Type(TypeFault),
+    Type(TypeFault<A>),
     /// A growth was refused.
     #[error("33 Memory")]
     Memory,
 }
 
-impl From<AllocError> for PdbFault {
+impl<A: Allocator> From<AllocError> for PdbFault<A> {
     ghost from_gives = { λ _ fault. fault ≡ Memory };
 
-    fn from(_error: AllocError) -> PdbFault {
+    fn from(_error: AllocError) -> PdbFault<A> {
         PdbFault::Memory
     }
 }
 
-impl From<MsfFault> for PdbFault {
+impl<A: Allocator> From<MsfFault> for PdbFault<A> {
     ghost from_gives = { λ inner fault. fault ≡ of_msf inner };
 
-    fn from(fault: MsfFault) -> PdbFault {
+    fn from(fault: MsfFault) -> PdbFault<A> {
         match fault {
             MsfFault::Memory => PdbFault::Memory,
             fault => PdbFault::Msf(fault),
@@ -58,10 +58,10 @@ impl From<MsfFault> for PdbFault {
     }
 }
 
-impl From<StreamFault> for PdbFault {
+impl<A: Allocator> From<StreamFault> for PdbFault<A> {
     ghost from_gives = { λ inner fault. fault ≡ of_stream inner };
 
-    fn from(fault: StreamFault) -> PdbFault {
+    fn from(fault: StreamFault) -> PdbFault<A> {
         match fault {
             StreamFault::NoStream(s) => PdbFault::NoStream(s),
             StreamFault::Memory => PdbFault::Memory,
@@ -69,10 +69,10 @@ impl From<StreamFault> for PdbFault {
     }
 }
 
-impl From<InfoFault> for PdbFault {
+impl<A: Allocator> From<InfoFault> for PdbFault<A> {
     ghost from_gives = { λ inner fault. fault ≡ of_info inner };
 
-    fn from(fault: InfoFault) -> PdbFault {
+    fn from(fault: InfoFault) -> PdbFault<A> {
         match fault {
             InfoFault::Memory => PdbFault::Memory,
             fault => PdbFault::Info(fault),
@@ -80,10 +80,10 @@ impl From<InfoFault> for PdbFault {
     }
 }
 
-impl From<TpiFault> for PdbFault {
+impl<A: Allocator> From<TpiFault> for PdbFault<A> {
     ghost from_gives = { λ inner fault. fault ≡ of_tpi inner };
 
-    fn from(fault: TpiFault) -> PdbFault {
+    fn from(fault: TpiFault) -> PdbFault<A> {
         match fault {
             TpiFault::Memory => PdbFault::Memory,
             fault => PdbFault::Tpi(fault),
@@ -91,10 +91,10 @@ impl From<TpiFault> for PdbFault {
     }
 }
 
-impl From<TypeFault> for PdbFault {
+impl<A: Allocator> From<TypeFault<A>> for PdbFault<A> {
     ghost from_gives = { λ inner fault. fault ≡ of_type inner };
 
-    fn from(fault: TypeFault) -> PdbFault {
+    fn from(fault: TypeFault<A>) -> PdbFault<A> {
         match fault {
             TypeFault::Memory => PdbFault::Memory,
             fault => PdbFault::Type(fault),
@@ -104,10 +104,10 @@ impl From<TypeFault> for PdbFault {
 
 /// Why a file wasn't added to a merge.
 #[derive(Debug, PartialEq, Eq, Drop, Error)]
-pub enum AddFault {
+pub enum AddFault<A: Allocator = Global> {
     /// The file isn't accepted. Want of memory isn't inside.
     #[error("{0}")]
-    Refused(PdbFault),
+    Refused(PdbFault<A>),
     /// The types so far and those of the file have so many bytes together, which is more than the
     /// limit.
     #[error("32 TooLarge bytes {bytes}")]
@@ -117,10 +117,10 @@ pub enum AddFault {
     Memory,
 }
 
-impl From<PdbFault> for AddFault {
+impl<A: Allocator> From<PdbFault<A>> for AddFault<A> {
     ghost from_gives = { λ inner fault. fault ≡ of_pdb inner };
 
-    fn from(fault: PdbFault) -> AddFault {
+    fn from(fault: PdbFault<A>) -> AddFault<A> {
         match fault {
             PdbFault::Memory => AddFault::Memory,
             fault => AddFault::Refused(fault),
@@ -128,10 +128,10 @@ impl From<PdbFault> for AddFault {
     }
 }
 
-impl From<JoinFault> for AddFault {
+impl<A: Allocator> From<JoinFault> for AddFault<A> {
     ghost from_gives = { λ inner fault. fault ≡ of_join inner };
 
-    fn from(fault: JoinFault) -> AddFault {
+    fn from(fault: JoinFault) -> AddFault<A> {
         match fault {
             JoinFault::TooLarge { bytes } => AddFault::TooLarge { bytes },
             JoinFault::Memory => AddFault::Memory,
@@ -141,10 +141,10 @@ impl From<JoinFault> for AddFault {
 
 /// Why files weren't merged. A file is named by its position, from 0.
 #[derive(Debug, PartialEq, Eq, Drop, Error)]
-pub enum MergeFault {
+pub enum MergeFault<A: Allocator = Global> {
     /// This file isn't accepted; those in front of it are. Want of memory isn't inside.
     #[error("file {file}: {fault}")]
-    Refused { file: usize, fault: PdbFault },
+    Refused { file: usize, fault: PdbFault<A> },
     /// The types of the files up to this one have so many bytes together, which is more than the
     /// limit; those of the files in front of it are within the limit.
     #[error("file {file}: 32 TooLarge bytes {bytes}")]
@@ -156,10 +156,10 @@ pub enum MergeFault {
 
 /// Why no file was written.
 #[derive(Debug, PartialEq, Eq, Drop, Error)]
-pub enum OutFault {
+pub enum OutFault<A: Allocator = Global> {
     /// The files weren't merged. Nothing was written.
     #[error("{0}")]
-    Merge(MergeFault),
+    Merge(MergeFault<A>),
     /// A growth was refused while the file was written. Nothing was written.
     #[error("33 Memory")]
     Memory,
@@ -168,10 +168,10 @@ pub enum OutFault {
     Write,
 }
 
-impl From<MergeFault> for OutFault {
+impl<A: Allocator> From<MergeFault<A>> for OutFault<A> {
     ghost from_gives = { λ inner fault. fault ≡ out.Merge inner };
 
-    fn from(fault: MergeFault) -> OutFault {
+    fn from(fault: MergeFault<A>) -> OutFault<A> {
         OutFault::Merge(fault)
     }
 }

@@ -16,7 +16,7 @@ use std::hash::BuildHasher;
 use type_trees::Canon;
 
 /// The fault of the file at this position.
-fn at_file(file: usize, fault: AddFault) -> MergeFault
+fn at_file<A: Allocator>(file: usize, fault: AddFault<A>) -> MergeFault<A>
     ensures { result ≡ of_add file fault }
 {
     match fault {
@@ -39,7 +39,7 @@ fn add_all<S: BuildHasher, A: Allocator + Copy>(
     alloc: A,
     files: &[&[u8]],
     merge: &mut Merge<S, A>,
-) -> Result<(), MergeFault>
+) -> Result<(), MergeFault<A>>
     requires { HasTaken merge.old [] }
     ensures value { IfOk result (λ _. HasTaken merge.new (texts_of files.now)) }
     ensures limit { merge.new.limit ≡ merge.old.limit }
@@ -61,7 +61,7 @@ fn list_all<S: BuildHasher + Drop, A: Allocator + Copy>(
     files: &[&[u8]],
     limit: u32,
     hasher: S,
-) -> Result<Canon<A>, MergeFault>
+) -> Result<Canon<A>, MergeFault<A>>
     ensures value { IfOk result (λ canon. IsCanonOf canon (HasType (texts_of files.now))) }
     ensures can { IfOk result (λ _. CanMerge (texts_of files.now) limit) }
     ensures found { CanMerge (texts_of files.now) limit → IfErr result (λ fault. fault ≡ MergeFault.Memory) }
@@ -85,7 +85,7 @@ pub fn merge_files<S: BuildHasher + Drop, A: Allocator + Copy>(
     files: &[&[u8]],
     settings: &Settings,
     hasher: S,
-) -> Result<Canon<A>, MergeFault>
+) -> Result<Canon<A>, MergeFault<A>>
     ensures value { IfOk result (λ canon. IsCanonOf canon (HasType (texts_of files.now))) }
     ensures can { IfOk result (λ _. CanMerge (texts_of files.now) settings.now.limit) }
     // Files that can be merged are refused only where memory is.

@@ -6,6 +6,7 @@
 ghost use Rattle.pdb_merge.specs.Laws.{OneListEach, MergedReadsBack, MergedHas, MergedFilesDiffer, MergedAgain, EarlierMerge, OneMergedFile, TypesOfFirst, TypesOfBoth, AnyOrder, RefusedInAnyOrder, OneWeight};
 
 use pdb_info::Settings;
+use std::alloc::Allocator;
 
 /// A file is accepted with one list of records alone.
 pub fn one_list_each()
@@ -76,8 +77,8 @@ pub fn any_order()
 {}
 
 /// Where a list of files is refused, each list of the same files is, in any order.
-pub fn refused_in_any_order()
-    ensures { RefusedInAnyOrder }
+pub fn refused_in_any_order<A: Allocator>()
+    ensures { RefusedInAnyOrder A }
 {}
 
 /// The types of files have one number of bytes together.

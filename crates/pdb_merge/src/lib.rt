@@ -2,8 +2,8 @@
 //!
 //! A Program Database file is *accepted* where all of it that stands on the way to its types is
 //! sound: it is a container; its stream 1, which identifies the file, has at least the 28 bytes of
-//! a header; and its stream 2 holds type records which are types, each of them naming simple types
-//! and earlier records alone.
+//! a header; and its stream 2 holds type records which are types: each names simple types and
+//! records of the file alone, and none leads into a cycle.
 //!
 //! - [`read_types`] reads the types of a file. They are lent from a [`Buffer`], which the caller
 //!   hands in and may hand in again for the next file, so that two streams of types never stand in

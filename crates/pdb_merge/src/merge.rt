@@ -52,7 +52,12 @@ impl<S: BuildHasher, A: Allocator + Copy> Merge<S, A> {
     }
 
     /// Adds the types of a file to the table.
-    fn add_types(&mut self, alloc: A, file: &[u8], buffer: &mut Buffer<A>) -> Result<(), AddFault>
+    fn add_types(
+        &mut self,
+        alloc: A,
+        file: &[u8],
+        buffer: &mut Buffer<A>,
+    ) -> Result<(), AddFault<A>>
         ensures value { IfOk result (λ _. Takes self.old.types self.new.types file.now) }
         ensures within { IfOk result (λ _. Within (IsType self.new.types) self.new.limit) }
         ensures limit { self.new.limit ≡ self.old.limit }
@@ -69,7 +74,7 @@ impl<S: BuildHasher, A: Allocator + Copy> Merge<S, A> {
     /// The file's own fault comes first, then `TooLarge`, with the bytes that the types of the
     /// files so far and of this one have together. After any refusal the merge is what it was,
     /// and it may be given the next file.
-    pub fn add(&mut self, alloc: A, file: &[u8], buffer: &mut Buffer<A>) -> Result<(), AddFault>
+    pub fn add(&mut self, alloc: A, file: &[u8], buffer: &mut Buffer<A>) -> Result<(), AddFault<A>>
         ensures value { IfOk result (λ _. Takes self.old.types self.new.types file.now) }
         ensures limit { self.new.limit ≡ self.old.limit }
         ensures kept { IfErr result (λ _. self.new ≡ self.old) }

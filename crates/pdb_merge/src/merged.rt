@@ -20,7 +20,7 @@ use std::hash::BuildHasher;
 use type_trees::Canon;
 
 /// The fault of a file that isn't too long.
-fn out_fault(fault: WriteFault) -> OutFault
+fn out_fault<A: Allocator>(fault: WriteFault) -> OutFault<A>
     requires { (fault ≡ WriteFault.Memory) ⊎ (fault ≡ WriteFault.Write) }
     ensures memory { fault ≡ WriteFault.Memory → result ≡ OutFault.Memory }
     ensures write { fault ≡ WriteFault.Write → result ≡ OutFault.Write }
@@ -37,7 +37,7 @@ fn write_canon<W: Sink, A: Allocator + Copy>(
     canon: &Canon<A>,
     settings: &Settings,
     out: &mut W,
-) -> Result<Summary, OutFault>
+) -> Result<Summary, OutFault<A>>
     requires { length (concat canon.now) ≤ 1073741824 }
     ensures value { IfOk result (WroteFile canon.now settings.now (W.taken out.old) (W.taken out.new)) }
     ensures fault { IfErr result (λ fault. (fault ≡ OutFault.Memory) ⊎ (fault ≡ OutFault.Write)) }
@@ -72,14 +72,14 @@ pub fn merge_to<W: Sink, S: BuildHasher + Drop, A: Allocator + Copy>(
     settings: &Settings,
     out: &mut W,
     hasher: S,
-) -> Result<Summary, OutFault>
+) -> Result<Summary, OutFault<A>>
     ensures value { IfOk result (Wrote (texts_of files.now) settings.now (W.taken out.old) (W.taken out.new)) }
     ensures can { IfOk result (λ _. CanMerge (texts_of files.now) settings.now.limit) }
     // Files that can be merged are refused only where memory is, or by the sink.
     ensures found { CanMerge (texts_of files.now) settings.now.limit → IfErr result (λ fault. (fault ≡ OutFault.Merge MergeFault.Memory) ⊎ (fault ≡ OutFault.Memory) ⊎ (fault ≡ OutFault.Write)) }
-    ensures first { IfErr result (λ fault. (inner : MergeFault) → fault ≡ OutFault.Merge inner → Stops (texts_of files.now) settings.now.limit inner) }
+    ensures first { IfErr result (λ fault. (inner : MergeFault A) → fault ≡ OutFault.Merge inner → Stops (texts_of files.now) settings.now.limit inner) }
     // Files that are refused are refused in any order.
-    ensures any_order { IfErr result (λ fault. (inner : MergeFault) → fault ≡ OutFault.Merge inner → inner ≢ MergeFault.Memory
+    ensures any_order { IfErr result (λ fault. (inner : MergeFault A) → fault ≡ OutFault.Merge inner → inner ≢ MergeFault.Memory
         → (others : List (List ℕ)) → SameFiles (texts_of files.now) others → CanMerge others settings.now.limit → ⊥) }
     ensures write { IfErr result (λ fault. fault ≡ OutFault.Write → (W.is_broken out.new ≡ true)
         × WrotePart (texts_of files.now) settings.now (W.taken out.old) (W.taken out.new)) }

@@ -24,7 +24,7 @@ const TPI_STREAM: u32 = 2;
 const INFO_LENGTH: u32 = 28;
 
 /// Checks that stream 1 has the bytes of a header. What they say isn't looked at.
-fn check_info<A: Allocator>(layout: &Layout<A>) -> Result<(), PdbFault>
+fn check_info<A: Allocator>(layout: &Layout<A>) -> Result<(), PdbFault<A>>
     ensures value { OnOk result ((file : List ℕ) → HasInfo file layout.now) }
     ensures first { IfErr result (λ fault. (file : List ℕ) → HasNoInfo file layout.now fault) }
 {
@@ -38,7 +38,7 @@ fn check_info<A: Allocator>(layout: &Layout<A>) -> Result<(), PdbFault>
 }
 
 /// The bytes of stream 2 of a file whose stream 1 has the bytes of a header.
-fn type_stream<A: Allocator + Copy>(alloc: A, file: &[u8]) -> Result<Vec<u8, A>, PdbFault>
+fn type_stream<A: Allocator + Copy>(alloc: A, file: &[u8]) -> Result<Vec<u8, A>, PdbFault<A>>
     ensures value { IfOk result (λ stream. HasTypeStream file.now stream.items) }
     ensures first { IfErr result (λ fault. HasNoTypes file.now fault ⊎ (fault ≡ PdbFault.Memory)) }
     ensures memory { IfErr result (λ fault. fault ≡ PdbFault.Memory → first_failing (layout_checks file.now) ≡ None) }
@@ -51,7 +51,7 @@ fn type_stream<A: Allocator + Copy>(alloc: A, file: &[u8]) -> Result<Vec<u8, A>,
 
 impl<A: Allocator + Copy> Buffer<A> {
     /// Stores the bytes of a file's types in place of what was held, and lends the types.
-    fn types(&mut self, alloc: A, file: &[u8]) -> Result<Types<'_, A>, PdbFault>
+    fn types(&mut self, alloc: A, file: &[u8]) -> Result<Types<'_, A>, PdbFault<A>>
         ensures value { IfOk result (IsAccepted file.now) }
         ensures first { IfErr result (λ fault. HasNoTypes file.now fault ⊎ (fault ≡ PdbFault.Memory)) }
         ensures memory { IfErr result (λ fault. fault ≡ PdbFault.Memory → first_failing (layout_checks file.now) ≡ None) }
@@ -68,13 +68,13 @@ impl<A: Allocator + Copy> Buffer<A> {
 /// The faults come in this order: those of the container; a container without a stream 1; a
 /// stream 1 with fewer bytes than a header, of which nothing else is looked at; a container
 /// without a stream 2; those of that stream; those of its records, in order, of each its leaf and
-/// then its references. What the buffer held is given up first, so that the streams of two files
+/// then its references; and last a cycle of references. What the buffer held is given up first, so that the streams of two files
 /// never stand in memory at once; after a refusal it may be handed in again.
 pub fn read_types<'a, A: Allocator + Copy>(
     alloc: A,
     file: &[u8],
     buffer: &'a mut Buffer<A>,
-) -> Result<Types<'a, A>, PdbFault>
+) -> Result<Types<'a, A>, PdbFault<A>>
     ensures value { IfOk result (IsAccepted file.now) }
     // Nothing that is accepted is refused, but for want of memory.
     ensures found { (records : List (List ℕ)) → IsAccepted file.now records → IfErr result (λ fault. fault ≡ PdbFault.Memory) }

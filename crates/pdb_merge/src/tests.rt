@@ -1,6 +1,7 @@
 //! What no clause says: the texts of the faults, samples that were changed, one buffer for many
 //! files, and refused growth.
 
+mod forward;
 mod merging;
 
 use crate::{Buffer, MergeFault, PdbFault, read_types};
@@ -16,10 +17,10 @@ use tpi_records::TpiFault;
 use type_trees::TypeFault;
 
 /// How many types a file has, how many bytes and how many levels; or the fault.
-type Answer = Result<(usize, u32, u32), PdbFault>;
+type Answer<A = Global> = Result<(usize, u32, u32), PdbFault<A>>;
 
 /// Reads the types of a file through a buffer.
-fn read<A: Allocator + Copy>(alloc: A, file: &[u8], buffer: &mut Buffer<A>) -> Answer {
+fn read<A: Allocator + Copy>(alloc: A, file: &[u8], buffer: &mut Buffer<A>) -> Answer<A> {
     let types = read_types(alloc, file, buffer)?;
     Ok((types.len(), types.bytes_len(), types.levels()))
 }
@@ -35,7 +36,7 @@ fn changed(alloc: Global, at: usize, bytes: &[u8]) -> Result<Vec<u8>, Fail> {
 type Row = (usize, &'static [u8], Answer);
 
 /// Changed samples, those that are accepted among those that are not.
-const ROWS: [Row; 12] = [
+const ROWS: [Row; 13] = [
     (0, b"", Ok((2, 24, 1))),
     (0, b"m", Err(PdbFault::Msf(MsfFault::Magic))),
     // one stream, two streams, and two of which the last is short
@@ -62,14 +63,16 @@ const ROWS: [Row; 12] = [
     // the stream of type records is short, and has no records
     (2060, b"\x37", Err(PdbFault::Tpi(TpiFault::Short))),
     (3084, b"\0\x10\0\0\0\0\0\0", Ok((0, 0, 0))),
-    // the first record names itself
+    // the first record names the second
+    (3132, b"\x01\x10", Ok((2, 24, 2))),
+    // the first record names one after the last
     (
         3132,
-        b"\0\x10",
+        b"\x02\x10",
         Err(PdbFault::Type(TypeFault::Ref {
             index: 0x1000,
             place: 0,
-            to: 0x1000,
+            to: 0x1002,
         })),
     ),
 ];
@@ -90,7 +93,7 @@ fn one_buffer_for_all_files(rt: HostRuntime) -> Result<(), Fail> {
 
 #[test]
 fn each_fault_has_its_text(rt: HostRuntime) -> Result<(), Fail> {
-    let leaf = TypeFault::Leaf {
+    let leaf: TypeFault = TypeFault::Leaf {
         index: 0x1001,
         fault: LeafFault::Leaf(0x150A),
     };
@@ -106,14 +109,14 @@ fn each_fault_has_its_text(rt: HostRuntime) -> Result<(), Fail> {
         (StreamFault::Memory.into(), "33 Memory"),
         (InfoFault::Memory.into(), "33 Memory"),
         (TpiFault::Memory.into(), "33 Memory"),
-        (TypeFault::Memory.into(), "33 Memory"),
+        (TypeFault::<Global>::Memory.into(), "33 Memory"),
     ] {
         let shown = fault.to_string(rt.alloc())?;
         assert_eq!(rt; shown.as_str(), text);
     }
     for (fault, text) in [
         (
-            MergeFault::Refused {
+            MergeFault::<Global>::Refused {
                 file: 1,
                 fault: PdbFault::Msf(MsfFault::Magic),
             },
@@ -139,13 +142,13 @@ fn growth_is_refused(rt: HostRuntime) -> Result<(), Fail> {
         let heap = LocalHeap::new(rt.alloc(), 16 * size)?;
         let mut buffer = Buffer::new(&heap);
         let found = read(&heap, &file, &mut buffer);
-        if found == Err(PdbFault::Memory) {
+        if matches!(found, Err(PdbFault::Memory)) {
             refused = refused.saturating_add(1);
         } else {
-            assert_eq!(rt; found, Ok((2, 24, 1)));
+            assert_eq!(rt; found.ok(), Some((2, 24, 1)));
             // What was held is given up first, so that the heap has room for the same again.
             let again = read(&heap, &file, &mut buffer);
-            assert_eq!(rt; again, Ok((2, 24, 1)));
+            assert_eq!(rt; again.ok(), Some((2, 24, 1)));
         }
     }
     assert!(rt; 0 < refused && refused < 64);

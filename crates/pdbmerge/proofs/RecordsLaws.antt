@@ -29,7 +29,7 @@ unfolding record_lines
 lines_whole text index left all so_far none = sym (append-nil text) ∙ rw none at so_far
 
 -- a fault of the stream of type records is the first on the way to whatever stands behind these records
-pub stream_refused : (Refuses : RunFault → Type 0) (file : List ℕ) (layout : LayoutView) (stream : List ℕ) (inner : TpiFault) (fault : RunFault) → ((inner : TpiFault) → HasNoTypeRecords file (Tpi inner) → Refuses (Tpi inner))
+pub stream_refused : {A : Type 0} (Refuses : RunFault A → Type 0) (file : List ℕ) (layout : LayoutView) (stream : List ℕ) (inner : TpiFault) (fault : RunFault A) → ((inner : TpiFault) → HasNoTypeRecords {A = A} file (Tpi inner) → Refuses (Tpi inner))
     → HasLayout file layout → stream_text file layout 2 ≡ Some stream → fault ≡ of_tpi inner
     → IsFirstFault stream inner ⊎ ((inner ≡ tpi.Memory) × ((records : List (List ℕ)) × HasRecords stream records)) → Refuses fault ⊎ (fault ≡ Memory)
 stream_refused Refuses file layout stream tpi.Memory fault passes has is made refused = inr made

@@ -18,6 +18,6 @@ ShowsChecked file text =
     (records : List (List ℕ)) × (levels : ℕ) × IsAccepted file records × HasLevels records levels × (text ≡ checked_lines (length records) (length (concat records)) levels)
 
 -- this is the first fault of the file on the way to its types
-abbrev pub HasNoAccepted : List ℕ → RunFault → Type 0
+abbrev pub HasNoAccepted : {A : Type 0} → List ℕ → RunFault A → Type 0
 HasNoAccepted file (Pdb fault) = HasNoTypes file fault
 HasNoAccepted file _ = ⊥

@@ -19,42 +19,42 @@ use Rattle.pdbmerge.specs.declared.fault.RunFault.{RunFault}
 use Rattle.pdbmerge.specs.declared.fault.RunFault.TheVariants.{Read, Msf, Stream, Info, Tpi, Pdb, Merge, Memory, Write}
 
 -- of reading
-abbrev pub of_read : ReadFault → RunFault
+abbrev pub of_read : {A : Type 0} → ReadFault → RunFault A
 of_read reads.Memory = Memory
 of_read fault = Read fault
 
 -- of the container
-abbrev pub of_msf : MsfFault → RunFault
+abbrev pub of_msf : {A : Type 0} → MsfFault → RunFault A
 of_msf msf.Memory = Memory
 of_msf fault = Msf fault
 
 -- of its streams
-abbrev pub of_stream : StreamFault → RunFault
+abbrev pub of_stream : {A : Type 0} → StreamFault → RunFault A
 of_stream streams.Memory = Memory
 of_stream fault = Stream fault
 
 -- of the stream of type records
-abbrev pub of_tpi : TpiFault → RunFault
+abbrev pub of_tpi : {A : Type 0} → TpiFault → RunFault A
 of_tpi tpi.Memory = Memory
 of_tpi fault = Tpi fault
 
 -- of the info stream
-abbrev pub of_info : InfoFault → RunFault
+abbrev pub of_info : {A : Type 0} → InfoFault → RunFault A
 of_info infos.Memory = Memory
 of_info fault = Info fault
 
 -- of the types of a whole file
-abbrev pub of_pdb : PdbFault → RunFault
+abbrev pub of_pdb : {A : Type 0} → PdbFault A → RunFault A
 of_pdb pdb.Memory = Memory
 of_pdb fault = Pdb fault
 
 -- of merging
-abbrev pub of_merge : MergeFault → RunFault
+abbrev pub of_merge : {A : Type 0} → MergeFault A → RunFault A
 of_merge merges.Memory = Memory
 of_merge fault = Merge fault
 
 -- of merging, or of writing the file
-abbrev pub of_out : OutFault → RunFault
+abbrev pub of_out : {A : Type 0} → OutFault A → RunFault A
 of_out (outs.Merge fault) = of_merge fault
 of_out outs.Memory = Memory
 of_out outs.Write = Write

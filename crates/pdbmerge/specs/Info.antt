@@ -52,7 +52,7 @@ ShowsInfo file text =
     (info : InfoView) × HasInfoStream file info × (text ≡ header_lines info.header ++ flat_map name_line info.names ++ flat_map feature_line info.features)
 
 -- this is the first fault of the file on the way to its info stream: of its layout, else that it has no stream 1, else of that stream
-abbrev pub HasNoInfo : List ℕ → RunFault → Type 0
+abbrev pub HasNoInfo : {A : Type 0} → List ℕ → RunFault A → Type 0
 HasNoInfo file (Msf fault) = first_failing (layout_checks file) ≡ Some fault
 HasNoInfo file (Stream fault) = (layout : LayoutView) × HasLayout file layout × (length layout.streams ≤ 1) × (fault ≡ NoStream 1)
 HasNoInfo file (Info fault) = (layout : LayoutView) × (stream : List ℕ) × HasLayout file layout × (stream_text file layout 1 ≡ Some stream) × (first_failing (info_checks stream) ≡ Some fault)

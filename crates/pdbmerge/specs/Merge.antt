@@ -1,5 +1,5 @@
 -- What the command `merge` writes and reports.
-use Rattle.std.specs.Prelude.{ℕ, ◌≡◌, ◌≢◌, List, ◌++◌, Option, codes}
+use Rattle.std.specs.Prelude.{ℕ, ◌≢◌, List, ◌++◌, Option, codes}
 use Rattle.std.specs.Io.KnownBytes.{Appends}
 use Rattle.msf_streams.specs.Woven.{AppendsPart}
 use Rattle.pdb_info.specs.Settings.{SettingsView}
@@ -30,7 +30,7 @@ WroteAndBrokeOff files settings old new told_before told_after =
     (summary : Summary) × Wrote files settings old new summary × AppendsPart told_before told_after (summary_lines summary)
 
 -- this is why the command is refused: the files are, by this fault; or there is no memory; or a sink broke
-abbrev pub IsNotMerged : List (List ℕ) → ℕ → RunFault → Type 0
+abbrev pub IsNotMerged : {A : Type 0} → List (List ℕ) → ℕ → RunFault A → Type 0
 IsNotMerged files limit (Merge inner) = Stops files limit inner × (inner ≢ merge.Memory)
 IsNotMerged files limit Memory = Unit {0}
 IsNotMerged files limit Write = Unit {0}

@@ -41,7 +41,7 @@ pub record ShowsRecord (index : ℕ) (file text : List ℕ) : Type 0 where
   pub lines : text ≡ bytes_line bytes ++ flat_map (place_line bytes) places ++ name_lines (name_of bytes)
 
 -- this is the first fault on the way to the record of this type index: of the file's type records, else that none has the index, else of that record
-abbrev pub HasNoRecord : ℕ → List ℕ → RunFault → Type 0
+abbrev pub HasNoRecord : {A : Type 0} → ℕ → List ℕ → RunFault A → Type 0
 HasNoRecord index file (NoRecord missing) = (records : List (List ℕ)) × HasTypeRecords file records × (missing ≡ index) × (record_of records index ≡ None)
 HasNoRecord index file (Leaf at fault) = (records : List (List ℕ)) × (bytes : List ℕ) × HasTypeRecords file records × (at ≡ index) × (record_of records index ≡ Some bytes) × (first_failing (record_checks bytes) ≡ Some fault)
 HasNoRecord index file fault = HasNoTypeRecords file fault

@@ -33,7 +33,7 @@ abbrev pub ShowsRecords : List ℕ → List ℕ → Type 0
 ShowsRecords file text = (records : List (List ℕ)) × HasTypeRecords file records × (text ≡ record_lines 0x1000 records)
 
 -- this is the first fault of the file on the way to its type records: of its layout, else that it has no stream 2, else of that stream
-abbrev pub HasNoTypeRecords : List ℕ → RunFault → Type 0
+abbrev pub HasNoTypeRecords : {A : Type 0} → List ℕ → RunFault A → Type 0
 HasNoTypeRecords file (Msf fault) = first_failing (layout_checks file) ≡ Some fault
 HasNoTypeRecords file (Stream fault) = (layout : LayoutView) × HasLayout file layout × (length layout.streams ≤ 2) × (fault ≡ NoStream 2)
 HasNoTypeRecords file (Tpi fault) = (layout : LayoutView) × (stream : List ℕ) × HasLayout file layout × (stream_text file layout 2 ≡ Some stream) × IsFirstFault stream fault

@@ -17,23 +17,23 @@ PrintsPart Shows limit left_before left_after taken_before taken_after =
     (file : List ℕ) × (text : List ℕ) × (count : ℕ) × GivesAll left_before left_after limit file × Shows file text × (count < length text) × Appends taken_before taken_after (take count text)
 
 -- the source gave a file that is refused with this fault
-abbrev pub GivesRefused : (List ℕ → RunFault → Type 0) → ℕ → Option (List ℕ) → Option (List ℕ) → RunFault → Type 0
+abbrev pub GivesRefused : {A : Type 0} → (List ℕ → RunFault A → Type 0) → ℕ → Option (List ℕ) → Option (List ℕ) → RunFault A → Type 0
 GivesRefused Refuses limit left_before left_after fault = (file : List ℕ) × GivesAll left_before left_after limit file × Refuses file fault
 
 -- where the fault is one of reading, this holds of it
-abbrev pub IfRead : (ReadFault → Type 0) → RunFault → Type 0
+abbrev pub IfRead : {A : Type 0} → (ReadFault → Type 0) → RunFault A → Type 0
 IfRead P (Read fault) = P fault
 IfRead P _ = Unit {0}
 
 -- where the fault is one of the file, this holds of it
-abbrev pub IfOfFile : (RunFault → Type 0) → RunFault → Type 0
+abbrev pub IfOfFile : {A : Type 0} → (RunFault A → Type 0) → RunFault A → Type 0
 IfOfFile P (Read fault) = Unit {0}
 IfOfFile P Memory = Unit {0}
 IfOfFile P Write = Unit {0}
 IfOfFile P fault = P fault
 
 -- a fault that can come of making the text
-abbrev pub IsOfText : RunFault → Type 0
+abbrev pub IsOfText : {A : Type 0} → RunFault A → Type 0
 IsOfText (Read fault) = ⊥
 IsOfText Write = ⊥
 IsOfText _ = Unit {0}

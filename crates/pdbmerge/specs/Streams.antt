@@ -48,6 +48,6 @@ abbrev pub ShowsStreams : List ℕ → List ℕ → Type 0
 ShowsStreams file text = (layout : LayoutView) × HasLayout file layout × (text ≡ container_lines file layout ++ stream_lines 0 layout.streams)
 
 -- this is the first fault of the file on the way to its layout
-abbrev pub HasNoLayout : List ℕ → RunFault → Type 0
+abbrev pub HasNoLayout : {A : Type 0} → List ℕ → RunFault A → Type 0
 HasNoLayout file (Msf fault) = first_failing (layout_checks file) ≡ Some fault
 HasNoLayout file _ = ⊥

@@ -49,6 +49,6 @@ HasLeafFault records index fault =
     × AllByRecursion IsChecked before × (index ≡ 0x1000 + length before) × (first_failing (record_checks bytes) ≡ Some fault)
 
 -- this is the first fault on the way to the types: of the file's type records, else of the first record whose leaf is at fault
-abbrev pub HasNoTypes : List ℕ → RunFault → Type 0
+abbrev pub HasNoTypes : {A : Type 0} → List ℕ → RunFault A → Type 0
 HasNoTypes file (Leaf index fault) = (records : List (List ℕ)) × HasTypeRecords file records × HasLeafFault records index fault
 HasNoTypes file fault = HasNoTypeRecords file fault

@@ -33,12 +33,12 @@ fn push_checked<A: Allocator>(
 #[derive(Clone, Copy, Debug)]
 struct Check;
 
-impl Show for Check {
+impl<A: Allocator + Copy> Show<A> for Check {
     ghost shows = { λ _. ShowsChecked };
 
     ghost refuses = { λ _. HasNoAccepted };
 
-    fn text<A: Allocator + Copy>(&self, alloc: A, file: &[u8]) -> Result<String<A>, RunFault> {
+    fn text(&self, alloc: A, file: &[u8]) -> Result<String<A>, RunFault<A>> {
         let mut buffer = Buffer::new(alloc);
         let types = read_types(alloc, file, &mut buffer)?;
         let mut text = String::new(alloc);
@@ -57,15 +57,15 @@ impl Show for Check {
 ///
 /// The faults come in this order: those of reading; those of the container; a container without
 /// a stream 1; a stream 1 with fewer bytes than a header; a container without a stream 2; those of
-/// that stream; those of its records, in order, of each its leaf and then its references; and that
-/// the text wasn't taken whole. All of the input is read, and the whole text is made, before any
+/// that stream; those of its records, in order, of each its leaf and then its references; a cycle
+/// of references; and that the text wasn't taken whole. All of the input is read, and the whole text is made, before any
 /// of it is written.
 pub fn run_check<R: Source, W: Sink, A: Allocator + Copy>(
     alloc: A,
     input: &mut R,
     limit: u32,
     out: &mut W,
-) -> Result<(), RunFault>
+) -> Result<(), RunFault<A>>
     ensures value { OnOk result (Prints ShowsChecked limit
         (R.left input.old) (R.left input.new) (W.taken out.old) (W.taken out.new)) }
     ensures read { IfErr result (IfRead (IsNotRead (R.left input.old) (R.left input.new) (R.is_broken input.new) limit)) }

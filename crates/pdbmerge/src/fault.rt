@@ -10,7 +10,7 @@ use msf_blocks::{MsfFault, NotTaken};
 use msf_streams::StreamFault;
 use pdb_info::InfoFault;
 use pdb_merge::{MergeFault, OutFault, PdbFault};
-use std::alloc::AllocError;
+use std::alloc::{AllocError, Allocator, Global};
 use thiserror::Error;
 use tpi_records::TpiFault;
 
@@ -18,7 +18,7 @@ use tpi_records::TpiFault;
 ///
 /// Want of memory is `Memory` wherever it was met: the faults inside the others never are it.
 #[derive(Debug, PartialEq, Eq, Drop, Error)]
-pub enum RunFault {
+pub enum RunFault<A: Allocator = Global> {
     /// The input wasn't read to its end.
     #[error("{0}")]
     Read(ReadFault),
@@ -36,10 +36,10 @@ pub enum RunFault {
     Tpi(TpiFault),
     /// The file isn't accepted.
     #[error("{0}")]
-    Pdb(PdbFault),
+    Pdb(PdbFault<A>),
     /// The files can't be merged.
     #[error("{0}")]
-    Merge(MergeFault),
+    Merge(MergeFault<A>),
     /// No type record has this index.
     #[error("39 NoRecord {0:#x}")]
     NoRecord(u32),
@@ -54,26 +54,26 @@ pub enum RunFault {
     Write,
 }
 
-impl From<AllocError> for RunFault {
+impl<A: Allocator> From<AllocError> for RunFault<A> {
     ghost from_gives = { λ _ fault. fault ≡ Memory };
 
-    fn from(_error: AllocError) -> RunFault {
+    fn from(_error: AllocError) -> RunFault<A> {
         RunFault::Memory
     }
 }
 
-impl From<NotTaken> for RunFault {
+impl<A: Allocator> From<NotTaken> for RunFault<A> {
     ghost from_gives = { λ _ fault. fault ≡ Write };
 
-    fn from(_error: NotTaken) -> RunFault {
+    fn from(_error: NotTaken) -> RunFault<A> {
         RunFault::Write
     }
 }
 
-impl From<ReadFault> for RunFault {
+impl<A: Allocator> From<ReadFault> for RunFault<A> {
     ghost from_gives = { λ inner fault. fault ≡ of_read inner };
 
-    fn from(fault: ReadFault) -> RunFault {
+    fn from(fault: ReadFault) -> RunFault<A> {
         match fault {
             ReadFault::Memory => RunFault::Memory,
             fault => RunFault::Read(fault),
@@ -81,10 +81,10 @@ impl From<ReadFault> for RunFault {
     }
 }
 
-impl From<MsfFault> for RunFault {
+impl<A: Allocator> From<MsfFault> for RunFault<A> {
     ghost from_gives = { λ inner fault. fault ≡ of_msf inner };
 
-    fn from(fault: MsfFault) -> RunFault {
+    fn from(fault: MsfFault) -> RunFault<A> {
         match fault {
             MsfFault::Memory => RunFault::Memory,
             fault => RunFault::Msf(fault),
@@ -92,10 +92,10 @@ impl From<MsfFault> for RunFault {
     }
 }
 
-impl From<StreamFault> for RunFault {
+impl<A: Allocator> From<StreamFault> for RunFault<A> {
     ghost from_gives = { λ inner fault. fault ≡ of_stream inner };
 
-    fn from(fault: StreamFault) -> RunFault {
+    fn from(fault: StreamFault) -> RunFault<A> {
         match fault {
             StreamFault::Memory => RunFault::Memory,
             fault => RunFault::Stream(fault),
@@ -103,10 +103,10 @@ impl From<StreamFault> for RunFault {
     }
 }
 
-impl From<InfoFault> for RunFault {
+impl<A: Allocator> From<InfoFault> for RunFault<A> {
     ghost from_gives = { λ inner fault. fault ≡ of_info inner };
 
-    fn from(fault: InfoFault) -> RunFault {
+    fn from(fault: InfoFault) -> RunFault<A> {
         match fault {
             InfoFault::Memory => RunFault::Memory,
             fault => RunFault::Info(fault),
@@ -114,10 +114,10 @@ impl From<InfoFault> for RunFault {
     }
 }
 
-impl From<TpiFault> for RunFault {
+impl<A: Allocator> From<TpiFault> for RunFault<A> {
     ghost from_gives = { λ inner fault. fault ≡ of_tpi inner };
 
-    fn from(fault: TpiFault) -> RunFault {
+    fn from(fault: TpiFault) -> RunFault<A> {
         match fault {
             TpiFault::Memory => RunFault::Memory,
             fault => RunFault::Tpi(fault),
@@ -125,10 +125,10 @@ impl From<TpiFault> for RunFault {
     }
 }
 
-impl From<PdbFault> for RunFault {
+impl<A: Allocator> From<PdbFault<A>> for RunFault<A> {
     ghost from_gives = { λ inner fault. fault ≡ of_pdb inner };
 
-    fn from(fault: PdbFault) -> RunFault {
+    fn from(fault: PdbFault<A>) -> RunFault<A> {
         match fault {
             PdbFault::Memory => RunFault::Memory,
             fault => RunFault::Pdb(fault),
@@ -136,10 +136,10 @@ impl From<PdbFault> for RunFault {
     }
 }
 
-impl From<MergeFault> for RunFault {
+impl<A: Allocator> From<MergeFault<A>> for RunFault<A> {
     ghost from_gives = { λ inner fault. fault ≡ of_merge inner };
 
-    fn from(fault: MergeFault) -> RunFault {
+    fn from(fault: MergeFault<A>) -> RunFault<A> {
         match fault {
             MergeFault::Memory => RunFault::Memory,
             fault => RunFault::Merge(fault),
@@ -147,10 +147,10 @@ impl From<MergeFault> for RunFault {
     }
 }
 
-impl From<OutFault> for RunFault {
+impl<A: Allocator> From<OutFault<A>> for RunFault<A> {
     ghost from_gives = { λ inner fault. fault ≡ of_out inner };
 
-    fn from(fault: OutFault) -> RunFault {
+    fn from(fault: OutFault<A>) -> RunFault<A> {
         match fault {
             OutFault::Merge(fault) => RunFault::from(fault),
             OutFault::Memory => RunFault::Memory,

@@ -90,12 +90,12 @@ fn push_features<A: Allocator>(text: &mut String<A>, features: &[u32]) -> Result
 #[derive(Clone, Copy, Debug)]
 struct Info;
 
-impl Show for Info {
+impl<A: Allocator + Copy> Show<A> for Info {
     ghost shows = { λ _. ShowsInfo };
 
     ghost refuses = { λ _. HasNoInfo };
 
-    fn text<A: Allocator + Copy>(&self, alloc: A, file: &[u8]) -> Result<String<A>, RunFault> {
+    fn text(&self, alloc: A, file: &[u8]) -> Result<String<A>, RunFault<A>> {
         let layout = Layout::read(alloc, file)?;
         let stream = gather(alloc, file, &layout, INFO_STREAM)?;
         let info = pdb_info::Info::read(alloc, &stream)?;
@@ -118,7 +118,7 @@ pub fn run_info<R: Source, W: Sink, A: Allocator + Copy>(
     input: &mut R,
     limit: u32,
     out: &mut W,
-) -> Result<(), RunFault>
+) -> Result<(), RunFault<A>>
     ensures value { OnOk result (Prints ShowsInfo limit
         (R.left input.old) (R.left input.new) (W.taken out.old) (W.taken out.new)) }
     ensures read { IfErr result (IfRead (IsNotRead (R.left input.old) (R.left input.new) (R.is_broken input.new) limit)) }

@@ -33,7 +33,7 @@ fn report_on<V: Sink, A: Allocator>(
     alloc: A,
     summary: &Summary,
     report: &mut V,
-) -> Result<(), RunFault>
+) -> Result<(), RunFault<A>>
     ensures value { OnOk result (Appends (V.taken report.old) (V.taken report.new) (summary_lines summary.now)) }
     ensures fault { IfErr result (λ fault. (fault ≡ RunFault.Memory) ⊎ (fault ≡ RunFault.Write)) }
     ensures write { result ≡ Err RunFault.Write → (V.is_broken report.new ≡ true) × AppendsPart (V.taken report.old) (V.taken report.new) (summary_lines summary.now) }
@@ -59,20 +59,20 @@ pub fn run_merge<W: Sink, V: Sink, S: BuildHasher + Drop, A: Allocator + Copy>(
     out: &mut W,
     report: &mut V,
     hasher: S,
-) -> Result<(), RunFault>
+) -> Result<(), RunFault<A>>
     ensures value { OnOk result (WroteAndReported (texts_of files.now) settings.now (W.taken out.old) (W.taken out.new) (V.taken report.old) (V.taken report.new)) }
     ensures can { OnOk result (CanMerge (texts_of files.now) settings.now.limit) }
     // Files that can be merged are refused only where memory is, or by a sink.
     ensures found { CanMerge (texts_of files.now) settings.now.limit → IfErr result (λ fault. (fault ≡ RunFault.Memory) ⊎ (fault ≡ RunFault.Write)) }
     ensures first { IfErr result (IsNotMerged (texts_of files.now) settings.now.limit) }
     // Files that are refused are refused in any order.
-    ensures any_order { IfErr result (λ fault. (inner : MergeFault) → fault ≡ RunFault.Merge inner
+    ensures any_order { IfErr result (λ fault. (inner : MergeFault A) → fault ≡ RunFault.Merge inner
         → (others : List (List ℕ)) → SameFiles (texts_of files.now) others → CanMerge others settings.now.limit → ⊥) }
     ensures write { result ≡ Err RunFault.Write → ((W.is_broken out.new ≡ true) × WrotePart (texts_of files.now) settings.now (W.taken out.old) (W.taken out.new) × (report.new ≡ report.old))
         ⊎ ((V.is_broken report.new ≡ true) × WroteAndBrokeOff (texts_of files.now) settings.now (W.taken out.old) (W.taken out.new) (V.taken report.old) (V.taken report.new)) }
     // Without memory, nothing was written, or the whole file and no report.
     ensures memory { result ≡ Err RunFault.Memory → (report.new ≡ report.old) × ((out.new ≡ out.old) ⊎ WroteWhole (texts_of files.now) settings.now (W.taken out.old) (W.taken out.new)) }
-    ensures untouched { IfErr result (λ fault. (inner : MergeFault) → fault ≡ RunFault.Merge inner → (out.new ≡ out.old) × (report.new ≡ report.old)) }
+    ensures untouched { IfErr result (λ fault. (inner : MergeFault A) → fault ≡ RunFault.Merge inner → (out.new ≡ out.old) × (report.new ≡ report.old)) }
 {
     let summary = merge_to(alloc, files, settings, out, hasher)?;
     report_on(alloc, &summary, report)

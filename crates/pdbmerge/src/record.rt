@@ -106,12 +106,12 @@ struct Record {
     index: u32,
 }
 
-impl Show for Record {
+impl<A: Allocator + Copy> Show<A> for Record {
     ghost shows = { λ c. ShowsRecord c.index };
 
     ghost refuses = { λ c. HasNoRecord c.index };
 
-    fn text<A: Allocator + Copy>(&self, alloc: A, file: &[u8]) -> Result<String<A>, RunFault> {
+    fn text(&self, alloc: A, file: &[u8]) -> Result<String<A>, RunFault<A>> {
         let index = self.index;
         let layout = Layout::read(alloc, file)?;
         let stream = gather(alloc, file, &layout, TPI_STREAM)?;
@@ -139,7 +139,7 @@ pub fn run_record<R: Source, W: Sink, A: Allocator + Copy>(
     limit: u32,
     index: u32,
     out: &mut W,
-) -> Result<(), RunFault>
+) -> Result<(), RunFault<A>>
     ensures value { OnOk result (Prints (ShowsRecord index) limit
         (R.left input.old) (R.left input.new) (W.taken out.old) (W.taken out.new)) }
     ensures read { IfErr result (IfRead (IsNotRead (R.left input.old) (R.left input.new) (R.is_broken input.new) limit)) }

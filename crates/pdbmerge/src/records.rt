@@ -60,12 +60,12 @@ fn record_lines<A: Allocator + Copy>(
 #[derive(Clone, Copy, Debug)]
 struct Records;
 
-impl Show for Records {
+impl<A: Allocator + Copy> Show<A> for Records {
     ghost shows = { λ _. ShowsRecords };
 
     ghost refuses = { λ _. HasNoTypeRecords };
 
-    fn text<A: Allocator + Copy>(&self, alloc: A, file: &[u8]) -> Result<String<A>, RunFault> {
+    fn text(&self, alloc: A, file: &[u8]) -> Result<String<A>, RunFault<A>> {
         let layout = Layout::read(alloc, file)?;
         let stream = gather(alloc, file, &layout, TPI_STREAM)?;
         let records = tpi_records::Records::read(alloc, &stream)?;
@@ -84,7 +84,7 @@ pub fn run_records<R: Source, W: Sink, A: Allocator + Copy>(
     input: &mut R,
     limit: u32,
     out: &mut W,
-) -> Result<(), RunFault>
+) -> Result<(), RunFault<A>>
     ensures value { OnOk result (Prints ShowsRecords limit
         (R.left input.old) (R.left input.new) (W.taken out.old) (W.taken out.new)) }
     ensures read { IfErr result (IfRead (IsNotRead (R.left input.old) (R.left input.new) (R.is_broken input.new) limit)) }

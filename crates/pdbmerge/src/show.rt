@@ -11,15 +11,15 @@ use msf_blocks::{Sink, Source, put_all};
 use std::alloc::Allocator;
 
 /// A command that shows a file: it makes a text of the file's bytes.
-pub trait Show {
+pub trait Show<A: Allocator + Copy> {
     /// The command prints this text for this file.
     ghost shows: { Self → List ℕ → List ℕ → Type 0 };
 
     /// The command refuses this file with this fault, the first that it meets.
-    ghost refuses: { Self → List ℕ → RunFault → Type 0 };
+    ghost refuses: { Self → List ℕ → RunFault A → Type 0 };
 
     /// Makes the whole text.
-    fn text<A: Allocator + Copy>(&self, alloc: A, file: &[u8]) -> Result<String<A>, RunFault>
+    fn text(&self, alloc: A, file: &[u8]) -> Result<String<A>, RunFault<A>>
         ensures value { IfOk result (λ text. shows self.now file.now (string_bytes text)) }
         ensures first { IfErr result (λ fault. refuses self.now file.now fault ⊎ (fault ≡ RunFault.Memory)) }
         // It neither reads nor writes.
@@ -29,13 +29,13 @@ pub trait Show {
 /// Runs a command: reads all of the input, makes the whole text, then writes it.
 ///
 /// So whatever is refused, but for the writing itself, is refused before anything was written.
-pub fn run<C: Show, R: Source, W: Sink, A: Allocator + Copy>(
+pub fn run<C: Show<A>, R: Source, W: Sink, A: Allocator + Copy>(
     alloc: A,
     command: &C,
     input: &mut R,
     limit: u32,
     out: &mut W,
-) -> Result<(), RunFault>
+) -> Result<(), RunFault<A>>
     ensures value { OnOk result (Prints (C.shows command.now) limit
         (R.left input.old) (R.left input.new) (W.taken out.old) (W.taken out.new)) }
     ensures read { IfErr result (IfRead (IsNotRead (R.left input.old) (R.left input.new) (R.is_broken input.new) limit)) }

@@ -127,12 +127,12 @@ fn push_streams<A: Allocator, L: Allocator>(
 #[derive(Clone, Copy, Debug)]
 struct Streams;
 
-impl Show for Streams {
+impl<A: Allocator + Copy> Show<A> for Streams {
     ghost shows = { λ _. ShowsStreams };
 
     ghost refuses = { λ _. HasNoLayout };
 
-    fn text<A: Allocator + Copy>(&self, alloc: A, file: &[u8]) -> Result<String<A>, RunFault> {
+    fn text(&self, alloc: A, file: &[u8]) -> Result<String<A>, RunFault<A>> {
         let layout = Layout::read(alloc, file)?;
         let mut text = String::new(alloc);
         push_container(&mut text, file, &layout)?;
@@ -153,7 +153,7 @@ pub fn run_streams<R: Source, W: Sink, A: Allocator + Copy>(
     input: &mut R,
     limit: u32,
     out: &mut W,
-) -> Result<(), RunFault>
+) -> Result<(), RunFault<A>>
     ensures value { OnOk result (Prints ShowsStreams limit
         (R.left input.old) (R.left input.new) (W.taken out.old) (W.taken out.new)) }
     ensures read { IfErr result (IfRead (IsNotRead (R.left input.old) (R.left input.new) (R.is_broken input.new) limit)) }

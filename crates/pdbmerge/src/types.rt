@@ -102,7 +102,11 @@ fn push_line<A: Allocator>(text: &mut String<A>, index: u32, bytes: &[u8]) -> Re
 }
 
 /// Checks the leaf of a record, and adds its line.
-fn push_type<A: Allocator>(text: &mut String<A>, index: u32, bytes: &[u8]) -> Result<(), RunFault>
+fn push_type<A: Allocator>(
+    text: &mut String<A>,
+    index: u32,
+    bytes: &[u8],
+) -> Result<(), RunFault<A>>
     requires { IsRecord bytes.now }
     ensures value { OnOk result ((at : List ℕ) × HasPlaces bytes.now at × (string_bytes text.new ≡ string_bytes text.old ++ type_line index bytes.now at)) }
     ensures first { IfErr result (λ fault. ((inner : LeafFault) × (fault ≡ RunFault.Leaf index inner) × (first_failing (record_checks bytes.now) ≡ Some inner)) ⊎ (fault ≡ RunFault.Memory)) }
@@ -120,7 +124,7 @@ fn push_type<A: Allocator>(text: &mut String<A>, index: u32, bytes: &[u8]) -> Re
 fn type_lines<A: Allocator + Copy>(
     alloc: A,
     records: &Records<'_, A>,
-) -> Result<String<A>, RunFault>
+) -> Result<String<A>, RunFault<A>>
     ensures value { IfOk result (λ text. AreTypeLines 0x1000 records.now (string_bytes text)) }
     ensures first { IfErr result (λ fault. ((index : ℕ) × (inner : LeafFault) × (fault ≡ RunFault.Leaf index inner) × HasLeafFault records.now index inner) ⊎ (fault ≡ RunFault.Memory)) }
 {
@@ -139,12 +143,12 @@ fn type_lines<A: Allocator + Copy>(
 #[derive(Clone, Copy, Debug)]
 struct Types;
 
-impl Show for Types {
+impl<A: Allocator + Copy> Show<A> for Types {
     ghost shows = { λ _. ShowsTypes };
 
     ghost refuses = { λ _. HasNoTypes };
 
-    fn text<A: Allocator + Copy>(&self, alloc: A, file: &[u8]) -> Result<String<A>, RunFault> {
+    fn text(&self, alloc: A, file: &[u8]) -> Result<String<A>, RunFault<A>> {
         let layout = Layout::read(alloc, file)?;
         let stream = gather(alloc, file, &layout, TPI_STREAM)?;
         let records = Records::read(alloc, &stream)?;
@@ -165,7 +169,7 @@ pub fn run_types<R: Source, W: Sink, A: Allocator + Copy>(
     input: &mut R,
     limit: u32,
     out: &mut W,
-) -> Result<(), RunFault>
+) -> Result<(), RunFault<A>>
     ensures value { OnOk result (Prints ShowsTypes limit
         (R.left input.old) (R.left input.new) (W.taken out.old) (W.taken out.new)) }
     ensures read { IfErr result (IfRead (IsNotRead (R.left input.old) (R.left input.new) (R.is_broken input.new) limit)) }

@@ -1,16 +1,20 @@
 -- How a table grows by a record.
-use Rattle.std.proofs.Common.{◌≡◌, ◌≤◌, ◌<◌, ◌⊎◌, ◌%◌, ◌^◌, ◌+◌, ◌-◌, ◌↔◌, ℕ, List, [], ◌∷◌, ◌++◌, length, take, drop, get_or, refl, sym, ap, ◌∙◌, subst, arith, inl, inr, length-append}
+use Rattle.std.proofs.Common.{◌≡◌, ◌≤◌, ◌<◌, ◌⊎◌, ◌%◌, ◌^◌, ◌+◌, ◌-◌, ◌↔◌, ℕ, List, [], ◌∷◌, ◌++◌, length, take, drop, set, replicate, get_or, refl, sym, ap, ◌∙◌, subst, arith, inl, inr, length-append}
 use Rattle.std.proofs.lemmas.Bool.{cases_lt}
-use Rattle.std.proofs.lemmas.List.{take-append-le, take-append-drop, get_or_default, get_or_append_left}
-use Rattle.std.proofs.lemmas.List.Elements.{Contains-get_or}
+use Rattle.std.proofs.lemmas.List.{append_assoc, append-nil, length-replicate, length-set, take-append-le, take-append-drop, get_or_default, get_or_append_left, get_or_at, get_or-set_same, get_or-set_other}
+use Rattle.std.proofs.lemmas.List.Elements.{All-contains, Contains-get_or, Contains-push_cases, Contains-append_left}
+use Rattle.std.proofs.lemmas.List.Sums.{sum_by-cons}
 use Rattle.std.proofs.Math.ListN.{get_or-append}
 use Rattle.std.proofs.Math.Seq.{get_or-append_seam}
-use Rattle.std.specs.List.{AllByRecursion, Contains, concat}
+use Rattle.std.specs.List.{AllByRecursion, Contains, concat, sum_by}
+use Rattle.topological_order.specs.Order.{IsOrder}
+use Rattle.topological_order.proofs.WalkLaws.{none_in}
 use Rattle.tpi_records.specs.Records.{IsRecord}
 use Rattle.cv_leaves.specs.HasPlaces.{IsChecked}
 use Rattle.text_set.specs.TextSet.{Holds}
 use Rattle.type_trees.specs.References.{IsWhole, references, blanked, filled}
 use Rattle.type_trees.specs.Tree.{Tree, Branches, tree, no_branch, simple, branch, nothing, Stands, AreBranches, IsType, IsRanked, NamesLower}
+use Rattle.type_trees.specs.Named.{graph_of}
 use Rattle.type_trees.specs.Canon.{weight}
 use Rattle.type_trees.specs.Table.{AreBytes, IsTable, IsUnion, AreNumbered, EachNamed, renumber, renumbered}
 use Rattle.type_trees.specs.Checked.{AreTypes}
@@ -20,6 +24,8 @@ use Rattle.text_set.proofs.TextSetLaws.{four_each}
 use Rattle.type_trees.proofs.LeafLaws.{fill-kept, length-fill, take-fill, refs-fill, length-refs}
 use Rattle.type_trees.proofs.ReadLaws.{IsRecord-same}
 use Rattle.type_trees.proofs.TreeLaws.{one, at_position, tree_there}
+use Rattle.type_trees.proofs.NamedLaws.{many_nodes, concat_push}
+use Rattle.type_trees.proofs.OrderLaws.{NamesDone, next_in_order, order_weighs}
 use Rattle.type_trees.proofs.TableLaws.{stands_still, renumbered_stands, length-renumber, renumber-none, renumber-simple, renumber-named}
 use Rattle.type_trees.proofs.PushLaws.{table_grows}
 use Rattle.type_trees.proofs.NextLaws.{in_range, trees_of_table, table_weight, apart_of_table}
@@ -108,10 +114,6 @@ front_stands before after t front (i, stands) =
     (i, subst (λ (x : List (List ℕ)). Stands x i t) whole (stands_still before (drop (length before) after) i t stands))
 
 -- ---- One more record
-
--- each of these numbers is simple, or what it names is done
-abbrev pub NamesDone : (ℕ → Type 0) → List ℕ → Type 0
-NamesDone done ns = AllByRecursion (λ n. (n < 0x1000) ⊎ done (n - 0x1000)) ns
 
 done_placed : (records before after : List (List ℕ)) (f : ℕ → ℕ) (done : ℕ → Type 0) (ns : List ℕ) → Adds records before after f done → NamesDone done ns → AllByRecursion (HasPosition after f) ns
 done_placed records before after f done [] adds names = tt
@@ -213,17 +215,6 @@ adds_all records before after f done adds all t = (
   ],
 )
 
--- a record names earlier records alone, and these are done
-pub lower_done : (records : List (List ℕ)) (i : ℕ) (ns : List ℕ) → AllByRecursion (NamesLower records (λ k. k) i) ns → NamesDone (λ k. k < i) ns
-lower_done records i [] lower = tt
-lower_done records i (n ∷ ns) lower = (elim lower.0 [ inl small ↦ inl small | inr low ↦ inr low.1 ], lower_done records i ns lower.1)
-
--- each record that is named and done has a position
-pub numbered_done : (records before after : List (List ℕ)) (positions : List ℕ) (ns : List ℕ) → Adds records before after (λ p. get_or positions p 0) (λ k. k < length positions) → length after < 2 ^ 31 → NamesDone (λ k. k < length positions) ns → AreNumbered positions ns
-numbered_done records before after positions [] adds few names = tt
-numbered_done records before after positions (n ∷ ns) adds few names =
-    (elim names.0 [ inl small ↦ inl small | inr low ↦ inr (low, omega (arith, adds.inside (n - 0x1000) low, few)) ], numbered_done records before after positions ns adds few names.1)
-
 -- the trees of the table are the union, and they weigh as much as the table has bytes
 pub union_weighs : (before types after : List (List ℕ)) → IsTable after → ((t : Tree) → IsType after t ↔ (IsType before t ⊎ IsType types t)) → (l : List Tree) × IsUnion l before types × (weight l ≡ length (concat after))
 union_weighs before types after table same =
@@ -245,7 +236,7 @@ union_weighs before types after table same =
       table_weight after table,
     )
 
--- ---- Record by record, in the order of type indices
+-- ---- Record by record, in an order in which each comes after those that it names
 
 -- a table has few records
 pub table_few : (after : List (List ℕ)) → IsTable after → length (concat after) < 2 ^ 33 → length after < 2 ^ 31
@@ -253,46 +244,89 @@ table_few after table short = omega (arith, four_each after (λ k inside. (table
 
 -- a table grows by at most the bytes of the record that is added
 pub holds_short : (after grown : List (List ℕ)) (y : List ℕ) → Holds after grown y → length (concat grown) ≤ length (concat after) + length y
-holds_short after grown y holds = elim holds [ inl same ↦ rw same (omega arith) | inr more ↦ rw more.0 (omega (arith, length-concat-push after y)) ]
+holds_short after grown y holds = elim holds [ inl same ↦ rw same (omega arith) | inr more ↦ rw more.0 (omega (arith, concat_push after y)) ]
+
+-- some of the records are added, and these are left, in an order; together with those of the table the bytes that are left are few
+pub record IsAdding (records : List (List ℕ)) (left : List ℕ) (before after : List (List ℕ)) (positions : List ℕ) : Type 0 where
+  pub done : List ℕ
+  pub order : IsOrder (graph_of records) (done ++ left)
+  pub many : length positions ≡ length records
+  pub adds : Adds records before after (λ p. get_or positions p 0) (Contains done)
+  pub few : length (concat after) + sum_by (λ p. length (get_or records p [])) left < 2 ^ 33
+
+-- at the start none is added
+pub adding_starts : (records : List (List ℕ)) (left : List ℕ) (before : List (List ℕ)) (many : ℕ) (positions : List ℕ) → IsTable before → length (concat before) < 2 ^ 32 → length (concat records) < 2 ^ 32 → IsOrder (graph_of records) left
+    → many ≡ length records → positions ≡ replicate many 0 → IsAdding records left before before positions
+adding_starts records left before many positions table short all_short order same zeros = record {
+  done = [];
+  order = order;
+  many = ap length zeros ∙ length-replicate {A = ℕ} many 0 ∙ same;
+  adds = adds_none records before (λ p. get_or positions p 0) (Contains []) table (λ k on. none_in k on);
+  few = omega (arith, short, all_short, order_weighs records left order);
+}
+
+-- the next one is the position of a record
+pub adding_inside : (records : List (List ℕ)) (left others : List ℕ) (before after : List (List ℕ)) (positions : List ℕ) (p : ℕ) → IsAdding records left before after positions → left ≡ p ∷ others → p < length records
+adding_inside records left others before after positions p a split = (next_in_order records a.done left others (a.done ++ left) p a.order refl split).0
+
+-- the bytes of the next record are few beside those of the table
+pub adding_few : (records : List (List ℕ)) (left others : List ℕ) (before after : List (List ℕ)) (positions : List ℕ) (p : ℕ) → IsAdding records left before after positions → left ≡ p ∷ others
+    → length (concat after) + length (get_or records p []) + sum_by (λ q. length (get_or records q [])) others < 2 ^ 33
+adding_few records left others before after positions p a split =
+    let whole = ap (sum_by (λ q. length (get_or records q []))) split ∙ sum_by-cons (λ q. length (get_or records q [])) p others in
+    omega (arith, a.few, whole)
+
+-- each record that the next record names has a position in the table
+pub adding_numbered : (records : List (List ℕ)) (left others : List ℕ) (before after : List (List ℕ)) (positions : List ℕ) (p : ℕ) → IsAdding records left before after positions → left ≡ p ∷ others → AreNumbered positions (references (get_or records p []))
+adding_numbered records left others before after positions p a split =
+    numbered (references (get_or records p [])) (next_in_order records a.done left others (a.done ++ left) p a.order refl split).1
   where
-    length-concat-push : (texts : List (List ℕ)) (text : List ℕ) → length (concat (texts ++ text ∷ [])) ≡ length (concat texts) + length text
-    length-concat-push [] text = omega (arith, length-append text [])
-    length-concat-push (t ∷ texts) text = omega (arith, length-append t (concat (texts ++ text ∷ [])), length-append t (concat texts), length-concat-push texts text)
+    small : length after < 2 ^ 31
+    small = table_few after a.adds.table (omega (arith, adding_few records left others before after positions p a split))
 
--- the next record is done after all earlier ones
-in_order : (records before after grown : List (List ℕ)) (positions : List ℕ) (last : ℕ) → Adds records before after (λ p. get_or positions p 0) (λ k. k < length positions) → AreTypes records → AllByRecursion IsRecord records → length (concat after) < 2 ^ 33
-    → length positions < length records → AreBytes (renumbered (λ p. get_or positions p 0) (get_or records (length positions) [])) → Holds after grown (renumbered (λ p. get_or positions p 0) (get_or records (length positions) []))
-    → last < length grown → get_or grown last [] ≡ renumbered (λ p. get_or positions p 0) (get_or records (length positions) [])
-    → Adds records before grown (λ p. get_or (positions ++ last ∷ []) p 0) (λ k. k < length (positions ++ last ∷ []))
-in_order records before after grown positions last adds types framed short below bytes holds inside at =
-    let i : ℕ = length positions in
-    let few = table_few after adds.table short in
-    let frame : IsRecord (get_or records i []) = at_position IsRecord records i framed below in
-    adds_more records before after grown (λ p. get_or positions p 0) (λ p. get_or (positions ++ last ∷ []) p 0) (λ k. k < length positions) (λ k. k < length (positions ++ last ∷ [])) i last adds (omega (arith, few)) frame
-    (at_position IsChecked records i types.checked below, frame.long) (tree_there records i types.lower below) (lower_done records i (references (get_or records i [])) (types.lower i below)) bytes holds inside at
-    (λ k old. get_or_append_left positions (last ∷ []) 0 k old)
-    (get_or-append_seam positions last [] 0)
-    (λ k new. elim (cases_lt k i) [ inl old ↦ inl old | inr end ↦ inr (omega (arith, end, new, length-append positions (last ∷ []))) ])
+    inside : (q : ℕ) → Contains a.done q → q < length positions
+    inside q on = omega (arith, a.many, many_nodes records, All-contains (λ i. i < length (graph_of records)) (a.done ++ left) q a.order.inside (Contains-append_left a.done left q on))
 
-pub adds_next : (records before after grown : List (List ℕ)) (positions slice : List ℕ) (last : ℕ) (r : List ℕ) → Adds records before after (λ p. get_or positions p 0) (λ k. k < length positions) → AreTypes records → AllByRecursion IsRecord records → length (concat after) < 2 ^ 33
-    → r ≡ get_or records (length positions) [] → length positions < length records → slice ≡ positions → AreBytes (renumbered (λ p. get_or slice p 0) r) → Holds after grown (renumbered (λ p. get_or slice p 0) r)
-    → last < length grown → get_or grown last [] ≡ renumbered (λ p. get_or slice p 0) r
-    → Adds records before grown (λ p. get_or (positions ++ last ∷ []) p 0) (λ k. k < length (positions ++ last ∷ []))
-adds_next records before after grown positions slice last r adds types framed short is below same bytes holds inside found =
-    in_order records before after grown positions last adds types framed short below (rw (is, same) at bytes) (rw (is, same) at holds) inside (rw (is, same) at found)
+    numbered : (ns : List ℕ) → NamesDone (Contains a.done) ns → AreNumbered positions ns
+    numbered [] names = tt
+    numbered (n ∷ ns) names = (elim names.0 [ inl low ↦ inl low | inr on ↦ inr (inside (n - 0x1000) on, omega (arith, a.adds.inside (n - 0x1000) on, small)) ], numbered ns names.1)
 
--- each record that the next record names has a position
-pub next_numbered : (records before after : List (List ℕ)) (positions slice r : List ℕ) → Adds records before after (λ p. get_or positions p 0) (λ k. k < length positions) → AreTypes records → length (concat after) < 2 ^ 33
-    → r ≡ get_or records (length positions) [] → length positions < length records → slice ≡ positions → AreNumbered slice (references r)
-next_numbered records before after positions slice r adds types short is below same =
-    rw (is, same) (numbered_done records before after positions (references (get_or records (length positions) [])) adds (table_few after adds.table short)
-    (lower_done records (length positions) (references (get_or records (length positions) [])) (types.lower (length positions) below)))
+-- one more record is added
+pub adding_more : (records : List (List ℕ)) (left others : List ℕ) (before after grown : List (List ℕ)) (positions : List ℕ) (p last : ℕ) → AreTypes records → AllByRecursion IsRecord records → IsAdding records left before after positions → left ≡ p ∷ others
+    → AreBytes (renumbered (λ q. get_or positions q 0) (get_or records p [])) → Holds after grown (renumbered (λ q. get_or positions q 0) (get_or records p []))
+    → last < length grown → get_or grown last [] ≡ renumbered (λ q. get_or positions q 0) (get_or records p []) → IsAdding records others before grown (set positions p last)
+adding_more records left others before after grown positions p last types framed a split bytes holds inside at =
+    let next = next_in_order records a.done left others (a.done ++ left) p a.order refl split in
+    let frame : IsRecord (get_or records p []) = at_position IsRecord records p framed next.0 in
+    let checked : IsChecked (get_or records p []) = at_position IsChecked records p types.checked next.0 in
+    let few = adding_few records left others before after positions p a split in
+    record {
+      done = a.done ++ p ∷ [];
+      order = subst (IsOrder (graph_of records)) (all ∙ sym (append_assoc a.done (p ∷ []) others)) a.order;
+      many = length-set positions p last ∙ a.many;
+      adds = adds_more records before after grown (λ q. get_or positions q 0) (λ q. get_or (set positions p last) q 0) (Contains a.done) (Contains (a.done ++ p ∷ [])) p last a.adds
+          (omega (arith, table_few after a.adds.table (omega (arith, few)))) frame (checked, frame.long) (tree_there records types.ranked.0 p types.ranked.1 next.0) next.1 bytes holds inside at
+          (λ k old. get_or-set_other positions p k last 0 (apart next.2 k old))
+          (get_or-set_same positions p last 0 (omega (arith, next.0, a.many)))
+          (λ k new. elim (Contains-push_cases a.done p k new) [ inl old ↦ inl old | inr same ↦ inr (sym same) ]);
+      few = omega (arith, few, holds_short after grown (renumbered (λ q. get_or positions q 0) (get_or records p [])) holds, renumbered_long (λ q. get_or positions q 0) (get_or records p []) frame checked);
+    }
+  where
+    all : a.done ++ left ≡ a.done ++ p ∷ others
+    all = ap (λ (xs : List ℕ). a.done ++ xs) split
 
--- the table and the records that are left stay few together: one record goes over
-pub short_still : (after grown : List (List ℕ)) (r y : List ℕ) (left others : List (List ℕ)) → Holds after grown y → length y ≡ length r → left ≡ r ∷ others → length (concat after) + length (concat left) < 2 ^ 33 → length (concat grown) + length (concat others) < 2 ^ 33
-short_still after grown r y left others holds same split short =
-    let whole : length (concat left) ≡ length r + length (concat others) = ap (λ (x : List (List ℕ)). length (concat x)) split ∙ length-append r (concat others) in
-    omega (arith, short, whole, same, holds_short after grown y holds)
+    -- what is done is not the next one: the order has each record once
+    apart : length a.done < length (a.done ++ left) → (k : ℕ) → Contains a.done k → k ≡ p → ⊥
+    apart below k old same =
+        let first : get_or (a.done ++ left) old.0 0 ≡ k = get_or_append_left a.done left 0 old.0 old.1 ∙ get_or_default a.done old.0 0 k old.1 ∙ old.2 in
+        let second : get_or (a.done ++ left) (length a.done) 0 ≡ p = ap (λ (xs : List ℕ). get_or xs (length a.done) 0) all ∙ get_or_at a.done p others 0 (length a.done) refl in
+        a.order.once old.0 (length a.done) 0 old.1 below (first ∙ same ∙ sym second)
+
+-- at the end the table has the types of both
+pub all_added : (records : List (List ℕ)) (left : List ℕ) (before after : List (List ℕ)) (positions : List ℕ) → IsAdding records left before after positions → left ≡ [] → (t : Tree) → IsType after t ↔ (IsType before t ⊎ IsType records t)
+all_added records left before after positions a none =
+    let all : a.done ++ left ≡ a.done = ap (λ (xs : List ℕ). a.done ++ xs) none ∙ append-nil a.done in
+    adds_all records before after (λ p. get_or positions p 0) (Contains a.done) a.adds (λ k inside. subst (λ (xs : List ℕ). Contains xs k) all (a.order.whole k (omega (arith, inside, many_nodes records))))
 
 -- a table that has more bytes than the limit tells the weight of the union
 pub too_large : (before types after : List (List ℕ)) (found limit : ℕ) → (l : List Tree) × IsUnion l before types × (weight l ≡ length (concat after)) → found ≡ length (concat after) → limit < found

@@ -24,6 +24,7 @@ use Rattle.type_trees.specs.Canon.{text, texts}
 use Rattle.type_trees.specs.Table.{IsTable, AreNumbered, renumbered}
 use Rattle.type_trees.specs.Rows.{row, AreRows, LevelOf}
 use Rattle.type_trees.specs.Finish.{Listed, AtLevel, Numbered, IsCanonOf}
+use Rattle.type_trees.proofs.NamedLaws.{concat_push}
 use Rattle.type_trees.proofs.AddLaws.{renumbered_long}
 use Rattle.type_trees.proofs.NextLaws.{in_range}
 use Rattle.type_trees.proofs.PushLaws.{nothing_listed}
@@ -108,10 +109,6 @@ later_short r from position le =
     let far : position ≡ from + (position - from) = omega (arith, le) in
     let same : drop position r ≡ drop (position - from) (drop from r) = ap (λ (n : ℕ). drop n r) far ∙ sym (drop-drop (position - from) from r) in
     omega (arith, shorter (drop from r) (position - from), ap (λ (x : List (List ℕ)). length (concat x)) same)
-
-concat_push : (texts : List (List ℕ)) (text : List ℕ) → length (concat (texts ++ text ∷ [])) ≡ length (concat texts) + length text
-concat_push [] text = omega (arith, length-append text [])
-concat_push (t ∷ texts) text = omega (arith, length-append t (concat (texts ++ text ∷ [])), length-append t (concat texts), concat_push texts text)
 
 concat_both : (xs ys : List (List ℕ)) → length (concat (xs ++ ys)) ≡ length (concat xs) + length (concat ys)
 concat_both [] ys = omega arith

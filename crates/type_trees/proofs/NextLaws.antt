@@ -24,7 +24,7 @@ first_trees r table (suc n) le =
     let before = first_trees r table n (omega arith) in
     let s : List Tree = before.0 in
     let many : length s ≡ n = before.1 in
-    let t = tree_there r n table.lower (omega arith) in
+    let t = tree_there r (λ i. i) n table.lower (omega arith) in
     let long : length (s ++ t.0 ∷ []) ≡ length s + 1 = length-append s (t.0 ∷ []) in (
       s ++ t.0 ∷ [],
       omega arith,

@@ -73,9 +73,9 @@ some_below records rank ranked (suc k) i lt inside =
     let bs = grown records rank i below (references (get_or records i [])) (ranked i inside) in
     (tree (blanked (get_or records i [])) bs.0, (inside, refl, bs.1))
 
--- a tree stands at each position of records that name earlier ones alone
-pub tree_there : (records : List (List ℕ)) (i : ℕ) → IsRanked records (λ k. k) → i < length records → (t : Tree) × Stands records i t
-tree_there records i ranked inside = some_below records (λ k. k) ranked (suc i) i (omega arith) inside
+-- a tree stands at each position of records that have a rank
+pub tree_there : (records : List (List ℕ)) (rank : ℕ → ℕ) (i : ℕ) → IsRanked records rank → i < length records → (t : Tree) × Stands records i t
+tree_there records rank i ranked inside = some_below records rank ranked (suc (rank i)) i (omega arith) inside
 
 -- ---- Closed trees
 

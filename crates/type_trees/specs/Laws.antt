@@ -5,6 +5,7 @@ use Rattle.cv_leaves.specs.HasPlaces.{IsChecked}
 use Rattle.type_trees.specs.Tree.{Tree, nothing, branches_of, trees_in, IsClosed, Stands, IsType, IsRanked}
 use Rattle.type_trees.specs.Canon.{text, texts, weight, HoldsBranches, Canonical}
 use Rattle.type_trees.specs.Table.{AreGood}
+use Rattle.type_trees.specs.Checked.{IsCycle}
 
 -- exactly one tree stands at each position of records that are whole and ranked, and it is closed
 abbrev pub OneTreeEach : Type 0
@@ -15,6 +16,14 @@ OneTreeEach =
 -- each branch that is a tree of a type of records is a type of these records
 abbrev pub BranchesAreTypes : Type 0
 BranchesAreTypes = (records : List (List ℕ)) (t : Tree) → IsType records t → AllByRecursion (IsType records) (trees_in (branches_of t))
+
+-- records have at most one list of those that lead into a cycle
+abbrev pub OneCycle : Type 0
+OneCycle = (records : List (List ℕ)) (indices others : List ℕ) → IsCycle records indices → IsCycle records others → indices ≡ others
+
+-- records of which some lead into a cycle have no rank
+abbrev pub CyclesHaveNoRank : Type 0
+CyclesHaveNoRank = (records : List (List ℕ)) (indices : List ℕ) (rank : ℕ → ℕ) → IsCycle records indices → IsRanked records rank → ⊥
 
 -- two closed trees with equal texts are equal, where l holds their branches
 abbrev pub TextsDiffer : Type 0

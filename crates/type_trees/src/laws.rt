@@ -4,7 +4,7 @@
 //! here. The *text* of a tree is its record, which names other trees by their positions in the
 //! list.
 
-ghost use Rattle.type_trees.specs.Laws.{OneTreeEach, BranchesAreTypes, TextsDiffer, OneCanonicalList, CanonicalReadsBack, WeightOfTexts, WeightGrows};
+ghost use Rattle.type_trees.specs.Laws.{OneTreeEach, BranchesAreTypes, OneCycle, CyclesHaveNoRank, TextsDiffer, OneCanonicalList, CanonicalReadsBack, WeightOfTexts, WeightGrows};
 
 /// Exactly one tree stands at each position of records that have places, where each record has a
 /// higher rank than those that it names. That tree is closed.
@@ -15,6 +15,17 @@ pub fn one_tree_each()
 /// Each tree branch of a type of some records is a type of these records.
 pub fn branches_are_types()
     ensures { BranchesAreTypes }
+{}
+
+/// There is at most one list of the records that lead into a cycle.
+pub fn one_cycle()
+    ensures { OneCycle }
+{}
+
+/// Records of which some lead into a cycle have no rank that makes each of them higher than those
+/// that it names.
+pub fn cycles_have_no_rank()
+    ensures { CyclesHaveNoRank }
 {}
 
 /// Two trees with equal texts are equal, where the list holds their branches.

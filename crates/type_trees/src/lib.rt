@@ -7,10 +7,12 @@
 //! type exactly where their trees are equal. No tree is ever built here: trees are words of the
 //! contracts.
 //!
-//! - [`Types::check`] makes sure that each record has places, and that each reference is simple or
-//!   names an earlier record. [`TypeFault`] is the first check that fails.
+//! - [`Types::check`] makes sure that each record has places, that each reference is simple or
+//!   names a record, and that no record leads into a cycle of references. [`TypeFault`] is the
+//!   first check that fails.
 //! - [`Types`] lends the records and knows how deep each type is: a type that names no record has
 //!   the depth 0, and any other one is one deeper than the deepest type that it names.
+//!   [`Types::in_order`] lists them so that each comes after those that it names.
 //! - [`Table`] holds a set of types, each once, in the order in which they came. Types are added
 //!   up to a limit of bytes, and a refusal leaves the table as it was.
 //! - [`Canon`] holds a set of types as its *canonical list*: each type once, in the order of the
@@ -18,12 +20,13 @@
 //!   by their positions in the list. Equal sets have equal canonical lists.
 //!
 //! What is proved: records are accepted exactly where they make types (`AreTypes` of
-//! `specs/Checked`), unless memory is refused; a refusal names the first check that fails; each
-//! depth is that of the tree that stands there; a table and a canonical list hold exactly the
-//! types that were put into them. The [`laws`] say that exactly one closed tree stands at each
-//! position, that each tree branch of a type is a type, and that a set of types has one canonical
-//! list, which reads back as that set. Nothing recurses along references: a record is looked at
-//! after those that it names.
+//! `specs/Checked`: some rank makes each record higher than those that it names), unless memory is
+//! refused; a refusal names the first check that fails, and for a cycle exactly the records that
+//! lead into one (`IsCycle`); each depth is that of the tree that stands there; a table and a
+//! canonical list hold exactly the types that were put into them. The [`laws`] say that exactly one
+//! closed tree stands at each position, that each tree branch of a type is a type, that records
+//! with a cycle have no rank, and that a set of types has one canonical list, which reads back as
+//! that set. Nothing recurses along references: a record is looked at after those that it names.
 #![tactic(auto)]
 
 mod canon;
@@ -31,7 +34,9 @@ mod canon_records;
 mod depth;
 mod fault;
 mod finish;
+mod graph;
 pub mod laws;
+mod order;
 mod reference;
 mod renumber;
 mod table;
@@ -42,5 +47,6 @@ mod types;
 pub use canon::Canon;
 pub use canon_records::CanonRecords;
 pub use fault::{JoinFault, TypeFault};
+pub use order::InOrder;
 pub use table::Table;
 pub use types::Types;

@@ -15,6 +15,7 @@ ghost use Rattle.type_trees.specs.Finish.{IsCanon, IsCanonOf};
 use crate::canon::Canon;
 use crate::fault::JoinFault;
 use crate::finish::canonical_list;
+use crate::order::record_at;
 use crate::renumber::renumber;
 use crate::types::Types;
 use std::alloc::{AllocError, Allocator, Global};
@@ -72,14 +73,15 @@ fn add_all<S: BuildHasher, A: Allocator + Copy>(
     ensures ok { IfOk result (λ _. IsTable texts.new × ((t : Tree) → IsType texts.new t ↔ (IsType texts.old t ⊎ IsType types.now t))) }
     ensures front { (length texts.old ≤ length texts.new) × (take (length texts.old) texts.new ≡ texts.old) }
 {
-    let mut positions = Vec::with_capacity(alloc, types.len())?;
+    let mut positions = vec![in alloc; 0u32; types.len()]?;
     let mut copy = Vec::new(alloc);
     // The proof learns here that all types have fewer than 2^32 bytes.
     let _ = types.bytes_len();
     let mut last = 0;
-    for bytes in types.records().iter() {
+    for position in types.in_order() {
+        let bytes = record_at(types.records(), position);
         last = add_record(texts, &mut copy, bytes, &positions, last)?;
-        positions.push(last as u32)?;
+        positions[position] = last as u32;
     }
     Ok(())
 }

@@ -3,7 +3,7 @@
 
 use crate::fault::RunFault;
 use crate::merge::run_merge;
-use acceptance::sample;
+use acceptance::{put, sample};
 use linked_list_allocator::LocalHeap;
 use msf_blocks::Out;
 use pdb_info::{Settings, guid_of};
@@ -18,7 +18,7 @@ const REPORT: &str = "types 2\nbytes 24\nfile 28672\n";
 const LENGTH: usize = 28672;
 
 /// What was answered, written and reported.
-type Answer = (Result<(), RunFault>, Vec<u8>, Vec<u8>);
+type Answer<A = Global> = (Result<(), RunFault<A>>, Vec<u8>, Vec<u8>);
 
 /// Runs the command on files.
 fn ran<A: Allocator + Copy>(
@@ -26,7 +26,7 @@ fn ran<A: Allocator + Copy>(
     global: Global,
     files: &[&[u8]],
     limit: u32,
-) -> Result<Answer, Fail> {
+) -> Result<Answer<A>, Fail> {
     let settings = Settings::new(guid_of([7; 16]), 1, limit).ok_or("no settings")?;
     let hasher: BuildHasherDefault<FoldHasher> = BuildHasherDefault::new();
     let mut file = Vec::new(global);
@@ -82,6 +82,11 @@ fn faults_name_their_file(rt: HostRuntime) -> Result<(), Fail> {
     assert_eq!(rt; text.as_str(), "file 0: 32 TooLarge bytes 24");
     let text = fault_of(rt.alloc(), &zeros, &sample, 0)?;
     assert_eq!(rt; text.as_str(), "file 0: 2 Magic");
+    // The first record names itself.
+    let mut cycle = acceptance::sample(rt.alloc())?;
+    put(&mut cycle, 3132, b"\0\x10");
+    let text = fault_of(rt.alloc(), &sample, &cycle, 24)?;
+    assert_eq!(rt; text.as_str(), "file 1: 34 Cycle 0x1000");
     Ok(())
 }
 
@@ -121,7 +126,7 @@ fn merges_on_small_heaps(rt: HostRuntime) -> Result<(), Fail> {
             assert!(rt; file.len() == LENGTH && report.as_slice() == REPORT.as_bytes());
             continue;
         }
-        assert_eq!(rt; answer, Err(RunFault::Memory));
+        assert!(rt; matches!(answer, Err(RunFault::Memory)));
         assert!(rt; report.is_empty() && (file.is_empty() || file.len() == LENGTH));
         refused = refused.saturating_add(1);
         if !file.is_empty() {

@@ -445,7 +445,7 @@ fn checked(alloc: Global, file: &[u8]) -> Result<String, Fail> {
 }
 
 /// What `check` says of changed samples, in the order in which the faults come.
-const CHECKED: [Row; 10] = [
+const CHECKED: [Row; 14] = [
     (0, b"", "accepted\nrecords 2\nbytes 24\nlevels 1\n"),
     (0, b"m", "2 Magic"),
     (2048, b"\x01", "11 NoStream 1"),
@@ -454,7 +454,26 @@ const CHECKED: [Row; 10] = [
     (2056, b"\x1b", "12 InfoShort"),
     (3088, b"\x14\0\0\0", "22 RecordShort index 0x1001"),
     (3142, b"\x0a\x15", "index 0x1001: 25 Leaf 0x150a"),
-    (3132, b"\0\x10", "31 Ref index 0x1000 place 0 to 0x1000"),
+    // the first record names the second, itself, and one after the last
+    (
+        3132,
+        b"\x01\x10",
+        "accepted\nrecords 2\nbytes 24\nlevels 2\n",
+    ),
+    (3132, b"\0\x10", "34 Cycle 0x1000"),
+    (3132, b"\x02\x10", "31 Ref index 0x1000 place 0 to 0x1002"),
+    // both name each other
+    (
+        3132,
+        b"\x01\x10\0\0\x0c\0\x01\0\x0a\0\x01\x10\0\x10",
+        "34 Cycle 0x1000 0x1001",
+    ),
+    // the first names itself, and the second one after the last
+    (
+        3132,
+        b"\0\x10\0\0\x0c\0\x01\0\x0a\0\x01\x10\x05\x10",
+        "31 Ref index 0x1001 place 0 to 0x1005",
+    ),
     (
         3084,
         b"\0\x10\0\0\0\0\0\0",

@@ -78,11 +78,12 @@ fn stream_with(alloc: Global, records: &[&[u8]]) -> Result<Vec<u8>, Fail> {
 
 /// The types of a TPI stream.
 fn types_of<'a, A: Allocator + Copy>(alloc: A, stream: &'a [u8]) -> Result<Types<'a, A>, Fail> {
-    Ok(Types::check(alloc, Records::read(alloc, stream)?)?)
+    let types = Types::check(alloc, Records::read(alloc, stream)?);
+    Ok(types.ok().ok_or("the records are refused")?)
 }
 
 /// The hasher that a caller takes if it has no other.
-fn folding() -> BuildHasherDefault<FoldHasher> {
+pub(super) fn folding() -> BuildHasherDefault<FoldHasher> {
     BuildHasherDefault::new()
 }
 
@@ -376,14 +377,21 @@ fn was_accepted(answer: &Answer, before: &[u8], want: &[u8]) -> Option<bool> {
 #[test]
 fn memory_is_refused(rt: HostRuntime) -> Result<(), Fail> {
     let first = stream_with(rt.alloc(), &[CONST, TO_FIRST])?;
-    let second = stream_with(rt.alloc(), &[VOLATILE, TO_FIRST])?;
+    let lower = stream_with(rt.alloc(), &[VOLATILE, TO_FIRST])?;
+    let later = stream_with(rt.alloc(), &[TO_SECOND, VOLATILE])?;
     let before = bytes_of(rt.alloc(), &[CONST, TO_FIRST])?;
     let want = bytes_of(rt.alloc(), &[CONST, VOLATILE, TO_FIRST, TO_SECOND])?;
-    for call in [Call::Add, Call::Join, Call::Finish] {
+    for (call, second) in [
+        (Call::Add, &lower),
+        (Call::Add, &later),
+        (Call::Join, &lower),
+        (Call::Join, &later),
+        (Call::Finish, &lower),
+    ] {
         let mut refused = false;
         let mut accepted = false;
         for words in 0..HEAP / 8 {
-            let answer = beside(call, rt.alloc(), 8 * words, &first, &second)?;
+            let answer = beside(call, rt.alloc(), 8 * words, &first, second)?;
             match was_accepted(&answer, &before, &want) {
                 Some(true) => accepted = true,
                 Some(false) => refused = true,

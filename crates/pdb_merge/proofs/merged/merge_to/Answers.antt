@@ -10,7 +10,7 @@ use Rattle.pdb_merge.specs.declared.fault.OutFault.TheVariants as out
 use Rattle.pdb_merge.proofs.merged.merge_to.Goals as goal
 
 -- one fault of merging is inside
-merge_injective : (a b : MergeFault) → out.Merge a ≡ out.Merge b → a ≡ b
+merge_injective : {A : Type 0} (a b : MergeFault A) → out.Merge a ≡ out.Merge b → a ≡ b
 merge_injective a b same = cc
 
 pub write_canon-requires : goal.write_canon-requires

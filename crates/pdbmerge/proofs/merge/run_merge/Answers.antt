@@ -1,4 +1,4 @@
-use Rattle.std.proofs.Common.{◌≡◌, ◌∙◌, sym}
+use Rattle.std.proofs.Common.{◌∙◌, sym}
 use Rattle.std.proofs.lemmas.Result.{err_from_is_err_and}
 use Rattle.pdbmerge.proofs.MergeLaws.{merge_inside}
 use Rattle.pdbmerge.proofs.merge.run_merge.Goals as goal

@@ -7,14 +7,13 @@ use Rattle.type_trees.proofs.DepthLaws.{depths_more, levels_more, bounded_more}
 use Rattle.type_trees.proofs.FinishLaws.{table_small}
 use Rattle.type_trees.proofs.finish.depths_of.Goals as goal
 
-pub depth_of-depth-requires-clause-few : goal.depth_of-depth-requires-clause-few
-depth_of-depth-requires-clause-few g c =
-    let same : length c.keys.result.now ≡ length c.loop-position.depths = ap length c.keys.ensures in
+pub depth_of-depth-requires-clause-bounded : goal.depth_of-depth-requires-clause-bounded
+depth_of-depth-requires-clause-bounded g c =
     let below : c.loop-position.position + 1 ≤ length c.args.table.now = search rules in
-    omega (arith, same, c.loop-position.invariant.many, below, table_small c.args.table.now c.requires.table c.requires.short)
+    rw c.keys.ensures (λ k lt. omega (arith, lt, c.loop-position.invariant.bounded k lt, c.loop-position.invariant.many, below, table_small c.args.table.now c.requires.table c.requires.short))
 
-pub depth_of-depth-requires-clause-lower : goal.depth_of-depth-requires-clause-lower
-depth_of-depth-requires-clause-lower g c =
+pub depth_of-depth-requires-clause-there : goal.depth_of-depth-requires-clause-there
+depth_of-depth-requires-clause-there g c =
     let all = c.args.table.now in
     let k = c.loop-position.position in
     let below : k + 1 ≤ length all = search rules in
@@ -29,7 +28,7 @@ loop-position-preserved g c =
     let at : c.loop-position.position + 1 ≤ length all = search rules in
     let below : length depths + 1 ≤ length all = omega (arith, at, so_far.many) in
     let is : d ≡ depth_above (λ k. get_or depths k 0) (references (get_or all (length depths) [])) = rw (so_far.many) (rw (c.get.ensures, c.keys.ensures) at c.depth_of-depth.ensures.value) in
-    let low : d ≤ length depths = rw c.keys.ensures at c.depth_of-depth.ensures.bound in
+    let low : d ≤ length depths = (rw c.keys.ensures at c.depth_of-depth.ensures.bound) (length depths) (λ k lt. omega (arith, lt, so_far.bounded k lt)) in
     let known : AreDepths all (depths ++ d ∷ []) = depths_more all depths d so_far.depths c.requires.table.lower (omega (arith, below)) is in
     let pushed = c.in_ok-push.ensures.ok in
     let many : length c.push.new.self ≡ length depths + 1 = omega (arith, ap length pushed, length-append depths (d ∷ [])) in
@@ -38,6 +37,13 @@ loop-position-preserved g c =
       many = omega (arith, many, so_far.many);
       depths = rw pushed known;
       bounded = rw pushed (bounded_more depths d so_far.bounded low);
-      levels = rw (many, deeper) (levels_more all depths c.loop-position.levels d so_far.levels known (tree_there all (length depths) c.requires.table.lower (omega (arith, below))) is);
+      levels = rw (many, deeper) (levels_more all depths c.loop-position.levels d so_far.levels known (tree_there all (λ i. i) (length depths) c.requires.table.lower (omega (arith, below))) is);
       low = omega (arith, many, deeper, low, so_far.low);
     }
+
+pub overflow_add-depth : goal.overflow_add-depth
+overflow_add-depth g c =
+    let below : c.loop-position.position + 1 ≤ length c.args.table.now = search rules in
+    let so_far = c.loop-position.invariant in
+    let low : c.depth_of-depth.result ≤ length c.loop-position.depths = (rw c.keys.ensures at c.depth_of-depth.ensures.bound) (length c.loop-position.depths) (λ k lt. omega (arith, lt, so_far.bounded k lt)) in
+    omega (arith, low, so_far.many, below, table_small c.args.table.now c.requires.table c.requires.short)

@@ -1,4 +1,4 @@
-use Rattle.std.proofs.Common.{◌≡◌, ◌≤◌, get_or, arith, rules}
+use Rattle.std.proofs.Common.{◌≡◌, rules}
 use Rattle.type_trees.proofs.FinishLaws.{listed_none, listed_all}
 use Rattle.type_trees.proofs.finish.list_levels.Goals as goal
 

@@ -1,42 +1,39 @@
-use Rattle.std.proofs.Common.{◌≡◌, ◌∷◌, ◌∙◌, ◌+◌, drop, length, sym, ap, arith, rules}
-use Rattle.type_trees.proofs.DepthLaws.{next_record, all_records}
-use Rattle.type_trees.proofs.AddLaws.{adds_next, adds_all, next_numbered, short_still, renumbered_long}
-use Rattle.type_trees.proofs.TreeLaws.{at_position}
-use Rattle.tpi_records.specs.Records.{IsRecord}
-use Rattle.cv_leaves.specs.HasPlaces.{IsChecked}
+use Rattle.std.proofs.Common.{◌≡◌, ◌∙◌, ℕ, List, [], replicate, get_or, ap, arith, rules}
+use Rattle.type_trees.proofs.AddLaws.{adding_starts, adding_inside, adding_few, adding_numbered, adding_more, all_added}
 use Rattle.type_trees.proofs.table.add_all.Goals as goal
+
+pub loop-position-init : goal.loop-position-init
+loop-position-init g c =
+    let zeros : c.in_ok-positions.positions.items ≡ replicate c.len.result 0 = search rules in
+    rw c.into_iter-position-iterator.ensures.into_iter_gives
+    (adding_starts c.args.types.now c.in_order-position-items.result c.args.texts.now c.len.result c.in_ok-positions.positions.items c.requires.table c.requires.short (omega (arith, c.bytes_len.ensures, c.bytes_len.type_inv)) c.in_order-position-items.ensures c.len.ensures.value zeros)
+
+pub record_at-bytes-requires : goal.record_at-bytes-requires
+record_at-bytes-requires g c =
+    let so_far = c.loop-position in
+    rw c.records.ensures (adding_inside c.args.types.now so_far.position-iterator c.next.new.self c.args.texts.now so_far.texts so_far.positions.items c.in-Some.position so_far.invariant c.in-Some.ensures.steps)
 
 pub add_record-requires-clause-named : goal.add_record-requires-clause-named
 add_record-requires-clause-named g c =
-    let so_far = c.loop-bytes.invariant in
-    let all = c.args.types.now in
-    let positions = c.loop-bytes.positions.items in
-    let split : c.loop-bytes.bytes-iterator ≡ c.in-Some.bytes.now ∷ c.next.new.self = search rules in
-    let next = next_record all (length positions) c.loop-bytes.bytes-iterator c.next.new.self c.in-Some.bytes.now so_far.left split in
-    next_numbered all c.args.texts.now c.loop-bytes.texts positions c.deref.result.now c.in-Some.bytes.now so_far.adds c.len.ensures.types (omega (arith, so_far.few)) next.0 next.1 c.deref.ensures.value
+    let so_far = c.loop-position in
+    rw (c.deref.ensures.value, c.record_at-bytes.ensures.value, c.records.ensures)
+    (adding_numbered c.args.types.now so_far.position-iterator c.next.new.self c.args.texts.now so_far.texts so_far.positions.items c.in-Some.position so_far.invariant c.in-Some.ensures.steps)
 
-pub loop-bytes-preserved : goal.loop-bytes-preserved
-loop-bytes-preserved g c =
-    let so_far = c.loop-bytes.invariant in
-    let all = c.args.types.now in
-    let positions = c.loop-bytes.positions.items in
-    let r = c.in-Some.bytes.now in
-    let split : c.loop-bytes.bytes-iterator ≡ r ∷ c.next.new.self = search rules in
-    let next = next_record all (length positions) c.loop-bytes.bytes-iterator c.next.new.self r so_far.left split in
-    let pushed = c.in_ok-push.ensures.items in
-    let many : length c.push.new.self.items ≡ length positions + 1 = search (rules, pushed) in
-    let added = adds_next all c.args.texts.now c.loop-bytes.texts c.add_record.new.texts positions c.deref.result.now c.in_ok-last.last r so_far.adds c.len.ensures.types c.len.ensures.each (omega (arith, so_far.few)) next.0 next.1 c.deref.ensures.value
-    c.in_ok-last.ensures.bytes c.in_ok-last.ensures.holds c.in_ok-last.ensures.at.0 c.in_ok-last.ensures.at.1 in
-    record {
-      left = next.2 ∙ ap (λ n. drop n all) (sym many);
-      inside = omega (arith, many, next.1);
-      adds = rw pushed added;
-      few = short_still c.loop-bytes.texts c.add_record.new.texts r _ c.loop-bytes.bytes-iterator c.next.new.self c.in_ok-last.ensures.holds (renumbered_long _ r (rw next.0 (at_position IsRecord all (length positions) c.len.ensures.each next.1)) (rw next.0 (at_position IsChecked all (length positions) c.len.ensures.types.checked next.1))) split so_far.few;
-    }
+pub add_record-requires-clause-few : goal.add_record-requires-clause-few
+add_record-requires-clause-few g c =
+    let so_far = c.loop-position in
+    let few = adding_few c.args.types.now so_far.position-iterator c.next.new.self c.args.texts.now so_far.texts so_far.positions.items c.in-Some.position so_far.invariant c.in-Some.ensures.steps in
+    rw (c.record_at-bytes.ensures.value, c.records.ensures) (omega (arith, few))
+
+pub loop-position-preserved : goal.loop-position-preserved
+loop-position-preserved g c =
+    let so_far = c.loop-position in
+    let ok = c.in_ok-last.ensures in
+    let read : c.record_at-bytes.result.now ≡ get_or c.args.types.now c.in-Some.position [] = c.record_at-bytes.ensures.value ∙ ap (λ (rs : List (List ℕ)). get_or rs c.in-Some.position []) c.records.ensures in
+    adding_more c.args.types.now so_far.position-iterator c.next.new.self c.args.texts.now so_far.texts c.add_record.new.texts so_far.positions.items c.in-Some.position c.in_ok-last.last c.len.ensures.types c.len.ensures.each so_far.invariant c.in-Some.ensures.steps
+    (rw (c.deref.ensures.value, read) at ok.bytes) (rw (c.deref.ensures.value, read) at ok.holds) ok.at.0 (rw (c.deref.ensures.value, read) at ok.at.1)
 
 pub returns-clause-ok : goal.returns-clause-ok
 returns-clause-ok g c =
-    let so_far = c.loop-bytes.invariant in
-    let positions = c.loop-bytes.positions.items in
-    let whole = all_records c.args.types.now (length positions) c.loop-bytes.bytes-iterator so_far.left (c.in-None.ensures.steps).0 so_far.inside in
-    (so_far.adds.table, adds_all c.args.types.now c.args.texts.now c.loop-bytes.texts _ _ so_far.adds (λ k inside. rw whole inside))
+    let so_far = c.loop-position in
+    (so_far.invariant.adds.table, all_added c.args.types.now so_far.position-iterator c.args.texts.now so_far.texts so_far.positions.items so_far.invariant (c.in-None.ensures.steps).0)

@@ -1,0 +1,137 @@
+//! Records that name later ones, and cycles.
+
+use super::merging::{LIMIT, M, P, Q0, Q1, Q2, Q3, file_of, file_with, hasher, merged, settings};
+use crate::{Buffer, merge_files, read_types};
+use linked_list_allocator::LocalHeap;
+use std::alloc::{Allocator, Global};
+use std::test::Fail;
+
+/// A pointer to the sixth record.
+const Q5: &[u8] = b"\x0a\0\x02\x10\x05\x10\0\0\x0c\0\x01\0";
+
+/// What is said of a file: how many levels its types have, or the text of the fault.
+fn said<A: Allocator + Copy>(alloc: A, text: Global, file: &[u8]) -> Result<String, Fail> {
+    let mut buffer = Buffer::new(alloc);
+    match read_types(alloc, file, &mut buffer) {
+        Ok(types) => Ok(types.levels().to_string(text)?),
+        Err(fault) => Ok(fault.to_string(text)?),
+    }
+}
+
+/// Records, and what is said of a file with them.
+type Row = (&'static [&'static [u8]], &'static str);
+
+const ROWS: [Row; 9] = [
+    (&[Q1, M], "2"),
+    (&[Q1, Q3, M, Q2], "4"),
+    (&[M, Q1], "34 Cycle 0x1001"),
+    (&[M, Q2], "31 Ref index 0x1001 place 0 to 0x1002"),
+    (&[Q0], "34 Cycle 0x1000"),
+    (&[Q1, Q0], "34 Cycle 0x1000 0x1001"),
+    (&[Q1, Q2, Q1, M], "34 Cycle 0x1000 0x1001 0x1002"),
+    (&[M, Q3, Q0, Q3], "34 Cycle 0x1001 0x1003"),
+    (&[Q0, Q5], "31 Ref index 0x1001 place 0 to 0x1005"),
+];
+
+#[test]
+fn each_file_is_accepted_or_named(rt: HostRuntime) -> Result<(), Fail> {
+    for (records, want) in ROWS {
+        let file = file_of(rt.alloc(), records)?;
+        let found = said(rt.alloc(), rt.alloc(), &file)?;
+        assert_eq!(rt; found.as_str(), want);
+    }
+    Ok(())
+}
+
+#[test]
+fn a_cycle_in_the_second_file(rt: HostRuntime) -> Result<(), Fail> {
+    let good = file_of(rt.alloc(), &[Q1, M])?;
+    let cycle = file_of(rt.alloc(), &[Q1, Q0, M])?;
+    let (answer, written) = merged(rt.alloc(), &[good.as_slice(), cycle.as_slice()], LIMIT)?;
+    let Err(fault) = answer else {
+        return Err("a cycle was merged".into());
+    };
+    let text = fault.to_string(rt.alloc())?;
+    assert_eq!(rt; text.as_str(), "file 1: 34 Cycle 0x1000 0x1001");
+    assert!(rt; written.is_empty());
+    Ok(())
+}
+
+/// A chain of so many pointers and a const int: each record names the next one, or the one before
+/// it.
+fn chain(alloc: Global, pointers: u32, forward: bool) -> Result<Vec<u8>, Fail> {
+    let mut bytes = Vec::new(alloc);
+    if !forward {
+        bytes.extend_from_slice(M)?;
+    }
+    for i in 0..pointers {
+        let to = if forward { i.wrapping_add(1) } else { i };
+        bytes.extend_from_slice(b"\x0a\0\x02\x10")?;
+        bytes.extend_from_slice(&0x1000u32.wrapping_add(to).to_le_bytes())?;
+        bytes.extend_from_slice(b"\x0c\0\x01\0")?;
+    }
+    if forward {
+        bytes.extend_from_slice(M)?;
+    }
+    Ok(bytes)
+}
+
+#[test]
+fn a_forward_chain_merges_as_the_chain_turned_round(rt: HostRuntime) -> Result<(), Fail> {
+    let forward = file_with(rt.alloc(), 10_000, &chain(rt.alloc(), 9_999, true)?)?;
+    let turned = file_with(rt.alloc(), 10_000, &chain(rt.alloc(), 9_999, false)?)?;
+    let levels = said(rt.alloc(), rt.alloc(), &forward)?;
+    assert_eq!(rt; levels.as_str(), "10000");
+    let (of_forward, first) = merged(rt.alloc(), &[forward.as_slice()], LIMIT)?;
+    let (of_turned, second) = merged(rt.alloc(), &[turned.as_slice()], LIMIT)?;
+    assert_eq!(rt; (of_forward?.types, of_turned?.types), (10_000, 10_000));
+    assert!(rt; first == second && first == turned);
+    Ok(())
+}
+
+/// Reads a file in growing heaps, and says how often memory was refused. Each other answer is
+/// `want`.
+fn refusals(alloc: Global, file: &[u8], want: &str) -> Result<u32, Fail> {
+    let mut refused = 0u32;
+    for size in 0..64usize {
+        let heap = LocalHeap::new(alloc, 16 * size)?;
+        let found = said(&heap, alloc, file)?;
+        if found.as_str() == "33 Memory" {
+            refused = refused.saturating_add(1);
+        } else if found.as_str() != want {
+            return Err(found.into());
+        }
+    }
+    Ok(refused)
+}
+
+#[test]
+fn growth_is_refused_in_turn(rt: HostRuntime) -> Result<(), Fail> {
+    for (records, want) in [ROWS[0], ROWS[2], ROWS[5], ROWS[6]] {
+        let file = file_of(rt.alloc(), records)?;
+        let refused = refusals(rt.alloc(), &file, want)?;
+        assert!(rt; 4 < refused && refused < 64);
+    }
+    Ok(())
+}
+
+#[test]
+fn merges_are_refused_growth_in_turn(rt: HostRuntime) -> Result<(), Fail> {
+    let forward = file_of(rt.alloc(), &[Q2, Q0, M])?;
+    let other = file_of(rt.alloc(), &[P])?;
+    let files = [forward.as_slice(), other.as_slice()];
+    let mut refused = 0u32;
+    for size in 0..256usize {
+        let heap = LocalHeap::new(rt.alloc(), 32 * size)?;
+        match merge_files(&heap, &files, &settings(LIMIT)?, hasher()) {
+            Ok(canon) => assert_eq!(rt; canon.len(), 4),
+            Err(fault) => {
+                let text = fault.to_string(rt.alloc())?;
+                assert_eq!(rt; text.as_str(), "33 Memory");
+                refused = refused.saturating_add(1);
+            }
+        }
+    }
+    assert!(rt; 8 < refused && refused < 256);
+    Ok(())
+}

@@ -1,0 +1,18 @@
+use Rattle.type_trees.proofs.OrderLaws.{stand_in_order}
+use Rattle.std.proofs.Common.{arith}
+use Rattle.topological_order.specs.Cycle.{IsCycleSet}
+use Rattle.type_trees.specs.Named.{graph_of}
+use Rattle.type_trees.proofs.NamedLaws.{nodes_inside}
+use Rattle.type_trees.proofs.CycleLaws.{cycle_inside}
+use Rattle.type_trees.proofs.order.arrange.Goals as goal
+
+pub returns-then-lower-clause-value : goal.returns-then-lower-clause-value
+returns-then-lower-clause-value g c = let h = c.if-lower.true in stand_in_order c.args.records.now (c.requires.lower h)
+
+pub topological_order-requires : goal.topological_order-requires
+topological_order-requires g c = rw c.in_ok-graph.ensures (nodes_inside c.args.records.now c.requires.there)
+
+pub to_indices-requires : goal.to_indices-requires
+to_indices-requires g c =
+    let cycle : IsCycleSet (graph_of c.args.records.now) c.in-Err-Cycle.nodes.items = rw (c.in-Err-Cycle.field-0-is, c.in_ok-graph.ensures) at c.in-Err-Cycle.ensures.fault in
+    rw c.deref_mut.ensures.value (cycle_inside c.args.records.now c.in-Err-Cycle.nodes.items cycle (omega (arith, c.len.ensures.value, c.len.ensures.few)))

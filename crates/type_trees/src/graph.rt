@@ -1,0 +1,50 @@
+//! The graph of records: which records each record names.
+
+ghost use Rattle.std.specs.Prelude.{◌≡◌, IfOk, OnOk};
+ghost use Rattle.std.specs.List.{AllByRecursion};
+ghost use Rattle.tpi_records.specs.Records.{IsRecord};
+ghost use Rattle.cv_leaves.specs.HasPlaces.{IsChecked};
+ghost use Rattle.type_trees.specs.Named.{named_by, graph_of};
+
+use crate::reference::FIRST_INDEX;
+use byte_fields::u16_at;
+use cv_leaves::{places, ref_at};
+use std::alloc::{AllocError, Allocator};
+use topological_order::Graph;
+use tpi_records::Records;
+
+/// Lists the positions of the records that a record names, in place of what the list holds.
+fn list_named<A: Allocator>(named: &mut Vec<u32, A>, bytes: &[u8]) -> Result<(), AllocError>
+    requires framed { IsRecord bytes.now }
+    requires checked { IsChecked bytes.now }
+    ensures { OnOk result (named.new.items ≡ named_by bytes.now) }
+{
+    // The proof learns here that the length field is below 2^16.
+    let _ = u16_at(bytes, 0);
+    named.clear();
+    for place in places(bytes) {
+        if let Some(position) = ref_at(bytes, place).checked_sub(FIRST_INDEX) {
+            named.push(position)?;
+        }
+    }
+    Ok(())
+}
+
+/// The graph of records: for each record, the positions of the records that it names.
+pub fn graph_of<A: Allocator + Copy>(
+    alloc: A,
+    records: &Records<'_, A>,
+) -> Result<Graph<A>, AllocError>
+    requires { AllByRecursion IsChecked records.now }
+    ensures { IfOk result (λ graph. graph ≡ graph_of records.now) }
+{
+    // The proof learns here that all records have fewer than 2^32 bytes.
+    let _ = records.bytes_len();
+    let mut graph = Graph::with_capacity(alloc, records.len())?;
+    let mut named = Vec::new(alloc);
+    for bytes in records.iter() {
+        list_named(&mut named, bytes)?;
+        graph.push(&named)?;
+    }
+    Ok(graph)
+}

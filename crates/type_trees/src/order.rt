@@ -1,0 +1,143 @@
+//! An order of records in which each comes after those that it names.
+
+ghost use Rattle.std.specs.Prelude.{◌≡◌, ◌+◌, ◌-◌, ◌≤◌, ◌<◌, ◌^◌, [], IsTrue, ℕ, List, length, get_or, map, drop, IfOk, IfErr};
+ghost use Rattle.std.specs.List.{All, AllByRecursion};
+ghost use Rattle.std.specs.Iterator.{YieldsFirst, item_count};
+ghost use Rattle.tpi_records.specs.Records.{IsRecord};
+ghost use Rattle.cv_leaves.specs.HasPlaces.{IsChecked};
+ghost use Rattle.topological_order.specs.Order.{IsOrder};
+ghost use Rattle.type_trees.specs.Tree.{IsRanked};
+ghost use Rattle.type_trees.specs.Named.{graph_of};
+ghost use Rattle.type_trees.specs.Order.{order_list};
+ghost use Rattle.type_trees.specs.Checked.{AllNameThere, IsCycleFault};
+
+use crate::fault::TypeFault;
+use crate::graph::graph_of;
+use crate::reference::FIRST_INDEX;
+use std::alloc::{Allocator, Global};
+use std::marker::Model;
+use topological_order::{OrderFault, topological_order};
+use tpi_records::Records;
+
+/// The record at a position, whole: from its length field on.
+pub fn record_at<'a, A: Allocator>(records: &Records<'a, A>, position: usize) -> &'a [u8]
+    requires { position < length records.now }
+    ensures value { result.now ≡ get_or records.now position [] }
+    ensures framed { IsRecord result.now }
+{
+    let Some(bytes) = records.get(position) else {
+        unreachable!()
+    };
+    bytes
+}
+
+/// An order of records in which each comes after those that it names.
+#[derive(Drop)]
+pub enum Order<A: Allocator = Global> {
+    /// The order in which they stand.
+    AsTheyStand,
+    /// The order of these positions.
+    Listed(Vec<u32, A>),
+}
+
+impl<A: Allocator> Order<A> {
+    /// The positions of so many records in this order.
+    pub fn positions(&self, len: usize) -> InOrder<'_>
+        ensures { result ≡ order_list len self.now }
+    {
+        match self {
+            Order::AsTheyStand => InOrder {
+                listed: None,
+                next: 0,
+                end: len,
+            },
+            Order::Listed(list) => InOrder {
+                listed: Some(list),
+                next: 0,
+                end: list.len(),
+            },
+        }
+    }
+}
+
+/// Puts the type index of each record in the place of its position.
+fn to_indices(positions: &mut [u32])
+    requires { All (λ p. p < 2 ^ 30) positions.old }
+    ensures { positions.new ≡ map (λ p. 0x1000 + p) positions.old }
+{
+    for position in positions.iter_mut() {
+        *position += FIRST_INDEX;
+    }
+}
+
+/// Puts records in order. That takes neither time nor memory where each record names `lower` ones
+/// alone.
+pub fn arrange<A: Allocator + Copy>(
+    alloc: A,
+    records: &Records<'_, A>,
+    lower: bool,
+) -> Result<Order<A>, TypeFault<A>>
+    requires checked { AllByRecursion IsChecked records.now }
+    requires there { AllNameThere (length records.now) records.now }
+    requires lower { IsTrue lower → IsRanked records.now (λ i. i) }
+    ensures value { IfOk result (λ order. IsOrder (graph_of records.now) (order_list (length records.now) order)) }
+    ensures cycle { IfErr result (IsCycleFault records.now) }
+{
+    if lower {
+        return Ok(Order::AsTheyStand);
+    }
+    // The proof learns here that there are fewer than 2^30 records.
+    let _ = records.len();
+    let graph = graph_of(alloc, records)?;
+    match topological_order(alloc, &graph) {
+        Ok(order) => Ok(Order::Listed(order)),
+        Err(OrderFault::Cycle { mut nodes }) => {
+            to_indices(&mut nodes);
+            Err(TypeFault::Cycle { records: nodes })
+        }
+        Err(OrderFault::Memory) => Err(TypeFault::Memory),
+    }
+}
+
+/// The positions of records, each after those of the records that it names.
+///
+/// Returned by [`Types::in_order`](crate::Types::in_order). It takes no memory.
+#[derive(Drop)]
+pub struct InOrder<'t> {
+    // the positions in this order, or nothing where the records stand in it
+    listed: Option<&'t [u32]>,
+    next: usize,
+    end: usize,
+}
+
+impl<'t> Model for InOrder<'t> {
+    ghost use Rattle.std.specs.Prelude.{List, ℕ, ◌≤◌};
+    ghost use Rattle.type_trees.specs.Order.{positions_left, EndsAt};
+
+    ghost Value = { List ℕ };
+
+    ghost view = { λ s. positions_left s.listed s.next s.end };
+
+    ghost invariant = { λ s. (s.next ≤ s.end) × EndsAt s.listed s.end };
+}
+
+impl<'t> Iterator for InOrder<'t> {
+    type Item = usize;
+
+    ghost next_gives = { YieldsFirst (λ s. s) };
+
+    ghost remaining = { item_count (λ s. s) };
+
+    #[tactic(auto, using(crate::proofs::OrderLaws::left_listed, crate::proofs::OrderLaws::left_counted, crate::proofs::OrderLaws::left_none))]
+    fn next(&mut self) -> Option<usize> {
+        if self.end <= self.next {
+            return None;
+        }
+        let position = match self.listed {
+            Some(list) => *list.get(self.next)? as usize,
+            None => self.next,
+        };
+        self.next += 1;
+        Some(position)
+    }
+}

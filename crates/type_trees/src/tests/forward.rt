@@ -1,0 +1,243 @@
+//! Records that name later ones, cycles of records, and the order of types.
+
+use super::joining::folding;
+use super::{MODIFIER, UNKNOWN, checked, pointer, stream_of};
+use crate::{Canon, Table, TypeFault, Types};
+use linked_list_allocator::LocalHeap;
+use std::alloc::{Allocator, Global};
+use std::test::Fail;
+use tpi_records::Records;
+
+/// A simple type.
+const INT: u32 = 0x74;
+
+/// A TPI stream of pointers to these types.
+fn pointers(alloc: Global, named: &[u32]) -> Result<Vec<u8>, Fail> {
+    let mut records = Vec::new(alloc);
+    for to in named {
+        records.extend_from_slice(&pointer(*to))?;
+    }
+    stream_of(alloc, u32::try_from(named.len()).unwrap_or(0), &records)
+}
+
+/// A TPI stream of procedures. Each names the type that it returns and its list of arguments.
+fn procedures(alloc: Global, named: &[(u32, u32)]) -> Result<Vec<u8>, Fail> {
+    let mut records = Vec::new(alloc);
+    for (returned, arguments) in named {
+        records.extend_from_slice(&[14, 0, 0x08, 0x10])?;
+        records.extend_from_slice(&returned.to_le_bytes())?;
+        records.extend_from_slice(&[0, 0, 0, 0])?;
+        records.extend_from_slice(&arguments.to_le_bytes())?;
+    }
+    stream_of(alloc, u32::try_from(named.len()).unwrap_or(0), &records)
+}
+
+/// A TPI stream of so many records. Each is a pointer to the next one, and the last is a modifier.
+fn forward_chain(alloc: Global, many: u32) -> Result<Vec<u8>, Fail> {
+    let mut records = Vec::with_capacity(alloc, 12 * many as usize)?;
+    for next in 1..many {
+        records.extend_from_slice(&pointer(0x1000u32.wrapping_add(next)))?;
+    }
+    records.extend_from_slice(&MODIFIER)?;
+    stream_of(alloc, many, &records)
+}
+
+/// The records of the forward chain turned round: a modifier, and then pointers, each to the record
+/// before it.
+fn chain_back(alloc: Global, many: u32) -> Result<Vec<u8>, Fail> {
+    let mut records = Vec::with_capacity(alloc, 12 * many as usize)?;
+    records.extend_from_slice(&MODIFIER)?;
+    for position in 1..many {
+        records.extend_from_slice(&pointer(0x0FFFu32.wrapping_add(position)))?;
+    }
+    Ok(records)
+}
+
+/// What the check says of a stream: the text of the fault, or how many levels there are.
+fn said<A: Allocator + Copy>(alloc: A, texts: Global, stream: &[u8]) -> Result<String, Fail> {
+    match checked(alloc, stream) {
+        Ok(levels) => Ok(format!(in texts; "levels {levels}")?),
+        Err(fault) => Ok(fault.to_string(texts)?),
+    }
+}
+
+#[test]
+fn pointers_that_name_any_record(rt: HostRuntime) -> Result<(), Fail> {
+    // what each record names, and what the check says
+    const ROWS: [(&[u32], &str); 11] = [
+        (&[0x1001, INT], "levels 2"),
+        (&[INT, 0x1001], "34 Cycle 0x1001"),
+        (&[INT, 0x1002], "31 Ref index 0x1001 place 0 to 0x1002"),
+        (&[0x1000], "34 Cycle 0x1000"),
+        (&[0x1001, 0x1000], "34 Cycle 0x1000 0x1001"),
+        (
+            &[0x1001, 0x1002, 0x1001, INT],
+            "34 Cycle 0x1000 0x1001 0x1002",
+        ),
+        (&[0x1000, 0x1005], "31 Ref index 0x1001 place 0 to 0x1005"),
+        (&[0x1002, INT, 0x1001], "levels 3"),
+        (&[0x1003, 0x1003, INT, 0x1002], "levels 3"),
+        (&[0x1002, 0x1001, INT], "34 Cycle 0x1001"),
+        (
+            &[0x1001, 0x1001, 0x1003, 0x1002],
+            "34 Cycle 0x1000 0x1001 0x1002 0x1003",
+        ),
+    ];
+    for (named, want) in ROWS {
+        let stream = pointers(rt.alloc(), named)?;
+        let text = said(rt.alloc(), rt.alloc(), &stream)?;
+        assert_eq!(rt; text.as_str(), want);
+    }
+    Ok(())
+}
+
+#[test]
+fn procedures_that_name_two_records(rt: HostRuntime) -> Result<(), Fail> {
+    // what each record returns and its list of arguments, and what the check says
+    const ROWS: [(&[(u32, u32)], &str); 6] = [
+        (&[(INT, 0x1001), (INT, INT)], "levels 2"),
+        (&[(INT, 0x1000)], "34 Cycle 0x1000"),
+        (
+            &[(0x1001, 0x1002), (INT, INT)],
+            "31 Ref index 0x1000 place 8 to 0x1002",
+        ),
+        // a cycle that also names a record outside
+        (&[(0x1000, 0x1001), (INT, INT)], "34 Cycle 0x1000"),
+        // a record between two cycles: one names it, and it names the other
+        (
+            &[(0x1000, 0x1001), (0x1002, INT), (0x1002, INT)],
+            "34 Cycle 0x1000 0x1001 0x1002",
+        ),
+        // a record that names two cycles
+        (
+            &[
+                (0x1001, INT),
+                (0x1000, INT),
+                (0x1000, 0x1003),
+                (0x1004, INT),
+                (0x1003, INT),
+            ],
+            "34 Cycle 0x1000 0x1001 0x1002 0x1003 0x1004",
+        ),
+    ];
+    for (named, want) in ROWS {
+        let stream = procedures(rt.alloc(), named)?;
+        let text = said(rt.alloc(), rt.alloc(), &stream)?;
+        assert_eq!(rt; text.as_str(), want);
+    }
+    Ok(())
+}
+
+#[test]
+fn a_leaf_fault_after_a_cycle(rt: HostRuntime) -> Result<(), Fail> {
+    let mut records = Vec::new(rt.alloc());
+    records.extend_from_slice(&pointer(0x1000))?;
+    records.extend_from_slice(&UNKNOWN)?;
+    let stream = stream_of(rt.alloc(), 2, &records)?;
+    let text = said(rt.alloc(), rt.alloc(), &stream)?;
+    assert_eq!(rt; text.as_str(), "index 0x1001: 25 Leaf 0x150a");
+    Ok(())
+}
+
+/// The records of the cycle that the check of a stream finds, or none.
+fn cycle_of(alloc: Global, stream: &[u8]) -> Result<Vec<u32>, Fail> {
+    match Types::check(alloc, Records::read(alloc, stream)?) {
+        Err(TypeFault::Cycle { records }) => Ok(records),
+        _ => Ok(Vec::new(alloc)),
+    }
+}
+
+#[test]
+fn a_long_tail_before_a_cycle(rt: HostRuntime) -> Result<(), Fail> {
+    let mut records = Vec::new(rt.alloc());
+    for next in 1..1000u32 {
+        records.extend_from_slice(&pointer(0x1000u32.wrapping_add(next)))?;
+    }
+    // the last record names the one before it
+    records.extend_from_slice(&pointer(0x13E6))?;
+    // a record beside them
+    records.extend_from_slice(&MODIFIER)?;
+    let stream = stream_of(rt.alloc(), 1001, &records)?;
+    let cycle = cycle_of(rt.alloc(), &stream)?;
+    assert_eq!(rt;
+        (cycle.len(), cycle.first(), cycle.last()),
+        (1000, Some(&0x1000), Some(&0x13E7))
+    );
+    Ok(())
+}
+
+/// The positions of types in their order.
+fn order_of(alloc: Global, types: &Types<'_>) -> Result<Vec<usize>, Fail> {
+    let mut positions = Vec::new(alloc);
+    for position in types.in_order() {
+        positions.push(position)?;
+    }
+    Ok(positions)
+}
+
+#[test]
+fn a_pointer_to_the_next_record(rt: HostRuntime) -> Result<(), Fail> {
+    let stream = forward_chain(rt.alloc(), 2)?;
+    let types = Types::check(rt.alloc(), Records::read(rt.alloc(), &stream)?)?;
+    assert_eq!(rt; types.levels(), 2);
+    assert_eq!(rt; (types.depth(0), types.depth(1)), (Some(1), Some(0)));
+    let order = order_of(rt.alloc(), &types)?;
+    assert_eq!(rt; order.as_slice(), [1, 0].as_slice());
+    Ok(())
+}
+
+/// The canonical list of the types of a stream, by a table.
+fn finished(alloc: Global, stream: &[u8]) -> Result<Canon, Fail> {
+    let types = Types::check(alloc, Records::read(alloc, stream)?)?;
+    let mut table = Table::with_hasher(alloc, folding());
+    table.add(alloc, &types, u32::MAX)?;
+    Ok(table.finish(alloc)?)
+}
+
+#[test]
+fn a_chain_in_both_directions(rt: HostRuntime) -> Result<(), Fail> {
+    for many in [2, 10_000] {
+        let forward = forward_chain(rt.alloc(), many)?;
+        let types = Types::check(rt.alloc(), Records::read(rt.alloc(), &forward)?)?;
+        assert_eq!(rt; types.levels(), many);
+        let order = order_of(rt.alloc(), &types)?;
+        assert!(rt; order.iter().copied().eq((0..many as usize).rev()));
+        let records = chain_back(rt.alloc(), many)?;
+        let back = stream_of(rt.alloc(), many, &records)?;
+        for stream in [&forward, &back] {
+            let canon = finished(rt.alloc(), stream)?;
+            assert!(rt; canon.bytes() == records.as_slice());
+        }
+    }
+    Ok(())
+}
+
+#[test]
+fn a_chain_of_a_million_pointers(rt: HostRuntime) -> Result<(), Fail> {
+    let stream = forward_chain(rt.alloc(), 1_000_000)?;
+    let text = said(rt.alloc(), rt.alloc(), &stream)?;
+    assert_eq!(rt; text.as_str(), "levels 1000000");
+    Ok(())
+}
+
+#[test]
+fn memory_for_the_order_is_refused(rt: HostRuntime) -> Result<(), Fail> {
+    const ROWS: [(&[u32], &str); 2] = [
+        (&[0x1001, INT], "levels 2"),
+        (&[0x1001, 0x1000], "34 Cycle 0x1000 0x1001"),
+    ];
+    for (named, want) in ROWS {
+        let stream = pointers(rt.alloc(), named)?;
+        let mut refused = false;
+        let mut answered = false;
+        for words in 0..64usize {
+            let heap = LocalHeap::new(rt.alloc(), 8 * words)?;
+            let text = said(&heap, rt.alloc(), &stream)?;
+            assert!(rt; text.as_str() == "33 Memory" || text.as_str() == want);
+            refused = refused || text.as_str() == "33 Memory";
+            answered = answered || text.as_str() == want;
+        }
+        assert!(rt; refused && answered, "{want}");
+    }
+    Ok(())
+}
