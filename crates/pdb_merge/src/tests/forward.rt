@@ -1,8 +1,9 @@
 //! Records that name later ones, and cycles.
 
 use super::merging::{LIMIT, M, P, Q0, Q1, Q2, Q3, file_of, file_with, hasher, merged, settings};
-use crate::{Buffer, merge_files, read_types};
+use crate::{Buffer, merge_files, merge_to, read_types};
 use linked_list_allocator::LocalHeap;
+use msf_blocks::Out;
 use std::alloc::{Allocator, Global};
 use std::test::Fail;
 
@@ -107,7 +108,7 @@ fn refusals(alloc: Global, file: &[u8], want: &str) -> Result<u32, Fail> {
 
 #[test]
 fn growth_is_refused_in_turn(rt: HostRuntime) -> Result<(), Fail> {
-    for (records, want) in [ROWS[0], ROWS[2], ROWS[5], ROWS[6]] {
+    for (records, want) in ROWS {
         let file = file_of(rt.alloc(), records)?;
         let refused = refusals(rt.alloc(), &file, want)?;
         assert!(rt; 4 < refused && refused < 64);
@@ -115,23 +116,62 @@ fn growth_is_refused_in_turn(rt: HostRuntime) -> Result<(), Fail> {
     Ok(())
 }
 
+/// What is said of a merge of two files: how many types they have, or the text of the fault.
+fn said_of_two<'a, A: Allocator + Copy>(
+    alloc: A,
+    text: Global,
+    first: &'a [u8],
+    second: &'a [u8],
+) -> Result<String, Fail> {
+    match merge_files(alloc, &[first, second], &settings(LIMIT)?, hasher()) {
+        Ok(canon) => Ok(canon.len().to_string(text)?),
+        Err(fault) => Ok(fault.to_string(text)?),
+    }
+}
+
 #[test]
 fn merges_are_refused_growth_in_turn(rt: HostRuntime) -> Result<(), Fail> {
-    let forward = file_of(rt.alloc(), &[Q2, Q0, M])?;
-    let other = file_of(rt.alloc(), &[P])?;
-    let files = [forward.as_slice(), other.as_slice()];
+    const MERGES: [Row; 4] = [
+        (&[Q1, M], "3"),
+        (&[Q2, Q0, M], "4"),
+        (&[M, Q1], "file 1: 34 Cycle 0x1001"),
+        (&[Q1, Q0], "file 1: 34 Cycle 0x1000 0x1001"),
+    ];
+    let pointer = file_of(rt.alloc(), &[P])?;
+    for (records, want) in MERGES {
+        let file = file_of(rt.alloc(), records)?;
+        let mut refused = 0u32;
+        for size in 0..256usize {
+            let heap = LocalHeap::new(rt.alloc(), 32 * size)?;
+            let found = said_of_two(&heap, rt.alloc(), &pointer, &file)?;
+            assert!(rt; found.as_str() == "33 Memory" || found.as_str() == want);
+            if found.as_str() == "33 Memory" {
+                refused = refused.saturating_add(1);
+            }
+        }
+        assert!(rt; 8 < refused && refused < 256);
+    }
+    Ok(())
+}
+
+#[test]
+fn a_merge_of_a_chain_is_refused_growth_in_turn(rt: HostRuntime) -> Result<(), Fail> {
+    let forward = file_with(rt.alloc(), 10_000, &chain(rt.alloc(), 9_999, true)?)?;
+    let turned = file_with(rt.alloc(), 10_000, &chain(rt.alloc(), 9_999, false)?)?;
     let mut refused = 0u32;
-    for size in 0..256usize {
-        let heap = LocalHeap::new(rt.alloc(), 32 * size)?;
-        match merge_files(&heap, &files, &settings(LIMIT)?, hasher()) {
-            Ok(canon) => assert_eq!(rt; canon.len(), 4),
+    for size in 0..48usize {
+        let heap = LocalHeap::new(rt.alloc(), 131_072 * size)?;
+        let mut file = Vec::new(rt.alloc());
+        let mut out = Out::new(&mut file);
+        match merge_to(&heap, &[&forward], &settings(LIMIT)?, &mut out, hasher()) {
+            Ok(_) => assert!(rt; file == turned),
             Err(fault) => {
                 let text = fault.to_string(rt.alloc())?;
-                assert_eq!(rt; text.as_str(), "33 Memory");
+                assert!(rt; text.as_str() == "33 Memory" && file.is_empty());
                 refused = refused.saturating_add(1);
             }
         }
     }
-    assert!(rt; 8 < refused && refused < 256);
+    assert!(rt; 4 < refused && refused < 48);
     Ok(())
 }
