@@ -70,8 +70,8 @@ fn to_indices(positions: &mut [u32])
     }
 }
 
-/// Puts records in order. That takes neither time nor memory where each record names `lower` ones
-/// alone.
+/// Puts records in order. Where `lower` says that each record names earlier ones alone, that takes
+/// neither time nor memory.
 pub fn arrange<A: Allocator + Copy>(
     alloc: A,
     records: &Records<'_, A>,
