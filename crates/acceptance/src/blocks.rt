@@ -5,7 +5,7 @@ use msf_blocks::{MsfFault, Superblock, free_bit, is_map_block, nth_block};
 use std::test::Fail;
 
 #[test]
-#[tactic(auto, unfolding(msf_blocks::specs::BlockNumber::nth_block))]
+#[tactic(auto, using(msf_blocks::proofs::SizeLaws::size_4096), unfolding(msf_blocks::specs::BlockNumber::nth_block))]
 fn data_blocks_of_4096(rt: HostRuntime) {
     assert_eq!(rt; nth_block(4096, 0), 0);
     assert_eq!(rt; nth_block(4096, 1), 3);

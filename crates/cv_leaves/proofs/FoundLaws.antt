@@ -131,13 +131,14 @@ fixed_found body (p ∷ ps) held =
     (fits_held body p 4 all.0, fixed_found body ps all.1)
 
 -- a record that passes its checks, by its leaf
-record_found : (r : List ℕ) (o : Option Leaf) → o ≡ leaf_of (kind_of r) → first_failing (record_checks r) ≡ None → HasPlaces r (places_of r)
-record_found r None is held = absurd (has_leaf r held is)
-record_found r (Some l) is held =
+record_found : (r : List ℕ) (o : Option Leaf) → 4 ≤ length r → o ≡ leaf_of (kind_of r) → first_failing (record_checks r) ≡ None → HasPlaces r (places_of r)
+record_found r None long is held = absurd (has_leaf r held is)
+record_found r (Some l) long is held =
     let body = body_of r in
     let parts_hold = parts_held r l held is in
     let parts = parts_found l.rest body (stop_of l.rest body) (stop_of l.rest body) (start_of l.rest) (omega arith) parts_hold in
     record {
+      long = long;
       leaf = l;
       kind = sym is;
       fixed = fixed_found body l.places (fixed_held r l held is);
@@ -153,5 +154,5 @@ record_found r (Some l) is held =
     }
 
 -- a record that passes its checks has the places that are met in it
-pub places_found : (r : List ℕ) → first_failing (record_checks r) ≡ None → HasPlaces r (places_of r)
-places_found r held = record_found r (leaf_of (kind_of r)) refl held
+pub places_found : (r : List ℕ) → 4 ≤ length r → first_failing (record_checks r) ≡ None → HasPlaces r (places_of r)
+places_found r long held = record_found r (leaf_of (kind_of r)) long refl held

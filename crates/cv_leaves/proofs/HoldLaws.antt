@@ -170,6 +170,10 @@ has_holds r places has =
     (first_failing-append_none (fixed_checks (body_of r) has.leaf.places) (rest_checks has.leaf.rest (body_of r)) (fixed_holds (body_of r) has.leaf.places has.fixed)
     ∙ rest_holds has.leaf.rest (body_of r) has.others has.rest)
 
+-- a record that has places has its length and its kind
+pub checked_long : (r : List ℕ) → IsChecked r → 4 ≤ length r
+checked_long r checked = checked.1.long
+
 -- a record that has places passes its checks
 pub checks_hold : (r : List ℕ) → IsChecked r → first_failing (record_checks r) ≡ None
 checks_hold r checked = has_holds r checked.0 checked.1

@@ -273,6 +273,7 @@ among_kept r places p n has in_places =
     let body = body_kept r p n (omega (arith, long)) in
     let same : length (put_four (body_of r) p n) ≡ length (body_of r) = put_len (body_of r) p n inside in
     record {
+      long = omega (arith, has.long, put_len r (4 + p) n (omega (arith, long)));
       leaf = has.leaf;
       kind = ap leaf_of (kind_kept r p n (omega (arith, long))) ∙ has.kind;
       fixed = subst (λ (len : ℕ). AllByRecursion (λ q. q + 4 ≤ len) has.leaf.places) (sym (ap length body ∙ same)) has.fixed;

@@ -14,3 +14,4 @@ pub mod MadeLaws
 pub mod PlaceLaws
 pub mod KeepLaws
 pub mod FillLaws
+pub mod FilledLaws

@@ -156,9 +156,9 @@ pub places_apart : (r places : List ℕ) → HasPlaces r places → Apart 0 plac
 places_apart r places has = rw has.places_are (record_apart has.leaf.rest (body_of r) has.leaf.places has.others (fixed_apart (kind_of r) has.leaf has.kind) has.fixed has.rest)
 
 -- the bytes of each place of a record lie within it
-pub places_fit : (r places : List ℕ) → 4 ≤ length r → HasPlaces r places → AllByRecursion (λ p. p + 8 ≤ length r) places
+pub places_fit : (r places : List ℕ) → HasPlaces r places → AllByRecursion (λ p. p + 8 ≤ length r) places
 unfolding body_of
-places_fit r places long has = all_fit 0 places (length (body_of r)) (length r) (omega (arith, length-drop 4 r)) (places_apart r places has)
+places_fit r places has = all_fit 0 places (length (body_of r)) (length r) (omega (arith, has.long, length-drop 4 r)) (places_apart r places has)
 
 -- ---- lists that fill the body
 

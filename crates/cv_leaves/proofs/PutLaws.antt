@@ -3,7 +3,9 @@ use Rattle.std.proofs.Common.{◌≡◌, ◌<◌, ◌≤◌, ◌+◌, ◌^◌, �
 use Rattle.std.proofs.lemmas.List.{append_assoc, length-append, length-take, length-drop, get_or_append_left, get_or-take, get_or-drop, drop-drop, take-append-le, drop-append-le, drop_at, take-take, take-append-drop}
 use Rattle.std.proofs.Math.Seq.{take-append-add, drop-append-add}
 use Rattle.byte_fields.specs.Number.{number_at, four_bytes}
-use Rattle.byte_fields.proofs.NumberLaws.{length-four_bytes, number_at-drop}
+use Rattle.byte_fields.specs.Bytes.{AreBytes}
+use Rattle.byte_fields.proofs.BytesLaws.{bytes_append, bytes_take, bytes_drop, four_are_bytes}
+use Rattle.byte_fields.proofs.NumberLaws.{length-four_bytes, number_at-drop, four_bytes-number_at}
 use Rattle.cv_leaves.specs.Checks.{body_of}
 use Rattle.cv_leaves.specs.Blank.{put_four}
 
@@ -51,6 +53,14 @@ kind_before x at n above inside =
     let b : get_or (drop 2 y) 1 0 ≡ get_or (drop 2 x) 1 0 = get_or-drop 2 y 1 0 ∙ byte_before x at n 3 (omega arith) inside ∙ sym (get_or-drop 2 x 1 0) in
     rw (a, b) refl
 
+-- a number of four bytes in front of it stays
+pub read_before : (x : List ℕ) (p at n : ℕ) → p + 4 ≤ at → at ≤ length x → number_at 4 (put_four x at n) p ≡ number_at 4 x p
+unfolding number_at
+read_before x p at n apart inside =
+    let byte : (i : ℕ) → i < 4 → get_or (drop p (put_four x at n)) i 0 ≡ get_or (drop p x) i 0 =
+    λ i below. get_or-drop p (put_four x at n) i 0 ∙ byte_before x at n (p + i) (omega (arith, below, apart)) inside ∙ sym (get_or-drop p x i 0) in
+    rw (byte 0 (omega arith), byte 1 (omega arith), byte 2 (omega arith), byte 3 (omega arith)) refl
+
 -- written in the first of two texts
 pub put_front : (a b : List ℕ) (p n : ℕ) → p + 4 ≤ length a → put_four (a ++ b) p n ≡ put_four a p n ++ b
 unfolding put_four
@@ -74,13 +84,25 @@ unfolding number_at four_bytes
 number_front n rest small = omega arith
 
 -- what is written is read again
-put_read : (x : List ℕ) (at n : ℕ) → at + 4 ≤ length x → n < 2 ^ 32 → number_at 4 (put_four x at n) at ≡ n
+pub put_read : (x : List ℕ) (at n : ℕ) → at + 4 ≤ length x → n < 2 ^ 32 → number_at 4 (put_four x at n) at ≡ n
 unfolding put_four
 put_read x at n inside small =
     let long : length (take at x) ≡ at = omega (arith, length-take at x) in
     sym (number_at-drop 4 (put_four x at n) at)
     ∙ ap (λ (y : List ℕ). number_at 4 y 0) (drop_at (take at x) (four_bytes n ++ drop (at + 4) x) at long)
     ∙ number_front n (drop (at + 4) x) small
+
+-- what is written where it is read changes nothing, in a text of bytes
+pub put_own : (x : List ℕ) (at : ℕ) → AreBytes x → at + 4 ≤ length x → put_four x at (number_at 4 x at) ≡ x
+unfolding put_four
+put_own x at bytes inside =
+    rw (four_bytes-number_at x at bytes inside, ← drop-drop 4 at x, take-append-drop 4 (drop at x)) (take-append-drop at x)
+
+-- a text of bytes stays one
+pub put_bytes : (x : List ℕ) (at n : ℕ) → AreBytes x → AreBytes (put_four x at n)
+unfolding put_four
+put_bytes x at n bytes =
+    bytes_append (take at x) (four_bytes n ++ drop (at + 4) x) (bytes_take at x bytes) (bytes_append (four_bytes n) (drop (at + 4) x) (four_are_bytes n) (bytes_drop (at + 4) x bytes))
 
 -- also in the body of a record
 pub body_read : (r : List ℕ) (place n : ℕ) → place + 8 ≤ length r → n < 2 ^ 32 → number_at 4 (body_of (put_four r (4 + place) n)) place ≡ n

@@ -81,8 +81,9 @@ pub record HasParts (rest : Rest) (body places : List ℕ) : Type 0 where
   pub parts : drop (start_of rest) body ≡ concat texts ++ back
   pub parts_are : AreParts rest (stop_of rest body) (start_of rest) texts places
 
--- the record has a leaf of the table; its fixed places fit; and the record's places are these and those of the parts behind them
+-- the record has its length and its kind, and a leaf of the table; its fixed places fit; and the record's places are these and those of the parts after them
 pub record HasPlaces (r places : List ℕ) : Type 0 where
+  pub long : 4 ≤ length r
   pub leaf : Leaf
   pub kind : leaf_of (kind_of r) ≡ Some leaf
   pub fixed : AllByRecursion (λ p. p + 4 ≤ length (body_of r)) leaf.places

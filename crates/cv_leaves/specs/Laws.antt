@@ -1,15 +1,22 @@
--- What holds of the places of every record.
-use Rattle.std.specs.Prelude.{ℕ, ◌≡◌, ◌+◌, ◌^◌, ◌<◌, ◌≤◌, List, length}
-use Rattle.std.specs.List.{concat}
+-- What holds of the places of every record, and of the numbers that are written there.
+use Rattle.std.specs.Prelude.{ℕ, ◌≡◌, ◌+◌, ◌^◌, ◌<◌, List, length}
+use Rattle.std.specs.List.{concat, AllByRecursion}
+use Rattle.byte_fields.specs.Bytes.{AreBytes}
 use Rattle.byte_fields.specs.Number.{number_at}
-use Rattle.cv_leaves.specs.Checks.{body_of}
+use Rattle.tpi_records.specs.Records.{IsRecord}
+use Rattle.cv_leaves.specs.Checks.{body_of, places_of}
 use Rattle.cv_leaves.specs.Blank.{put_four, fill, blank}
-use Rattle.cv_leaves.specs.HasPlaces.{AreParts, HasParts, HasPlaces, IsPlace, Apart}
+use Rattle.cv_leaves.specs.HasPlaces.{AreParts, HasParts, HasPlaces, IsChecked, IsPlace, Apart}
+use Rattle.cv_leaves.specs.References.{references, blanked, filled}
 use Rattle.cv_leaves.specs.declared.leaf.Rest.TheVariants.{Methods, Members}
 
 -- a record has one list of places
 abbrev pub OnePlaces : Type 0
 OnePlaces = (r ps qs : List ℕ) → HasPlaces r ps → HasPlaces r qs → ps ≡ qs
+
+-- the places of a record are those that the walk meets
+abbrev pub PlacesMet : Type 0
+PlacesMet = (r places : List ℕ) → HasPlaces r places → places ≡ places_of r
 
 -- the places of a record rise, are at least four bytes apart, and each four bytes lie within the body
 abbrev pub PlacesApart : Type 0
@@ -25,11 +32,39 @@ BlankKeeps = (r places : List ℕ) → HasPlaces r places → HasPlaces (blank r
 
 -- a record with zeros at its places stays as it is where they are written again
 abbrev pub BlankStays : Type 0
-BlankStays = (r places : List ℕ) → HasPlaces r places → 4 ≤ length r → blank (blank r places) places ≡ blank r places
+BlankStays = (r places : List ℕ) → HasPlaces r places → blank (blank r places) places ≡ blank r places
 
 -- a number that is written at a place is read there again
 abbrev pub WrittenIsRead : Type 0
 WrittenIsRead = (r : List ℕ) (place n : ℕ) → IsPlace r place → n < 2 ^ 32 → number_at 4 (body_of (put_four r (4 + place) n)) place ≡ n
+
+-- the numbers that a record is filled with, one for each place, are then its references
+abbrev pub FilledIsRead : Type 0
+FilledIsRead = (r ns : List ℕ) → IsChecked r → length ns ≡ length (places_of r) → AllByRecursion (λ n. n < 2 ^ 32) ns → references (filled r ns) ≡ ns
+
+-- whatever numbers a record is filled with, its blank stays the same
+abbrev pub FillKeepsBlank : Type 0
+FillKeepsBlank = (r ns : List ℕ) → IsChecked r → blanked (filled r ns) ≡ blanked r
+
+-- a record of bytes is its blank, filled with its own references
+abbrev pub OwnFill : Type 0
+OwnFill = (r : List ℕ) → IsChecked r → AreBytes r → filled (blanked r) (references r) ≡ r
+
+-- whatever numbers a record is filled with, it keeps its framing
+abbrev pub FillKeepsFrame : Type 0
+FillKeepsFrame = (r ns : List ℕ) → IsChecked r → IsRecord r → IsRecord (filled r ns)
+
+-- a record with zeros at its places keeps its framing
+abbrev pub BlankKeepsFrame : Type 0
+BlankKeepsFrame = (r : List ℕ) → IsChecked r → IsRecord r → IsRecord (blanked r)
+
+-- whatever numbers a record of bytes is filled with, it is made of bytes
+abbrev pub FillKeepsBytes : Type 0
+FillKeepsBytes = (r ns : List ℕ) → AreBytes r → AreBytes (filled r ns)
+
+-- a record of bytes with zeros at its places is made of bytes
+abbrev pub BlankKeepsBytes : Type 0
+BlankKeepsBytes = (r : List ℕ) → AreBytes r → AreBytes (blanked r)
 
 -- the entries of a method list fill its body
 abbrev pub MethodsFill : Type 0

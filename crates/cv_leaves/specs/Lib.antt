@@ -13,3 +13,4 @@ pub mod Name
 pub mod HasPlaces
 pub mod Blank
 pub mod Laws
+pub mod References

@@ -24,11 +24,14 @@
 //! What is proved: a record is accepted exactly where it has places (`HasPlaces` of
 //! `specs/HasPlaces`: the record is made of these parts, and these are the places in them); a
 //! refusal names the first check that fails; [`places`] gives the places; and writing an index at
-//! one of them leaves the places of the record as they are. What holds of the places of every
-//! record stands in [`laws`]: there is one list of them, they are at least four bytes apart and
-//! lie within the body, a record that is filled with other numbers keeps them, and the entries of
-//! a method list and the members of a field list fill its body. No call takes memory. ("CodeView
-//! Type Records".)
+//! one of them leaves the places of the record as they are.
+//!
+//! What holds of every record is in [`laws`]. There is one list of its places: those that the walk
+//! meets. They are at least four bytes apart and lie within the body. Numbers that are written at
+//! all of them are then the record's references. The record's places, its framing and its *blank*
+//! (the record with zeros at its places) stay as they are, and bytes stay bytes. The blank, filled
+//! with the record's own references, is the record again. The entries of a method list and the
+//! members of a field list fill its body. No call takes memory. ("CodeView Type Records".)
 #![tactic(auto)]
 
 mod checks;

@@ -7,10 +7,11 @@ use crate::place::Places;
 
 /// The places of a record: the offsets in its body at which type indices stand, in rising order.
 ///
-/// The record is one that [`check`](crate::check) accepts. It takes no memory.
-#[tactic(auto, using(crate::proofs::FoundLaws::places_found, crate::proofs::HoldLaws::checks_hold))]
+/// The record is one that [`check`](crate::check) accepts, of at most 65,536 bytes. It takes no
+/// memory.
+#[tactic(auto, using(crate::proofs::FoundLaws::places_found, crate::proofs::HoldLaws::checks_hold, crate::proofs::HoldLaws::checked_long))]
 pub fn places(record: &[u8]) -> Places<'_>
-    requires long { (4 ≤ length «record».now) × (length «record».now ≤ 2 ^ 16) }
+    requires short { length «record».now ≤ 2 ^ 16 }
     requires checked { IsChecked «record».now }
     ensures { HasPlaces «record».now result }
 {

@@ -7,11 +7,8 @@ use Rattle.std.proofs.lemmas.Bool.Decides.{nat_tests}
 use Rattle.std.proofs.lemmas.List.{map-id, append-nil}
 use Rattle.std.proofs.lemmas.List.FromFn.{map-range_with_len_more, length-map-range_with_len}
 use Rattle.std.proofs.lemmas.List.Elements.{filter-append}
-use Rattle.msf_blocks.specs.BlockNumber.{IsBlockSize, is_map_block, nth_block, data_blocks}
-
--- one interval more
-next_row : (q c : ℕ) → q * c + c ≡ (q + 1) * c
-next_row q c = omega arith
+use Rattle.msf_blocks.specs.BlockNumber.{is_map_block, nth_block, data_blocks}
+use Rattle.msf_blocks.proofs.SizeLaws.{next_row}
 
 -- the first data block of an interval
 pub nth_first : (b q j : ℕ) → 3 < b → j ≡ q * (b - 2) → nth_block b j ≡ q * b
@@ -173,12 +170,3 @@ nth_onto b k big e =
           (q * (b - 2) + (p - 2), nth_other b q (p - 2) (q * (b - 2) + (p - 2)) big (omega arith) (omega arith) refl ∙ omega arith)
       | inr none ↦ (q * (b - 2), nth_first b q (q * (b - 2)) big refl ∙ omega arith)
     ]
-
--- every block size leaves room for more than the map blocks
-pub big_enough : (b : ℕ) → IsBlockSize b → 3 < b
-big_enough b size = elim size [
-  | inl e ↦ omega (arith, e)
-  | inr (inl e) ↦ omega (arith, e)
-  | inr (inr (inl e)) ↦ omega (arith, e)
-  | inr (inr (inr e)) ↦ omega (arith, e)
-]

@@ -1,9 +1,9 @@
 -- The numbers of the stream directory, and where they lie in the file.
-use Rattle.std.proofs.Common.{map, add-one, [], ◌∷◌, ◌++◌, ◌≡◌, ℕ, zero, suc, ◌+◌, ◌-◌, ◌*◌, ◌/◌, ◌%◌, ◌<◌, ◌≤◌, true, List, length, get_or, refl, ap, ◌∙◌, arith, inl, inr}
+use Rattle.std.proofs.Common.{map, add-one, [], ◌∷◌, ◌++◌, ◌≡◌, ℕ, zero, suc, ◌+◌, ◌-◌, ◌*◌, ◌/◌, ◌%◌, ◌<◌, ◌≤◌, true, List, length, get_or, refl, ap, ◌∙◌, arith}
 use Rattle.std.specs.List.{range_with_len}
 use Rattle.std.proofs.lemmas.List.{get_or-drop}
 use Rattle.std.proofs.lemmas.List.FromFn.{map-range_with_len_more, get_or-map-range_with_len, length-map-range_with_len}
-use Rattle.std.proofs.lemmas.Nat.{mul-le}
+use Rattle.std.proofs.lemmas.Nat.{mul-le, div-add-mod', mod_below, div-mul-add, mod-mul-add}
 use Rattle.std.proofs.lemmas.Bool.Decides.{nat_tests}
 use Rattle.byte_fields.specs.Number.{number_at, word}
 use Rattle.byte_fields.proofs.CheckLaws.{checks_below-each, check_held}
@@ -11,6 +11,7 @@ use Rattle.msf_blocks.specs.BlockNumber.{IsBlockSize, IsOrdinary, is_ordinary, b
 use Rattle.msf_blocks.specs.Superblock.{Fields}
 use Rattle.msf_blocks.specs.Directory.{map_number, directory_text, directory_blocks, directory_block_check, directory_block_checks, IsReadable, list_start, stream_blocks}
 use Rattle.msf_blocks.specs.declared.fault.MsfFault.TheVariants.{DirectoryBlock}
+use Rattle.msf_blocks.proofs.SizeLaws.{size_facts, some_bytes, place_below}
 
 -- ---- where a number lies
 
@@ -19,19 +20,31 @@ pub text_length : (file : List ℕ) (fields : Fields) → length (directory_text
 unfolding directory_text
 text_length file fields = length-map-range_with_len _ 0 fields.directory_bytes
 
--- what holds of a number of the directory at each of the block sizes: its four bytes stand side by side in one block, which the block map names
+-- a number of the directory: its four bytes stand side by side in one block, which the block map names
 record LiesInBlock (b d j : ℕ) : Type 0 where
   same_block : (i : ℕ) → i < 4 → ((4 * j + i) / b ≡ 4 * j / b) × ((4 * j + i) % b ≡ 4 * j % b + i)
   below : 4 * j / b < blocks_for b d
   inside : 4 * j % b + 4 ≤ b
 
+-- a block holds whole numbers
+whole_numbers : (b c q r j : ℕ) → b ≡ 4 * c → q * b + r ≡ 4 * j → r < b → r + 4 ≤ b
+whole_numbers b c q r j is e lt = let fours : q * b ≡ 4 * (q * c) = ap (λ (n : ℕ). q * n) is ∙ omega arith in omega arith
+
 lies_in_block : (b d j : ℕ) → IsBlockSize b → 4 * j + 4 ≤ d → LiesInBlock b d j
-lies_in_block b d j size room = elim size [
-  | inl e ↦ rw e (record { same_block = λ i lt. (omega arith, omega arith); below = omega arith; inside = omega arith })
-  | inr (inl e) ↦ rw e (record { same_block = λ i lt. (omega arith, omega arith); below = omega arith; inside = omega arith })
-  | inr (inr (inl e)) ↦ rw e (record { same_block = λ i lt. (omega arith, omega arith); below = omega arith; inside = omega arith })
-  | inr (inr (inr e)) ↦ rw e (record { same_block = λ i lt. (omega arith, omega arith); below = omega arith; inside = omega arith })
-]
+lies_in_block b d j size room =
+    let facts = size_facts b size in
+    let some = some_bytes b size in
+    let q = 4 * j / b in
+    let r = 4 * j % b in
+    let whole : q * b + r ≡ 4 * j = div-add-mod' (4 * j) b in
+    let within : r + 4 ≤ b = whole_numbers b (b / 4) q r j facts.fours whole (mod_below (4 * j) b some) in
+    record {
+      same_block = λ i lt.
+          let e : 4 * j + i ≡ q * b + (r + i) = omega (arith, whole) in
+          (rw e (div-mul-add q b (r + i) (omega (arith, within))), rw e (mod-mul-add q b (r + i) (omega (arith, within))));
+      below = place_below b d (4 * j) some (omega arith);
+      inside = within;
+    }
 
 -- the offset in the file of the directory's number at a position
 abbrev pub word_offset : List ℕ → Fields → ℕ → ℕ

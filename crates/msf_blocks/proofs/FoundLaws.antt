@@ -1,5 +1,5 @@
 -- A file that has a layout fails no check.
-use Rattle.std.proofs.Common.{◌≡◌, ℕ, zero, suc, ◌+◌, ◌*◌, ◌/◌, ◌%◌, ◌<◌, ◌≤◌, ◌^◌, true, List, [], ◌∷◌, ◌++◌, None, length, map, take, get_or, refl, sym, ap, ◌∙◌, arith, inl, inr}
+use Rattle.std.proofs.Common.{◌≡◌, ℕ, zero, suc, ◌+◌, ◌*◌, ◌/◌, ◌%◌, ◌<◌, ◌≤◌, ◌^◌, true, List, [], ◌∷◌, ◌++◌, None, length, map, take, get_or, refl, sym, ap, ◌∙◌, arith}
 use Rattle.std.specs.Prelude.{nat_le, nat_eq, ◌==◌, ◌&&◌, ◌||◌}
 use Rattle.std.specs.List.{flat_map, starts_with}
 use Rattle.std.proofs.Math.Seq.{take-suc}
@@ -9,15 +9,17 @@ use Rattle.std.proofs.lemmas.List.{append-nil, take_all, length-append, length-m
 use Rattle.std.proofs.lemmas.List.Concat.{get_or-flat_map}
 use Rattle.std.proofs.lemmas.List.Folds.{length-flat_map-take}
 use Rattle.std.proofs.lemmas.List.Elements.{All-get_or}
+use Rattle.byte_fields.specs.Bytes.{AreBytes}
 use Rattle.byte_fields.specs.Number.{number_at, word, words}
 use Rattle.byte_fields.specs.Check.{first_failing, checks_below}
 use Rattle.byte_fields.proofs.NumberLaws.{word-words, length-words, number_at-small}
 use Rattle.byte_fields.proofs.CheckLaws.{checks_below-all, check_holds}
-use Rattle.msf_blocks.specs.BlockNumber.{IsBlockSize, is_block_size, IsOrdinary, is_ordinary, blocks_for}
+use Rattle.msf_blocks.specs.BlockNumber.{is_block_size, IsOrdinary, is_ordinary, blocks_for}
 use Rattle.msf_blocks.specs.Superblock.{Fields, IsSuperblock, fields_of, superblock_checks, magic}
 use Rattle.msf_blocks.specs.Directory.{Listed, IsListed, IsDirectory, ListsStreams, directory_blocks, map_number, directory_block_check, directory_block_checks, length_checks, stream_checks, stream_block_check, stream_blocks, list_start}
 use Rattle.msf_blocks.specs.Layout.{LayoutView, HasLayout, layout_checks}
 use Rattle.msf_blocks.specs.declared.fault.MsfFault.TheVariants.{DirectoryBlock, StreamBlock}
+use Rattle.msf_blocks.proofs.SizeLaws.{size_decides, listed_short}
 use Rattle.msf_blocks.proofs.SuperblockLaws.{starts_with_magic}
 use Rattle.msf_blocks.proofs.DirectoryLaws.{text_length, list_start_zero, list_start_more}
 use Rattle.msf_blocks.proofs.LayoutLaws.{stream_answer}
@@ -143,15 +145,6 @@ blocks_hold file fields text h =
     let o : IsOrdinary fields.num_blocks block = h.ordinary k below in
     check_holds (is_ordinary fields.num_blocks block) (DirectoryBlock k block) (grind (arith, nat_tests)))
 
--- a directory is shorter than 2 ^ 32 bytes, since one block lists its blocks
-directory_short : (b d : ℕ) → IsBlockSize b → blocks_for b d ≤ b / 4 → d < 2 ^ 32
-directory_short b d size fits = elim size [
-  | inl e ↦ let f = rw e at fits in omega (arith, f)
-  | inr (inl e) ↦ let f = rw e at fits in omega (arith, f)
-  | inr (inr (inl e)) ↦ let f = rw e at fits in omega (arith, f)
-  | inr (inr (inr e)) ↦ let f = rw e at fits in omega (arith, f)
-]
-
 -- the checks of a superblock hold
 superblock_holds : (file : List ℕ) (fields : Fields) → IsSuperblock file fields → first_failing (superblock_checks file) ≡ None
 unfolding superblock_checks
@@ -159,7 +152,7 @@ superblock_holds file fields s =
     let f = s.fit in
     let m : starts_with nat_eq file magic ≡ true = starts_with_magic file s.magical in
     let a : nat_le 56 (length file) ≡ true = grind (arith, nat_tests, s.long) in
-    let b : is_block_size (number_at 4 file 32) ≡ true = rw s.block_size_is (grind (arith, nat_tests, f.block_size_fits)) in
+    let b : is_block_size (number_at 4 file 32) ≡ true = rw s.block_size_is ((size_decides fields.block_size).1 f.block_size_fits) in
     let c : (number_at 4 file 36 == 1 || number_at 4 file 36 == 2) ≡ true = rw s.free_map_block_is (grind (arith, nat_tests, f.free_map_block_fits)) in
     let d : nat_le (number_at 4 file 40 * number_at 4 file 32) (length file) ≡ true = rw (s.num_blocks_is, s.block_size_is) (grind (arith, nat_tests, s.whole)) in
     let e : (number_at 4 file 44 % 4 == 0 && nat_le (blocks_for (number_at 4 file 32) (number_at 4 file 44)) (number_at 4 file 32 / 4)) ≡ true =
@@ -168,7 +161,7 @@ superblock_holds file fields s =
     rw (a, m, b, c, d, e, g) refl
 
 -- a file that has a layout fails no check
-pub layout_holds : (file : List ℕ) (layout : LayoutView) → ((i : ℕ) → get_or file i 0 < 256) → HasLayout file layout → first_failing (layout_checks file) ≡ None
+pub layout_holds : (file : List ℕ) (layout : LayoutView) → AreBytes file → HasLayout file layout → first_failing (layout_checks file) ≡ None
 layout_holds file layout bytes h =
     let fields = layout.superblock in
     let is = fields_are file fields h.superblock in
@@ -176,7 +169,7 @@ layout_holds file layout bytes h =
     let long : length h.text ≡ fields.directory_bytes = ap length h.directory.text_is ∙ text_length file fields in
     let t : IsText fields h.text layout.streams = record {
       lists = h.lists;
-      short = omega (arith, long, directory_short fields.block_size fields.directory_bytes fit.block_size_fits fit.directory_fits);
+      short = omega (arith, long, listed_short fields.block_size fields.directory_bytes fit.block_size_fits fit.directory_fits);
       few_blocks = rw (← h.superblock.num_blocks_is) (number_at-small file 40 bytes);
     } in
     let blocks = blocks_hold file fields h.text h.directory in

@@ -1,3 +1,4 @@
+pub mod SizeLaws
 pub mod SuperblockLaws
 pub mod WantLaws
 pub mod DirectoryLaws
@@ -6,3 +7,5 @@ pub mod ListsLaws
 pub mod FoundLaws
 pub mod SinkLaws
 pub mod BlockLaws
+pub mod FreeMapLaws
+pub mod OneLayoutLaws

@@ -7,6 +7,7 @@ use Rattle.std.proofs.lemmas.Grind.{flat_map-append}
 use Rattle.std.proofs.lemmas.List.{append-nil, take-append-drop, get_or_past}
 use Rattle.std.proofs.lemmas.List.FromFn.{get_or-map-range_with_len, length-map-range_with_len}
 use Rattle.std.proofs.lemmas.List.Elements.{All-from_get_or}
+use Rattle.byte_fields.specs.Bytes.{AreBytes}
 use Rattle.byte_fields.specs.Number.{word, words}
 use Rattle.byte_fields.specs.Check.{first_failing, checks_below}
 use Rattle.byte_fields.proofs.NumberLaws.{words-word, number_at-small}
@@ -57,7 +58,7 @@ lists_are b text (suc n) =
     )
 
 -- the text is the words of what was read, and any rest
-listing : (b : ℕ) (text : List ℕ) → ((i : ℕ) → get_or text i 0 < 256) → 4 * list_start b text (word text 0) ≤ length text
+listing : (b : ℕ) (text : List ℕ) → AreBytes text → 4 * list_start b text (word text 0) ≤ length text
     → let streams = listed_below b text (word text 0) in
     (rest : List ℕ) × (text ≡ words (length streams ∷ map (λ s. s.size) streams ++ flat_map (λ s. s.blocks) streams) ++ rest)
 listing b text bytes long =
@@ -73,7 +74,7 @@ listing b text bytes long =
     (drop (4 * (1 + (n + lists.0))) text, sym (rw counted (ap (λ (xs : List ℕ). xs ++ drop (4 * (1 + (n + lists.0))) text) front ∙ take-append-drop (4 * (1 + (n + lists.0))) text)))
 
 -- a stream whose checks hold
-listed_holds : (fields : Fields) (text : List ℕ) (t : ℕ) → ((i : ℕ) → get_or text i 0 < 256) → first_failing (stream_checks fields text t) ≡ None → IsListed fields (listed_at fields.block_size text t)
+listed_holds : (fields : Fields) (text : List ℕ) (t : ℕ) → AreBytes text → first_failing (stream_checks fields text t) ≡ None → IsListed fields (listed_at fields.block_size text t)
 unfolding stream_checks stream_blocks listed_at word
 listed_holds fields text t bytes held =
     let b = fields.block_size in
@@ -91,7 +92,7 @@ listed_holds fields text t bytes held =
     }
 
 -- a directory whose checks hold lists the streams that are read from it
-pub lists_what_is_read : (fields : Fields) (text : List ℕ) → ((i : ℕ) → get_or text i 0 < 256) → 4 * list_start fields.block_size text (word text 0) ≤ length text
+pub lists_what_is_read : (fields : Fields) (text : List ℕ) → AreBytes text → 4 * list_start fields.block_size text (word text 0) ≤ length text
     → first_failing (checks_below (word text 0) (stream_checks fields text)) ≡ None → ListsStreams fields text (listed_below fields.block_size text (word text 0))
 lists_what_is_read fields text bytes long held =
     let b = fields.block_size in
@@ -108,7 +109,7 @@ lists_what_is_read fields text bytes long held =
     }
 
 -- the bytes of the directory are bytes of the file
-pub text_bytes : (file : List ℕ) (fields : Fields) → ((i : ℕ) → get_or file i 0 < 256) → (i : ℕ) → get_or (directory_text file fields) i 0 < 256
+pub text_bytes : (file : List ℕ) (fields : Fields) → AreBytes file → AreBytes (directory_text file fields)
 unfolding directory_text
 text_bytes file fields each i =
     let byte = λ (i : ℕ). get_or file (map_number file fields (i / fields.block_size) * fields.block_size + i % fields.block_size) 0 in
@@ -118,12 +119,12 @@ text_bytes file fields each i =
     ]
 
 -- what was read of a file whose checks hold is its layout
-pub layout_is : (file : List ℕ) (fields : Fields) (text : List ℕ) (n : ℕ) (streams : List Listed) → ((i : ℕ) → get_or file i 0 < 256) → IsSuperblock file fields → fields ≡ fields_of file → text ≡ directory_text file fields
+pub layout_is : (file : List ℕ) (fields : Fields) (text : List ℕ) (n : ℕ) (streams : List Listed) → AreBytes file → IsSuperblock file fields → fields ≡ fields_of file → text ≡ directory_text file fields
     → n ≡ word text 0 → 4 * list_start fields.block_size text n ≤ length text → first_failing (layout_checks file) ≡ None → streams ≡ listed_below fields.block_size text n
     → HasLayout file (record { superblock = fields; streams = streams })
 layout_is file fields text n streams bytes super is text_is count room held read =
     let parts = layout_parts file fields is held in
-    let small : (i : ℕ) → get_or text i 0 < 256 = rw text_is (text_bytes file fields bytes) in
+    let small : AreBytes text = rw text_is (text_bytes file fields bytes) in
     let streams_hold : first_failing (checks_below (word text 0) (stream_checks fields text)) ≡ None = rw text_is parts.1 in
     record {
       superblock = super;
@@ -136,10 +137,10 @@ layout_is file fields text n streams bytes super is text_is count room held read
     }
 
 -- and what holds of every layout holds of it
-pub layout_fits : (file : List ℕ) (fields : Fields) (text : List ℕ) (n : ℕ) (streams : List Listed) → ((i : ℕ) → get_or file i 0 < 256) → HasLayout file (record { superblock = fields; streams = streams })
+pub layout_fits : (file : List ℕ) (fields : Fields) (text : List ℕ) (n : ℕ) (streams : List Listed) → AreBytes file → HasLayout file (record { superblock = fields; streams = streams })
     → text ≡ directory_text file fields → n ≡ word text 0 → streams ≡ listed_below fields.block_size text n → IsLayout (record { superblock = fields; streams = streams })
 unfolding word
 layout_fits file fields text n streams bytes h text_is count read =
-    let small : (i : ℕ) → get_or text i 0 < 256 = rw text_is (text_bytes file fields bytes) in
+    let small : AreBytes text = rw text_is (text_bytes file fields bytes) in
     let long : length streams ≡ n = rw read (length-map-range_with_len (listed_at fields.block_size text) 0 n) in
     record { few = omega (arith, long, count, number_at-small text 0 small); each = h.lists.each }

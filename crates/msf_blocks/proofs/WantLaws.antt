@@ -1,5 +1,5 @@
 -- No check of a layout has want of memory as its fault.
-use Rattle.std.proofs.Common.{◌≡◌, Bool, true, false, cond, ℕ, zero, suc, List, [], ◌∷◌, ◌++◌, Option, Some, None, refl}
+use Rattle.std.proofs.Common.{◌≡◌, Bool, true, false, cond, ℕ, zero, suc, List, [], ◌∷◌, ◌++◌, Option, Some, refl}
 use Rattle.byte_fields.specs.Check.{Check, first_failing, checks_below}
 use Rattle.msf_blocks.specs.Superblock.{Fields, fields_of, superblock_checks}
 use Rattle.msf_blocks.specs.Directory.{directory_text, directory_blocks, directory_block_check, directory_block_checks, length_checks, stream_blocks, stream_block_check, stream_checks}

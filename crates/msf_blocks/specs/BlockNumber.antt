@@ -1,14 +1,19 @@
 -- Blocks: their sizes and their numbers ("The MSF File Format", "File Layout").
-use Rattle.std.specs.Prelude.{ℕ, ◌≡◌, ◌+◌, ◌-◌, ◌*◌, ◌/◌, ◌%◌, ◌<◌, ◌⊎◌, ◌==◌, ◌&&◌, ◌||◌, nat_lt, not, if◌then◌else◌, Bool, List}
-use Rattle.std.specs.List.{range_with_len, filter}
+use Rattle.std.specs.Prelude.{ℕ, ◌+◌, ◌-◌, ◌*◌, ◌/◌, ◌%◌, ◌<◌, ◌==◌, ◌&&◌, ◌||◌, nat_eq, nat_lt, not, if◌then◌else◌, Bool, List, [], ◌∷◌}
+use Rattle.std.specs.List.{Contains, range_with_len, filter}
+use Rattle.std.specs.Set.{is_member}
 
--- the sizes that a block may have
-abbrev pub IsBlockSize : ℕ → Type 0
-IsBlockSize size = (size ≡ 512) ⊎ (size ≡ 1024) ⊎ (size ≡ 2048) ⊎ (size ≡ 4096)
+-- the sizes that a block may have, in bytes
+abbrev pub block_sizes : List ℕ
+block_sizes = 512 ∷ 1024 ∷ 2048 ∷ 4096 ∷ []
 
--- the test of these sizes
-abbrev pub is_block_size : ℕ → Bool
-is_block_size size = size == 512 || size == 1024 || size == 2048 || size == 4096
+-- a block may have this size
+unfoldable pub IsBlockSize : ℕ → Type 0
+IsBlockSize size = Contains block_sizes size
+
+-- the test of such a size
+unfoldable pub is_block_size : ℕ → Bool
+is_block_size size = is_member nat_eq block_sizes size
 
 -- how many blocks of this size hold so many bytes
 abbrev pub blocks_for : ℕ → ℕ → ℕ

@@ -1,5 +1,5 @@
 -- The free block map that is in force ("The MSF File Format", "The Free Block Map").
-use Rattle.std.specs.Prelude.{ℕ, ◌≡◌, ◌+◌, ◌*◌, ◌/◌, ◌%◌, ◌^◌, List, slice_index}
+use Rattle.std.specs.Prelude.{ℕ, ◌+◌, ◌*◌, ◌/◌, ◌%◌, ◌^◌, ◌==◌, ◌&&◌, nat_lt, Bool, List, slice_index}
 use Rattle.msf_blocks.specs.Superblock.{Fields}
 
 -- how many blocks one map block speaks of: a bit each
@@ -15,6 +15,8 @@ abbrev pub map_byte_of : List ℕ → Fields → ℕ → ℕ
 map_byte_of file fields block =
     slice_index file (map_block_of fields block * fields.block_size + block % blocks_per_map_block fields / 8)
 
--- the block is free: its bit, counted from the lowest, is 1
-abbrev pub IsFree : List ℕ → Fields → ℕ → Type 0
-IsFree file fields block = map_byte_of file fields block / 2 ^ (block % blocks_per_map_block fields % 8) % 2 ≡ 1
+-- the block is free: the map block that speaks of it is in the file, and its bit there, counted from the lowest, is 1
+abbrev pub is_free : List ℕ → Fields → ℕ → Bool
+is_free file fields block =
+    nat_lt (map_block_of fields block) fields.num_blocks
+    && map_byte_of file fields block / 2 ^ (block % blocks_per_map_block fields % 8) % 2 == 1

@@ -4,3 +4,4 @@ pub mod Directory
 pub mod Layout
 pub mod Stream
 pub mod FreeMap
+pub mod Laws

@@ -14,6 +14,7 @@ ghost use Rattle.std.specs.List.{range_with_len};
 ghost use Rattle.msf_blocks.specs.BlockNumber.{IsBlockSize, blocks_for, is_block_size, is_ordinary, is_map_block, nth_block, data_blocks};
 
 /// Whether blocks may have this size, in bytes.
+#[tactic(auto, unfolding(crate::specs::BlockNumber::is_block_size))]
 pub fn is_block_size(size: u32) -> bool
     ensures { result ≡ is_block_size size }
 {
@@ -21,6 +22,7 @@ pub fn is_block_size(size: u32) -> bool
 }
 
 /// How many blocks of a size hold so many bytes.
+#[tactic(auto, using(crate::proofs::SizeLaws::size_facts, crate::proofs::SizeLaws::ceil_is))]
 pub fn blocks_for(block_size: u32, bytes: u32) -> u32
     requires { IsBlockSize block_size }
     ensures { result ≡ blocks_for block_size bytes }
@@ -38,6 +40,7 @@ pub fn is_ordinary(num_blocks: u32, block: u32) -> bool
 /// Whether a block belongs to one of the two free block maps.
 ///
 /// `block_size` is in bytes. It takes no memory. ("The MSF File Format", "The Free Block Map".)
+#[tactic(auto, using(crate::proofs::SizeLaws::size_facts))]
 pub fn is_map_block(block_size: u32, n: u32) -> bool
     requires { IsBlockSize block_size }
     ensures { result ≡ is_map_block block_size n }
@@ -46,7 +49,7 @@ pub fn is_map_block(block_size: u32, n: u32) -> bool
 }
 
 /// The `j`-th block by the formula alone.
-#[tactic(auto, unfolding(crate::specs::BlockNumber::nth_block))]
+#[tactic(auto, using(crate::proofs::SizeLaws::size_facts), unfolding(crate::specs::BlockNumber::nth_block))]
 fn nth_by_formula(block_size: u32, j: u32) -> u32
     requires size { IsBlockSize block_size }
     requires fits { nth_block block_size j < 2 ^ 32 }

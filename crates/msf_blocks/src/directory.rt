@@ -91,7 +91,7 @@ impl<'a> Directory<'a> {
     }
 
     /// The number at a position of the directory, which is made of four-byte numbers.
-    #[tactic(auto, using(crate::proofs::DirectoryLaws::text_length, crate::proofs::DirectoryLaws::word_is, crate::proofs::DirectoryLaws::word_block, crate::proofs::DirectoryLaws::word_fits))]
+    #[tactic(auto, using(crate::proofs::DirectoryLaws::text_length, crate::proofs::DirectoryLaws::word_is, crate::proofs::DirectoryLaws::word_block, crate::proofs::DirectoryLaws::word_fits, crate::proofs::SizeLaws::size_facts))]
     pub fn word(&self, position: u32) -> u32
         requires { 4 * position + 4 ≤ length self.now.text }
         ensures { result ≡ word self.now.text position }
@@ -115,7 +115,7 @@ impl<'a> Directory<'a> {
     }
 
     /// How many blocks a stream has.
-    #[tactic(auto, unfolding(crate::specs::Directory::stream_blocks))]
+    #[tactic(auto, using(crate::proofs::SizeLaws::few_for), unfolding(crate::specs::Directory::stream_blocks))]
     pub fn stream_blocks(&self, stream: u32) -> u32
         requires { 4 * (1 + stream) + 4 ≤ length self.now.text }
         ensures value { result ≡ stream_blocks self.now.superblock.block_size self.now.text stream }

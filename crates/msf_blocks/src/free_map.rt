@@ -1,7 +1,7 @@
 //! The free block map that is in force.
 
 ghost use Rattle.std.specs.Prelude.{◌≡◌, ◌⊎◌, ◌<◌, ◌≤◌, ◌*◌, ◌/◌, ◌%◌, ◌^◌, ◌↔◌, length, IsTrue, IfSome, IfNone};
-ghost use Rattle.msf_blocks.specs.FreeMap.{IsFree, map_block_of};
+ghost use Rattle.msf_blocks.specs.FreeMap.{is_free, map_block_of};
 
 use crate::superblock::Superblock;
 
@@ -17,9 +17,10 @@ fn is_set(byte: u8, bit: u32) -> bool
 ///
 /// `None` where the file has no such block, or where the map block that speaks of it isn't in
 /// the file. It takes no memory. ("The MSF File Format", "The Free Block Map".)
+#[tactic(auto, using(crate::proofs::SizeLaws::size_facts))]
 pub fn free_bit(file: &[u8], superblock: &Superblock, n: u32) -> Option<bool>
     requires { superblock.now.num_blocks * superblock.now.block_size ≤ length file.now }
-    ensures value { IfSome result (λ free. IsTrue free ↔ IsFree file.now superblock.now n) }
+    ensures value { IfSome result (λ free. free ≡ is_free file.now superblock.now n) }
     ensures inside { IfSome result (λ _. (n < superblock.now.num_blocks)
         × (map_block_of superblock.now n < superblock.now.num_blocks)) }
     ensures outside { IfNone result ((superblock.now.num_blocks ≤ n)

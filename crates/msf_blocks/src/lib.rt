@@ -13,6 +13,7 @@
 //! - [`Sink`] and [`Source`] are the seam between the project and the world: what takes bytes and
 //!   what gives them. [`Out`] and [`In`] make them of any `Write` and any `Read`, and [`put_all`]
 //!   is the one loop that writes.
+//! - [`laws`] says what holds of every container: a file has at most one layout.
 //!
 //! What a call refuses, it refuses with the first fault in the order of [`MsfFault`]'s variants.
 #![tactic(auto)]
@@ -21,6 +22,7 @@ mod block_number;
 mod directory;
 mod fault;
 mod free_map;
+pub mod laws;
 mod layout;
 mod sink;
 mod source;

@@ -24,7 +24,8 @@ pub trait Sink {
     fn put(&mut self, bytes: &[u8]) -> usize
         ensures bound { result ≤ length bytes.now }
         ensures takes { Appends (taken self.old) (taken self.new) (take result bytes.now) }
-        ensures refuses { 0 < length bytes.now → result ≡ 0 → is_broken self.new ≡ true };
+        ensures refuses { 0 < length bytes.now → result ≡ 0 → is_broken self.new ≡ true }
+        ensures stays { is_broken self.old ≡ true → is_broken self.new ≡ true };
 }
 
 /// The sink of a writer: each `put` is one call of `write`, whose error counts as nothing taken.
@@ -69,10 +70,11 @@ pub struct NotTaken;
 /// Puts all bytes into a sink, however few it takes at a call.
 ///
 /// Where it is refused, the sink is broken, and what it took of the bytes is a proper prefix of
-/// them. It takes no memory.
+/// them. A sink that was broken stays broken. It takes no memory.
 pub fn put_all<W: Sink>(out: &mut W, bytes: &[u8]) -> Result<(), NotTaken>
     ensures ok { OnOk result (Appends (W.taken out.old) (W.taken out.new) bytes.now) }
     ensures broken { OnErr result (W.is_broken out.new ≡ true) }
+    ensures stays { W.is_broken out.old ≡ true → W.is_broken out.new ≡ true }
     ensures prefix { OnErr result ((n : ℕ) × (n < length bytes.now)
         × Appends (W.taken out.old) (W.taken out.new) (take n bytes.now)) }
 {

@@ -7,8 +7,9 @@ use std::io::Read;
 
 /// Gives bytes, some of the next ones at each call.
 ///
-/// This is the seam to the world on the side of reading. A reader that doesn't tell the bytes
-/// that it has left says `None`; contracts then claim nothing of its bytes.
+/// This is the seam to the world on the side of reading. One that fails stays broken. A reader
+/// that doesn't tell the bytes that it has left says `None`; contracts then claim nothing of its
+/// bytes.
 pub trait Source {
     /// The bytes that it has left, where they are known.
     ghost left: { Self → Option (List ℕ) };
@@ -22,7 +23,8 @@ pub trait Source {
         ensures bound { IfSome result (λ n. n ≤ length into.new) }
         ensures gives { IfSome result (λ n. Consumes (left self.old) (left self.new) (take n into.new)) }
         ensures end { IfSome result (λ n. 0 < length into.new → n ≡ 0 → IsAtEnd (left self.new)) }
-        ensures refuses { IfNone result (0 < length into.new → is_broken self.new ≡ true) };
+        ensures refuses { IfNone result (0 < length into.new → is_broken self.new ≡ true) }
+        ensures stays { is_broken self.old ≡ true → is_broken self.new ≡ true };
 }
 
 /// The source of a reader: each `fetch` is one call of `read`, whose error is answered as `None`.

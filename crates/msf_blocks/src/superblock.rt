@@ -83,7 +83,7 @@ impl Superblock {
     /// that pass the end of the file; a directory whose length is no multiple of four bytes or
     /// needs more blocks than one block can list; a block map at block 0 or past the last block.
     /// Bytes after the last block are ignored. It takes no memory.
-    #[tactic(auto, unfolding(crate::specs::Superblock::superblock_checks))]
+    #[tactic(auto, using(crate::proofs::SizeLaws::size_decides), unfolding(crate::specs::Superblock::superblock_checks))]
     pub fn read(file: &[u8]) -> Result<Superblock, MsfFault>
         ensures value { IfOk result (IsSuperblock file.now) }
         ensures fields { IfOk result (λ s. s ≡ fields_of file.now) }

@@ -14,12 +14,13 @@ use Rattle.byte_fields.proofs.NumberLaws.{word-words, length-words}
 use Rattle.msf_blocks.specs.BlockNumber.{IsBlockSize, IsOrdinary, blocks_for, nth_block}
 use Rattle.msf_blocks.specs.Superblock.{Fields, IsSuperblock, magic}
 use Rattle.msf_blocks.specs.Directory.{IsListed, IsDirectory, directory_text, map_number, bytes_of}
-use Rattle.msf_blocks.proofs.BlockLaws.{nth_zero, nth_ge, big_enough}
+use Rattle.msf_blocks.proofs.BlockLaws.{nth_zero, nth_ge}
+use Rattle.msf_blocks.proofs.SizeLaws.{size_facts, big_enough, next_row, ceil_ge, place_below}
 use Rattle.msf_streams.specs.Stream.{gathered, text_of}
 use Rattle.msf_streams.specs.Image.{filled, laid_out, numbers, superblock_numbers, listed_from, blocks_of_all, directory_len, directory_count, data_count, image_blocks, superblock_part, block_map_part, directory_part, parts, image, Fits, image_fields, ReadsBack}
 use Rattle.msf_streams.proofs.RangeLaws.{map-range_with_len_parts, map-same_ranges}
-use Rattle.msf_streams.proofs.PieceLaws.{size_facts, gathered_first, at_most_one_for}
-use Rattle.msf_streams.proofs.ImageLaws.{part_back, image_long, length_parts, nth_below, ceil_ge, place_below}
+use Rattle.msf_streams.proofs.PieceLaws.{gathered_first, at_most_one_for}
+use Rattle.msf_streams.proofs.ImageLaws.{part_back, image_long, length_parts, nth_below}
 
 -- a number in a stretch of numbers
 word_in : (x ns : List ℕ) (at len k : ℕ) → take len (drop at x) ≡ words ns → k < length ns → get_or ns k 0 < 2 ^ 32 → number_at 4 x (at + 4 * k) ≡ get_or ns k 0
@@ -105,7 +106,7 @@ front_blocks b ts size fits =
     let sizes = map length ts in
     let facts = size_facts b size in
     let some : 1 ≤ directory_count b sizes = le-div 1 (directory_len b sizes + b - 1) b (omega (arith, facts.least)) (omega arith) in
-    let few : 4 * directory_count b sizes ≤ b = omega (arith, fits.directory, facts.quarters) in (
+    let few : 4 * directory_count b sizes ≤ b = omega (arith, fits.directory, facts.fours) in (
       rw (length_superblock b sizes) (one_for b 56 (omega (arith, facts.least)) (omega arith) (omega (arith, facts.least))),
       rw (length_block_map b sizes) (one_for b (4 * directory_count b sizes) (omega (arith, facts.least)) (omega arith) few),
       rw (length_directory b sizes) refl,
@@ -168,7 +169,7 @@ map_here b ts size fits =
     let is = image_is b ts in
     let whole = image_long_as_said b ts size fits in
     let some : 1 ≤ directory_count b sizes = le-div 1 (directory_len b sizes + b - 1) b (omega (arith, facts.least)) (omega arith) in
-    let few : 4 * directory_count b sizes ≤ b = omega (arith, fits.directory, facts.quarters) in
+    let few : 4 * directory_count b sizes ≤ b = omega (arith, fits.directory, facts.fours) in
     let one : sum_by (blocks_for b) (map length (sb ∷ [])) ≡ 1 = omega (arith, sum_by-cons (blocks_for b) (length sb) [], h.0) in
     let fit : (nth_block b 1 + 1) * b ≤ length (image b ts) =
     let below = nth_below b m 1 big (omega arith) in
@@ -326,9 +327,6 @@ all_short b (k ∷ ks) n pos within fits =
 all_lengths : (ts : List (List ℕ)) → All (λ k. k < 0xFFFFFFFF) (map length ts) → All (λ t. length t < 0xFFFFFFFF) ts
 all_lengths [] h = All-nil (λ (t : List ℕ). length t < 0xFFFFFFFF)
 all_lengths (t ∷ ts) h = All-cons (λ (u : List ℕ). length u < 0xFFFFFFFF) t ts (All-head (λ k. k < 0xFFFFFFFF) (length t) (map length ts) h) (all_lengths ts (All-tail (λ k. k < 0xFFFFFFFF) (length t) (map length ts) h))
-
-next_row : (q b : ℕ) → q * b + b ≡ (q + 1) * b
-next_row q b = omega arith
 
 -- an image within the bounds reads back as its texts
 pub reads_back : (b : ℕ) (ts : List (List ℕ)) → IsBlockSize b → Fits b (map length ts) → ReadsBack b ts

@@ -10,7 +10,8 @@ use Rattle.std.proofs.lemmas.List.Concat.{flat_map-append}
 use Rattle.byte_fields.specs.Number.{four_bytes, words}
 use Rattle.msf_blocks.specs.BlockNumber.{IsBlockSize, blocks_for, nth_block}
 use Rattle.msf_blocks.specs.Superblock.{magic}
-use Rattle.msf_blocks.proofs.BlockLaws.{nth_few, big_enough}
+use Rattle.msf_blocks.proofs.SizeLaws.{big_enough}
+use Rattle.msf_blocks.proofs.BlockLaws.{nth_few}
 use Rattle.msf_streams.specs.Image.{texts_of, numbers, blocks_of_all, directory_len, directory_count, image_blocks, superblock_part, block_map_part, directory_part}
 use Rattle.msf_streams.proofs.ImageLaws.{five_streams}
 

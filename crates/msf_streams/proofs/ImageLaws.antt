@@ -1,18 +1,18 @@
 -- What stands where in an image.
 use Rattle.std.proofs.Common.{◌≡◌, ℕ, zero, suc, ◌+◌, ◌-◌, ◌*◌, ◌/◌, ◌%◌, ◌<◌, ◌≤◌, ◌^◌, false, nat_eq, List, [], ◌∷◌, ◌++◌, length, map, take, drop, get_or, refl, ap, ◌∙◌, subst, arith, append_assoc, inl, inr}
 use Rattle.std.specs.List.{range_with_len, flat_map, sum_by}
-use Rattle.std.proofs.lemmas.Nat.{div-add-mod', mod_below, mul-le, le-div}
+use Rattle.std.proofs.lemmas.Nat.{div-add-mod', mod_below, mul-le, div-mul-add}
 use Rattle.std.proofs.lemmas.Bool.{cases_lt, cases_Bool}
 use Rattle.std.proofs.lemmas.List.{get_or-take, get_or-drop, get_or_append_left, get_or-append_right, length-take, length-drop, length-append, length-replicate, drop_at, take_at, map-append}
 use Rattle.std.proofs.lemmas.List.FromFn.{length-map-range_with_len, get_or-map-range_with_len}
 use Rattle.std.proofs.lemmas.List.Concat.{flat_map-append}
 use Rattle.std.proofs.lemmas.List.Sums.{sum_by-cons, sum_by-append}
 use Rattle.msf_blocks.specs.BlockNumber.{IsBlockSize, blocks_for, is_map_block, nth_block, data_blocks}
-use Rattle.msf_blocks.proofs.BlockLaws.{rank_is, nth_is_data, nth_onto, nth_monotone, nth_few, big_enough}
+use Rattle.msf_blocks.proofs.BlockLaws.{rank_is, nth_is_data, nth_onto, nth_monotone, nth_few}
+use Rattle.msf_blocks.proofs.SizeLaws.{size_facts, big_enough, ceil_ge, place_below}
 use Rattle.msf_streams.specs.Stream.{gathered}
 use Rattle.msf_streams.specs.Image.{filled, text_block, map_block, map_byte, image_block, laid_out, blocks_of_all, directory_len, directory_count, data_count}
 use Rattle.msf_streams.proofs.RangeLaws.{map-same_ranges, part_by_places}
-use Rattle.msf_streams.proofs.PieceLaws.{size_facts}
 use lib.ListN.{replicate}
 
 -- ---- lists made of blocks of one length
@@ -95,9 +95,6 @@ image_long b m t big long = length_blocks (image_block b (nth_block b m + 1) t) 
 
 -- ---- a stretch of the text is read through its blocks
 
-pub place_below : (b len i : ℕ) → 0 < b → i < len → i / b < blocks_for b len
-place_below b len i pos lt = let h : i / b + 1 ≤ (len + b - 1) / b = le-div (i / b + 1) (len + b - 1) b pos (omega (arith, div-add-mod' i b)) in omega arith
-
 pub stretch : (b m f len : ℕ) (t : List ℕ) → 3 < b → length t ≡ (m + 1) * b → f + blocks_for b len ≤ m + 1 → f * b + len ≤ length t
     → gathered (laid_out b (nth_block b m + 1) t) b (map (nth_block b) (range_with_len f (blocks_for b len))) len ≡ take len (drop (f * b) t)
 unfolding gathered
@@ -113,9 +110,6 @@ stretch b m f len t big long within fits =
     ∙ part_by_places t (f * b) len fits
 
 -- ---- texts that are filled to whole blocks, one after the other
-
-pub ceil_ge : (b len : ℕ) → 0 < b → len ≤ blocks_for b len * b
-ceil_ge b len pos = let r = mod_below (len + b - 1) b pos in omega (arith, div-add-mod' (len + b - 1) b, r)
 
 pub length_filled : (b : ℕ) (t : List ℕ) → 0 < b → length (filled b t) ≡ blocks_for b (length t) * b
 unfolding filled
@@ -160,7 +154,7 @@ part_back b m front t back big count =
 pub few_blocks : (b directory blocks : ℕ) → IsBlockSize b → directory ≤ b / 4 → blocks ≤ 5 * 2 ^ 23 → nth_block b (1 + directory + blocks) + 1 < 2 ^ 28
 few_blocks b directory blocks size le few =
     let facts = size_facts b size in
-    omega (arith, facts.most, facts.quarters, nth_few b (1 + directory + blocks) (big_enough b size))
+    omega (arith, facts.most, facts.fours, nth_few b (1 + directory + blocks) (big_enough b size))
 
 -- the directory of five streams, and the number of the last data block
 pub five_streams : (b blocks directory : ℕ) (sizes : List ℕ) → length sizes ≡ 5 → blocks ≡ blocks_of_all b sizes → directory ≡ blocks_for b (4 * (6 + blocks))
@@ -169,3 +163,9 @@ five_streams b blocks directory sizes five all is =
     let same : 4 * (6 + blocks) ≡ directory_len b sizes = omega (arith, five, all) in
     let e : directory ≡ directory_count b sizes = is ∙ ap (blocks_for b) same in
     (e, omega (arith, e, all))
+
+-- a file of whole blocks has as many as its length says
+pub count_back : (b n len : ℕ) → 0 < b → len ≡ n * b → len / b ≡ n
+count_back b n len some is =
+    let whole : len ≡ n * b + 0 = omega arith in
+    ap (λ (k : ℕ). k / b) whole ∙ div-mul-add n b 0 some

@@ -5,3 +5,5 @@ pub mod BackLaws
 pub mod WovenLaws
 pub mod PutLaws
 pub mod FrontLaws
+pub mod FitLaws
+pub mod BytesLaws

@@ -9,6 +9,7 @@ use Rattle.std.proofs.lemmas.Bool.Decides.{nat_tests}
 use Rattle.std.proofs.lemmas.List.{append-nil, drop_more, drop_all, nil_from_length}
 use Rattle.std.proofs.lemmas.List.Elements.{All-head, All-tail, All-get_or, All-from_get_or}
 use Rattle.msf_blocks.specs.BlockNumber.{IsBlockSize, IsOrdinary, blocks_for}
+use Rattle.msf_blocks.proofs.SizeLaws.{some_bytes, few_for}
 use Rattle.msf_blocks.specs.Superblock.{Fields}
 use Rattle.msf_blocks.specs.Directory.{Listed, IsListed, bytes_of}
 use Rattle.msf_blocks.specs.Layout.{LayoutView, IsLayout, block_in, block_of}
@@ -16,23 +17,6 @@ use Rattle.msf_streams.specs.Stream.{gathered, pieces, blocks_in, pieces_from, s
 use Rattle.msf_streams.proofs.RangeLaws.{map-range_with_len_parts, map-same_ranges, part_by_places, next_block, first_block}
 
 -- ---- how many blocks so many bytes need
-
--- a block has bytes enough for a superblock and whole numbers of four bytes, and what a directory can list needs few of them
-pub record SizeFacts (block_size : ℕ) : Type 0 where
-  pub some : 0 < block_size
-  pub least : 512 ≤ block_size
-  pub most : block_size ≤ 4096
-  pub quarters : 4 * (block_size / 4) ≡ block_size
-  pub few : (bytes : ℕ) → bytes < 2 ^ 32 → blocks_for block_size bytes ≤ 2 ^ 23
-
--- these hold of each size that a block may have
-pub size_facts : (block_size : ℕ) → IsBlockSize block_size → SizeFacts block_size
-size_facts block_size size = elim size [
-  | inl e ↦ rw e (record { some = omega arith; least = omega arith; most = omega arith; quarters = omega arith; few = λ bytes short. omega arith })
-  | inr (inl e) ↦ rw e (record { some = omega arith; least = omega arith; most = omega arith; quarters = omega arith; few = λ bytes short. omega arith })
-  | inr (inr (inl e)) ↦ rw e (record { some = omega arith; least = omega arith; most = omega arith; quarters = omega arith; few = λ bytes short. omega arith })
-  | inr (inr (inr e)) ↦ rw e (record { some = omega arith; least = omega arith; most = omega arith; quarters = omega arith; few = λ bytes short. omega arith })
-]
 
 -- only no bytes need no block
 pub none_for : (block_size bytes : ℕ) → 0 < block_size → 0 ≡ blocks_for block_size bytes → bytes ≡ 0
@@ -180,7 +164,7 @@ listed_block layout s position block size holds e = elim (cases_lt s (length lay
       let is : get_or stream.blocks position 0 ≡ block = cc in
       let short : bytes_of stream.size < 2 ^ 32 = bytes_short stream.size is_stream.fits.short in (
         rw is at (All-get_or (IsOrdinary layout.superblock.num_blocks) stream.blocks position 0 inside is_stream.fits.ordinary),
-        omega (arith, is_stream.fits.count, (size_facts layout.superblock.block_size size).few (bytes_of stream.size) short),
+        omega (arith, is_stream.fits.count, few_for layout.superblock.block_size (bytes_of stream.size) size short),
       )
   | inr past ↦ let none : slice_get layout.streams s ≡ None = slice_get_past layout.streams s past in absurd (let bad = rw none at e in cc)
 ]
@@ -206,7 +190,7 @@ pieces_text file layout s found size holds whole e = elim (cases_lt s (length la
   | inl below ↦
       let stream = get_or layout.streams s no_stream in
       let is_stream = stream_at layout s holds below in
-      let joined = concat-pieces file layout.superblock.block_size (bytes_of stream.size) stream.blocks (size_facts layout.superblock.block_size size).some is_stream.fits.count
+      let joined = concat-pieces file layout.superblock.block_size (bytes_of stream.size) stream.blocks (some_bytes layout.superblock.block_size size) is_stream.fits.count
       (blocks_fit file layout.superblock stream whole is_stream.fits) in
       rw (e, is_stream.here) (ap (λ (text : List ℕ). Some text) (sym joined))
   | inr past ↦ let none : slice_get layout.streams s ≡ None = slice_get_past layout.streams s past in rw (e, none) tt

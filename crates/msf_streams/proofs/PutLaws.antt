@@ -5,12 +5,14 @@ use Rattle.std.specs.Prelude.{Result, Ok, Err, OnOk, OnErr}
 use Rattle.std.specs.Io.KnownBytes.{Appends}
 use Rattle.std.proofs.KnownBytes.{Appends-nil, Appends-trans}
 use Rattle.std.proofs.Math.Seq.{take-append-add}
-use Rattle.std.proofs.lemmas.Nat.{div-add-mod', mul-le}
+use Rattle.std.proofs.lemmas.Nat.{div-add-mod', mod_below, mul-le}
+use Rattle.std.proofs.lemmas.Bool.{cases_lt}
 use Rattle.std.proofs.lemmas.List.{append-nil, length-append, length-take, length-drop, take-append-drop, take_rest, take-append-le, drop_more, drop_all, length-map, get_or-map}
 use Rattle.msf_blocks.specs.BlockNumber.{IsBlockSize, blocks_for}
-use Rattle.msf_blocks.proofs.BlockLaws.{big_enough}
+use Rattle.msf_blocks.proofs.SizeLaws.{size_facts, some_bytes, big_enough, next_row, ceil_is}
 use Rattle.msf_streams.specs.Image.{filled, superblock_part, block_map_part, directory_part, parts, image, image_blocks, data_count}
 use Rattle.msf_streams.specs.Woven.{maps_before, woven, room, AppendsPart, Halfway, IsFront}
+use Rattle.msf_streams.proofs.RangeLaws.{next_block, first_block}
 use Rattle.msf_streams.proofs.ImageLaws.{length_parts}
 use Rattle.msf_streams.proofs.BackLaws.{all_blocks, bounds}
 use Rattle.msf_streams.proofs.WovenLaws.{woven_parts, some_room, woven_run, some_stretch, image_woven}
@@ -115,12 +117,25 @@ few_intervals b l p some long few =
 
 -- what is wanting to whole blocks
 pub fill_count : (b len : ℕ) → IsBlockSize b → ((b - len % b) % b ≡ blocks_for b len * b - len) × ((b - len % b) % b ≤ 4096)
-fill_count b len size = elim size [
-  | inl e ↦ rw e (omega arith, omega arith)
-  | inr (inl e) ↦ rw e (omega arith, omega arith)
-  | inr (inr (inl e)) ↦ rw e (omega arith, omega arith)
-  | inr (inr (inr e)) ↦ rw e (omega arith, omega arith)
-]
+fill_count b len size =
+    let facts = size_facts b size in
+    let some = some_bytes b size in
+    let q = len / b in
+    let r = len % b in
+    let whole : len ≡ q * b + r = omega (arith, div-add-mod' len b) in
+    let below : r < b = mod_below len b some in
+    let blocks = ceil_is len b some in
+    elim (cases_lt 0 r) [
+      | inl more ↦
+          let rest : (b - r) % b ≡ b - r = (first_block b (b - r) (omega arith)).1 in
+          let count : blocks_for b len ≡ q + 1 = omega (arith, blocks) in
+          (rw (rest, count) (omega (arith, whole, next_row q b)), omega (arith, rest, facts))
+      | inr none ↦
+          let one : b - r ≡ 0 + b = omega arith in
+          let rest : (b - r) % b ≡ 0 = rw one ((next_block b 0 some).1 ∙ (first_block b 0 some).1) in
+          let count : blocks_for b len ≡ q = omega (arith, blocks) in
+          (rw (rest, count) (omega (arith, whole)), omega (arith, rest))
+    ]
 
 -- ---- a part, filled to whole blocks
 

@@ -7,7 +7,8 @@ use Rattle.std.proofs.lemmas.Bool.Decides.{nat_tests}
 use Rattle.std.proofs.lemmas.List.{append-nil, length-take, length-drop, take-append-drop, take-take, drop-take, take_all}
 use Rattle.std.proofs.lemmas.List.Concat.{flat_map-append}
 use Rattle.msf_blocks.specs.BlockNumber.{IsBlockSize, is_map_block, nth_block}
-use Rattle.msf_blocks.proofs.BlockLaws.{big_enough, nth_first, nth_other, nth_zero, nth_is_data, map_at, rank_is, range_more}
+use Rattle.msf_blocks.proofs.SizeLaws.{size_facts, big_enough}
+use Rattle.msf_blocks.proofs.BlockLaws.{nth_first, nth_other, nth_zero, nth_is_data, map_at, rank_is, range_more}
 use Rattle.msf_streams.specs.Image.{filled, text_block, map_block, image_block, laid_out, parts, image, image_blocks, data_count, Fits}
 use Rattle.msf_streams.specs.Woven.{stretch, is_behind_maps, maps_of, maps_before, woven, room}
 use Rattle.msf_streams.proofs.ImageLaws.{length_parts}
@@ -145,6 +146,10 @@ block_room b j big =
 pub some_stretch : (b : ℕ) → 3 < b → 0 < stretch b
 unfolding stretch
 some_stretch b big = omega (arith, mul-le 1 1 b (b - 2) (omega arith) (omega arith))
+
+-- a stretch is long
+pub stretch_long : (b : ℕ) → IsBlockSize b → 4 * b ≤ b * (b - 2)
+stretch_long b size = let facts = size_facts b size in omega (arith, mul-le b 4 b (b - 2) (omega arith) (omega (arith, facts)))
 
 -- one block more
 blocks_more : (f : ℕ → List ℕ) (k : ℕ) → flat_map f (range_with_len 0 (k + 1)) ≡ flat_map f (range_with_len 0 k) ++ f k

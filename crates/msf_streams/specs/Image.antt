@@ -2,7 +2,7 @@
 use Rattle.std.specs.Prelude.{ℕ, ◌≡◌, ◌+◌, ◌-◌, ◌*◌, ◌/◌, ◌%◌, ◌^◌, ◌<◌, ◌≤◌, ◌==◌, if◌then◌else◌, All, List, [], ◌∷◌, ◌++◌, length, map, take, drop, min, slice_get}
 use Rattle.std.specs.List.{range_with_len, flat_map, sum_by}
 use Rattle.byte_fields.specs.Number.{words}
-use Rattle.msf_blocks.specs.BlockNumber.{IsBlockSize, blocks_for, is_map_block, nth_block, data_blocks}
+use Rattle.msf_blocks.specs.BlockNumber.{blocks_for, is_map_block, nth_block, data_blocks}
 use Rattle.msf_blocks.specs.Superblock.{Fields, magic}
 use Rattle.msf_blocks.specs.Directory.{Listed}
 use Rattle.msf_blocks.specs.Layout.{LayoutView, HasLayout}
@@ -141,7 +141,3 @@ pub record ReadsBack (block_size : ℕ) (texts : List (List ℕ)) : Type 0 where
   pub long : length (image block_size texts) ≡ image_length block_size (map length texts)
   pub layout : HasLayout (image block_size texts) (image_layout block_size (map length texts))
   pub streams : (s : ℕ) → stream_text (image block_size texts) (image_layout block_size (map length texts)) s ≡ slice_get texts s
-
--- every image reads back
-abbrev pub ImagesReadBack : Type 0
-ImagesReadBack = (block_size : ℕ) (texts : List (List ℕ)) → IsBlockSize block_size → Fits block_size (map length texts) → ReadsBack block_size texts

@@ -1,3 +1,4 @@
 pub mod Stream
 pub mod Image
 pub mod Woven
+pub mod Laws

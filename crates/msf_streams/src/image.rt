@@ -10,7 +10,7 @@ use msf_blocks::nth_block;
 pub(crate) const BLOCK_SIZE: u32 = 4096;
 
 /// How many blocks the streams of these sizes take.
-#[tactic(auto, using(crate::proofs::PieceLaws::size_facts))]
+#[tactic(auto, using(msf_blocks::proofs::SizeLaws::some_bytes, msf_blocks::proofs::SizeLaws::ceil_is, msf_blocks::proofs::SizeLaws::few_for))]
 pub(crate) fn stream_blocks(block_size: u32, sizes: &[u32; 5]) -> u32
     requires { IsBlockSize block_size }
     ensures value { result ≡ blocks_of_all block_size sizes.now }
@@ -33,6 +33,7 @@ pub(crate) fn directory_len(blocks: u32) -> u32
 }
 
 /// How many blocks the directory takes that lists streams of so many blocks.
+#[tactic(auto, using(msf_blocks::proofs::SizeLaws::some_bytes, msf_blocks::proofs::SizeLaws::ceil_is))]
 pub(crate) fn directory_blocks(block_size: u32, blocks: u32) -> u32
     requires size { IsBlockSize block_size }
     requires few { blocks ≤ 5 * 2 ^ 23 }
@@ -70,6 +71,7 @@ pub(crate) fn image_len_by(block_size: u32, sizes: &[u32; 5]) -> Option<u32>
 ///
 /// `None` where the directory needs more than 1,024 blocks, which one block of the block map
 /// can't list, or where the file would pass 4,294,967,295 bytes. It takes no memory.
+#[tactic(auto, using(msf_blocks::proofs::SizeLaws::size_4096))]
 pub fn image_len(sizes: &[u32; 5]) -> Option<u32>
     ensures some { IfSome result (λ n. Fits 4096 sizes.now × (n ≡ image_length 4096 sizes.now)) }
     ensures none { IfNone result (Fits 4096 sizes.now → ⊥) }

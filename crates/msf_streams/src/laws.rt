@@ -1,12 +1,29 @@
-//! What holds of every image.
+//! What holds of every image, and of the streams of every file.
 //!
-//! The function here does nothing: its contract is the law.
+//! Each function here does nothing: its contract is the law.
 
-ghost use Rattle.msf_streams.specs.Image.{ImagesReadBack};
+ghost use Rattle.msf_streams.specs.Laws.{ImagesReadBack, FewBlocksFit, ImagesAreBytes, StreamsAreBytes};
 
-/// An image has a layout whose streams are just the texts that it was made of.
+/// The image of texts that fit reads back: it has a layout whose streams are just the texts that
+/// it was made of.
 ///
-/// It is as long as [`image_len`](crate::image_len) says.
+/// It is as long as [`image_len`](crate::image_len) says, which is also the test of what fits.
 pub fn images_read_back()
     ensures { ImagesReadBack }
+{}
+
+/// Five streams fit in a file if they take at most 262,146 blocks of 4,096 bytes together, each
+/// stream filled to whole blocks.
+pub fn few_blocks_fit()
+    ensures { FewBlocksFit }
+{}
+
+/// The image of texts of bytes is made of bytes.
+pub fn images_are_bytes()
+    ensures { ImagesAreBytes }
+{}
+
+/// Each stream of a file of bytes is made of bytes.
+pub fn streams_are_bytes()
+    ensures { StreamsAreBytes }
 {}

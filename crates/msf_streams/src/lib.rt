@@ -10,7 +10,8 @@
 //!   blocks. It reserves the whole size at once, before it copies anything.
 //! - [`write_image`] writes the *image* of five texts: the container that has them as its
 //!   streams. [`image_len`] knows beforehand how long it is, and whether it can be.
-//! - [`laws`] says what holds of every image: it reads back as the texts that it was made of.
+//! - [`laws`] says what holds of every image and of every stream: the image of texts that fit
+//!   reads back as these texts, and both are made of bytes where what they come from is.
 //!
 //! Streams are numbered from 0, as the directory lists them. A nil stream and a stream of length
 //! 0 have an empty text and no pieces; only a number that no stream has is refused. Streams may

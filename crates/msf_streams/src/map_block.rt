@@ -14,7 +14,7 @@ fn map_byte(num_blocks: u64, first: u64) -> u8
 }
 
 /// Fills a page with map block `k` of a file of so many blocks.
-#[tactic(auto, unfolding(crate::specs::Image::map_block))]
+#[tactic(auto, using(msf_blocks::proofs::SizeLaws::some_bytes), unfolding(crate::specs::Image::map_block))]
 pub(crate) fn fill_map(block_size: u32, num_blocks: u32, k: u32, page: &mut [u8])
     requires size { IsBlockSize block_size }
     requires long { length page.old ≡ block_size }

@@ -16,7 +16,7 @@ use crate::map_block::fill_map;
 use msf_blocks::{NotTaken, Sink, put_all};
 
 /// How many bytes of the text stand between the map blocks of one interval and those of the next.
-#[tactic(auto, unfolding(crate::specs::Woven::stretch))]
+#[tactic(auto, using(msf_blocks::proofs::SizeLaws::big_enough, crate::proofs::WovenLaws::stretch_long), unfolding(crate::specs::Woven::stretch))]
 fn stretch(block_size: u32) -> usize
     requires { IsBlockSize block_size }
     ensures value { result ≡ stretch block_size }
@@ -26,7 +26,7 @@ fn stretch(block_size: u32) -> usize
 }
 
 /// How many bytes stand side by side in the file from a position on, up to the next map blocks.
-#[tactic(auto, unfolding(crate::specs::Woven::room))]
+#[tactic(auto, using(msf_blocks::proofs::SizeLaws::some_bytes), unfolding(crate::specs::Woven::room))]
 fn room(block_size: u32, position: usize) -> usize
     requires { IsBlockSize block_size }
     ensures { result ≡ room block_size position }
@@ -63,7 +63,7 @@ fn put_maps<W: Sink>(
 }
 
 /// Puts the map blocks that stand right in front of a position, if any do.
-#[tactic(auto, unfolding(crate::specs::Woven::maps_before))]
+#[tactic(auto, using(msf_blocks::proofs::SizeLaws::some_bytes), unfolding(crate::specs::Woven::maps_before))]
 fn put_maps_before<W: Sink>(
     block_size: u32,
     num_blocks: u32,
@@ -153,7 +153,7 @@ fn zeros(count: usize) -> &'static [u8]
 }
 
 /// How many bytes are wanting to the end of the last block of so many.
-#[tactic(auto, using(crate::proofs::PutLaws::fill_count))]
+#[tactic(auto, using(crate::proofs::PutLaws::fill_count, msf_blocks::proofs::SizeLaws::some_bytes))]
 fn fill_len(block_size: u32, len: usize) -> usize
     requires size { IsBlockSize block_size }
     requires few { len < 2 ^ 33 }

@@ -57,6 +57,7 @@ fn put_image<W: Sink, A: Allocator>(
 }
 
 /// Writes the image of these texts, in blocks of any size.
+#[tactic(auto, using(msf_blocks::proofs::SizeLaws::some_bytes, crate::proofs::ImageLaws::count_back))]
 fn write_image_by<W: Sink, A: Allocator + Copy>(
     alloc: A,
     block_size: u32,
@@ -67,7 +68,7 @@ fn write_image_by<W: Sink, A: Allocator + Copy>(
     ensures value { OnOk result (Appends (W.taken out.old) (W.taken out.new) (image block_size (texts_of streams.now))) }
     ensures image { IfErr result (λ fault. fault ≡ WriteFault.Image → Writable block_size (texts_of streams.now) → ⊥) }
     ensures found { Writable block_size (texts_of streams.now) → IfErr result (λ fault. (fault ≡ WriteFault.Memory) ⊎ (fault ≡ WriteFault.Write)) }
-    ensures memory { IfErr result (λ fault. fault ≡ WriteFault.Memory → Writable block_size (texts_of streams.now)) }
+    ensures writable { (result ≡ Err WriteFault.Image) ⊎ Writable block_size (texts_of streams.now) }
     ensures write { IfErr result (λ fault. fault ≡ WriteFault.Write → (W.is_broken out.new ≡ true)
         × AppendsPart (W.taken out.old) (W.taken out.new) (image block_size (texts_of streams.now))) }
     ensures untouched { IfErr result (λ fault. fault ≢ WriteFault.Write → out.new ≡ out.old) }
@@ -94,6 +95,7 @@ fn write_image_by<W: Sink, A: Allocator + Copy>(
 /// Every check is made before any memory is asked for, and all memory is there before the first
 /// byte is written: only `Write` leaves anything in the sink, and then the first bytes of the
 /// image. The memory is that of the block map, the directory and one block.
+#[tactic(auto, using(msf_blocks::proofs::SizeLaws::size_4096))]
 pub fn write_image<W: Sink, A: Allocator + Copy>(
     alloc: A,
     streams: &[&[u8]; 5],
@@ -103,7 +105,8 @@ pub fn write_image<W: Sink, A: Allocator + Copy>(
     ensures image { IfErr result (λ fault. fault ≡ WriteFault.Image → Writable 4096 (texts_of streams.now) → ⊥) }
     // Nothing that can be written is refused, but for want of memory or by the sink.
     ensures found { Writable 4096 (texts_of streams.now) → IfErr result (λ fault. (fault ≡ WriteFault.Memory) ⊎ (fault ≡ WriteFault.Write)) }
-    ensures memory { IfErr result (λ fault. fault ≡ WriteFault.Memory → Writable 4096 (texts_of streams.now)) }
+    // Only what can be written gets another answer than `Image`.
+    ensures writable { (result ≡ Err WriteFault.Image) ⊎ Writable 4096 (texts_of streams.now) }
     ensures write { IfErr result (λ fault. fault ≡ WriteFault.Write → (W.is_broken out.new ≡ true)
         × AppendsPart (W.taken out.old) (W.taken out.new) (image 4096 (texts_of streams.now))) }
     ensures untouched { IfErr result (λ fault. fault ≢ WriteFault.Write → out.new ≡ out.old) }

@@ -5,15 +5,16 @@ use Rattle.std.specs.List.{flat_map}
 use Rattle.std.proofs.lemmas.Bool.Decides.{nat_tests}
 use Rattle.std.proofs.lemmas.List.{append-nil, drop-drop, drop_at, take_at, length-append, length-drop, get_or_at, get_or_append_left, get_or-append-add}
 use Rattle.std.proofs.lemmas.List.FromFn.{fill_by_all}
-use Rattle.std.proofs.lemmas.List.Elements.{All-get_or}
+use Rattle.std.proofs.lemmas.List.Elements.{All-get_or, All-from_get_or}
 use Rattle.byte_fields.specs.Number.{number_at, four_bytes, word, words}
 use Rattle.byte_fields.specs.Check.{first_failing}
 use Rattle.byte_fields.proofs.NumberLaws.{word-words, length-words, length-four_bytes}
 use Rattle.byte_fields.proofs.CheckLaws.{checks_below-all}
 use Rattle.pdb_info.specs.Header.{header_checks}
-use Rattle.pdb_info.specs.Names.{NamedStream, Pair, HasNames, IsNamed, pair_numbers, map_numbers, is_named, map_checks, pair_checks, pair_offset, present_count, size_offset, size_of, present_offset, present_words, present_of, deleted_offset, deleted_words, pairs_offset, buffer_of}
+use Rattle.pdb_info.specs.Names.{NamedStream, Pair, HasNames, HasName, pair_numbers, map_numbers, is_named, map_checks, pair_checks, pair_offset, present_count, size_offset, size_of, present_offset, present_words, present_of, deleted_offset, deleted_words, pairs_offset, buffer_of}
 use Rattle.pdb_info.specs.Info.{InfoView, HasInfo, info_checks}
 use Rattle.pdb_info.specs.declared.fault.InfoFault.{InfoFault}
+use Rattle.pdb_info.proofs.BucketLaws.{buckets_counted}
 use Rattle.pdb_info.proofs.NameLaws.{one_passes}
 use Rattle.pdb_info.proofs.PartsLaws.{word_at}
 use Rattle.pdb_info.proofs.ValueLaws.{deleted_offset_is, pairs_offset_is, size_offset_is, buffer_is}
@@ -97,6 +98,7 @@ record Stands (stream : List ℕ) (size : ℕ) (buffer present deleted : List �
   size_there : size_of stream ≡ size
   present_len : present_words stream ≡ length present
   present_there : present_of stream ≡ present
+  present_small : All (λ number. number < 2 ^ 32) present
   deleted_len : deleted_words stream ≡ length deleted
   pair_there : (k : ℕ) → k < length pairs → number_at 4 stream (pair_offset stream k) ≡ (get_or pairs k no_pair).name_offset
   long : size_offset stream + 4 * (4 + length present + length deleted + 2 * length pairs) ≤ length stream
@@ -141,6 +143,9 @@ stands stream names features header h =
       size_there = rw here at size;
       present_len = present_len;
       present_there = present_is stream h.present present_len present;
+      present_small = All-from_get_or (λ number. number < 2 ^ 32) h.present 0 (λ k lt.
+          let at : get_or numbers (3 + k) 0 ≡ get_or h.present k 0 = ap (λ (xs : List ℕ). get_or xs (3 + k) 0) grouped ∙ present_number h.size h.capacity p h.present (deleted ++ (flat ++ back)) k lt in
+          rw (← at) (All-get_or (λ number. number < 2 ^ 32) numbers (3 + k) 0 (omega (arith, len, lt)) h.small));
       deleted_len = deleted_len;
       pair_there = λ k lt.
           let at : pair_offset stream k ≡ o + 4 * (4 + p + d + 2 * k) = omega (arith, pairs_at) in
@@ -170,12 +175,12 @@ map_holds stream size buffer present deleted pairs h counted =
     (held_more _ _ _ (eq_true (size_of stream) (present_count (present_of stream)) fact) refl))))))))
 
 -- the checks of each pair hold
-pair_holds : (stream : List ℕ) (size : ℕ) (buffer present deleted : List ℕ) (pairs : List Pair) (k : ℕ) → Stands stream size buffer present deleted pairs → All (IsNamed buffer) pairs → k < length pairs
+pair_holds : (stream : List ℕ) (size : ℕ) (buffer present deleted : List ℕ) (pairs : List Pair) (k : ℕ) → Stands stream size buffer present deleted pairs → All (HasName buffer) pairs → k < length pairs
     → first_failing (pair_checks stream k) ≡ None
 unfolding pair_checks
 pair_holds stream size buffer present deleted pairs k h each lt =
     let at : pairs_offset stream ≡ size_offset stream + 4 * (4 + length present + length deleted) = omega (arith, deleted_offset_is stream, pairs_offset_is stream, h.present_len, h.deleted_len) in
-    let ends : IsNamed buffer (get_or pairs k no_pair) = All-get_or (IsNamed buffer) pairs k no_pair lt each in
+    let ends : HasName buffer (get_or pairs k no_pair) = All-get_or (HasName buffer) pairs k no_pair lt each in
     let named : is_named buffer (get_or pairs k no_pair).name_offset ≡ true = one_passes (λ (byte : ℕ). byte == 0) (drop (get_or pairs k no_pair).name_offset buffer) ends.0 ends.1 (eq_true (get_or (drop (get_or pairs k no_pair).name_offset buffer) ends.0 0) 0 ends.2) in
     held_more _ _ _ (le_true (pair_offset stream k + 8) (length stream) (omega (arith, h.long, at)))
     (held_more _ _ _ (rw (h.buffer_there, h.pair_there k lt) named) refl)
@@ -190,6 +195,6 @@ pub info_holds : (stream : List ℕ) (info : InfoView) → HasInfo stream info �
 info_holds stream info h =
     let n = h.names in
     let s = stands stream info.names info.features h.header.long n in
-    let pairs : length n.pairs ≡ size_of stream = omega (arith, n.paired, s.size_there) in
+    let pairs : length n.pairs ≡ size_of stream = omega (arith, n.paired, buckets_counted n.present s.present_small, n.counted, s.size_there) in
     pairs_answer stream (header_holds stream h.header.long) (map_holds stream n.size n.buffer n.present n.deleted n.pairs s n.counted)
     ∙ checks_below-all (pair_checks stream) (size_of stream) (λ k lt. pair_holds stream n.size n.buffer n.present n.deleted n.pairs k s n.each (omega (arith, lt, pairs)))

@@ -9,8 +9,9 @@ use Rattle.std.proofs.lemmas.List.Elements.{All-from_get_or, All-same}
 use Rattle.byte_fields.specs.Number.{number_at, four_bytes, words}
 use Rattle.byte_fields.specs.Check.{first_failing, checks_below}
 use Rattle.byte_fields.proofs.NumberLaws.{number_at-small, four_bytes-number_at}
-use Rattle.pdb_info.specs.Names.{HasNames, IsMap, IsNamed, IsClosing, IsUnclosed, map_numbers, numbers_at, pair_at, pair_checks, pair_offset, pairs_below, names_below, size_offset, size_of, present_words, present_of, deleted_offset, deleted_words, pairs_offset, pairs_end, is_closed, features_offset, features_of, buffer_of}
+use Rattle.pdb_info.specs.Names.{HasNames, IsMap, HasName, IsClosing, IsUnclosed, map_numbers, numbers_at, pair_at, pair_checks, pair_offset, pairs_below, names_below, size_offset, size_of, present_words, present_of, deleted_offset, deleted_words, pairs_offset, pairs_end, is_closed, features_offset, features_of, buffer_of}
 use Rattle.pdb_info.specs.declared.map.NameMap.{NameMap}
+use Rattle.pdb_info.proofs.BucketLaws.{map_counted}
 use Rattle.pdb_info.proofs.PairLaws.{pair_named}
 use Rattle.pdb_info.proofs.PartsLaws.{numbers_split, words_at, front_is, deleted_is, pairs_from}
 
@@ -145,12 +146,12 @@ ends (x ∷ xs) e =
     ] refl e
 
 -- where all pairs passed their checks, all names have an end
-pairs_named : (stream : List ℕ) → first_failing (checks_below (size_of stream) (pair_checks stream)) ≡ None → All (IsNamed (buffer_of stream)) (pairs_below stream (size_of stream))
+pairs_named : (stream : List ℕ) → first_failing (checks_below (size_of stream) (pair_checks stream)) ≡ None → All (HasName (buffer_of stream)) (pairs_below stream (size_of stream))
 unfolding pair_at
 pairs_named stream held =
     let n = size_of stream in
     let count : length (pairs_below stream n) ≡ n = length-map-range_with_len (pair_at stream) 0 n in
-    All-from_get_or (IsNamed (buffer_of stream)) (pairs_below stream n) (pair_at stream 0) (λ k lt.
+    All-from_get_or (HasName (buffer_of stream)) (pairs_below stream n) (pair_at stream 0) (λ k lt.
     let below : k < n = omega (arith, lt, count) in
     let at : get_or (pairs_below stream n) k (pair_at stream 0) ≡ pair_at stream k = get_or-map-range_with_len (pair_at stream) 0 n k k (pair_at stream 0) below (omega arith) in
     rw at (ends (drop (number_at 4 stream (pair_offset stream k)) (buffer_of stream)) (pair_named stream n k held below)))
@@ -211,7 +212,7 @@ names_are stream m bytes is inside held =
           rw at (number_at-small stream (size_offset stream + 4 * k) bytes)));
       few = omega (arith, length-drop (4 * n) (drop (32 + b) stream), length-drop (32 + b) stream, o, features, last);
       counted = sym is.counted;
-      paired = length-map-range_with_len (pair_at stream) 0 (size_of stream);
+      paired = length-map-range_with_len (pair_at stream) 0 (size_of stream) ∙ sym (map_counted stream m bytes is);
       closed = closing_is stream end;
       each = pairs_named stream held;
       named = refl;

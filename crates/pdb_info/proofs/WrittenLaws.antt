@@ -6,8 +6,8 @@ use Rattle.std.proofs.lemmas.List.Elements.{All-nil, All-cons}
 use Rattle.byte_fields.specs.Number.{number_at, word, words}
 use Rattle.byte_fields.proofs.NumberLaws.{word-words, length-words}
 use Rattle.pdb_info.specs.Guid.{stored_guid}
-use Rattle.pdb_info.specs.Header.{HasHeader}
-use Rattle.pdb_info.specs.Names.{HasNames, IsNamed}
+use Rattle.pdb_info.specs.Header.{HasInfoHeader}
+use Rattle.pdb_info.specs.Names.{HasNames, HasName, present_buckets}
 use Rattle.pdb_info.specs.Info.{HasInfo}
 use Rattle.pdb_info.specs.Written.{info_text, info_view}
 
@@ -30,7 +30,7 @@ length-back : length (words back) ≡ 24
 unfolding back
 length-back = length-words back
 
-header_back : (age : ℕ) (guid : List ℕ) → length (stored_guid guid) ≡ 16 → stored_guid (stored_guid guid) ≡ guid → age < 2 ^ 32 → HasHeader (words (front age) ++ (stored_guid guid ++ words back)) ((info_view age guid).header)
+header_back : (age : ℕ) (guid : List ℕ) → length (stored_guid guid) ≡ 16 → stored_guid (stored_guid guid) ≡ guid → age < 2 ^ 32 → HasInfoHeader (words (front age) ++ (stored_guid guid ++ words back)) ((info_view age guid).header)
 unfolding front back
 header_back age guid long undone short =
     let stored = stored_guid guid in
@@ -47,7 +47,7 @@ number_small : (n : ℕ) (numbers : List ℕ) → n < 2 ^ 32 → All (λ number.
 number_small n numbers small others = All-cons (λ number. number < 2 ^ 32) n numbers small others
 
 names_back : (age : ℕ) (stored : List ℕ) → length stored ≡ 16 → HasNames (words (front age) ++ (stored ++ words back)) [] []
-unfolding back
+unfolding back present_buckets
 names_back age stored long =
     let behind : drop 28 (words (front age) ++ (stored ++ words back)) ≡ words back =
     ap (drop 28) (sym (append_assoc (words (front age)) stored (words back)))
@@ -69,7 +69,7 @@ names_back age stored long =
       counted = refl;
       paired = refl;
       closed = inl refl;
-      each = All-nil (IsNamed []);
+      each = All-nil (HasName []);
       named = refl;
     }
 

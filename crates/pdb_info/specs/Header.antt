@@ -14,7 +14,7 @@ pub record HeaderFields : Type 0 where
   pub guid : List ℕ
 
 -- the stream begins with a header of these fields
-pub record HasHeader (stream : List ℕ) (fields : HeaderFields) : Type 0 where
+pub record HasInfoHeader (stream : List ℕ) (fields : HeaderFields) : Type 0 where
   pub long : 28 ≤ length stream
   pub version_is : number_at 4 stream 0 ≡ fields.version
   pub signature_is : number_at 4 stream 4 ≡ fields.signature

@@ -1,7 +1,7 @@
 -- The info stream as a whole ("The PDB Info Stream").
 use Rattle.std.specs.Prelude.{ℕ, List, ◌++◌}
 use Rattle.byte_fields.specs.Check.{Check, checks_below}
-use Rattle.pdb_info.specs.Header.{HeaderFields, HasHeader, header_checks}
+use Rattle.pdb_info.specs.Header.{HeaderFields, HasInfoHeader, header_checks}
 use Rattle.pdb_info.specs.Names.{NamedStream, HasNames, map_checks, pair_checks, size_of}
 use Rattle.pdb_info.specs.declared.fault.InfoFault.{InfoFault}
 
@@ -13,7 +13,7 @@ pub record InfoView : Type 0 where
 
 -- the stream is spelled as the format says, with these values
 pub record HasInfo (stream : List ℕ) (info : InfoView) : Type 0 where
-  pub header : HasHeader stream info.header
+  pub header : HasInfoHeader stream info.header
   pub names : HasNames stream info.names info.features
 
 -- the checks of an info stream, in order

@@ -22,8 +22,8 @@ abbrev pub pair_numbers : Pair → List ℕ
 pair_numbers pair = pair.name_offset ∷ pair.stream ∷ []
 
 -- the name of a pair has an end: a NUL stands in the buffer at its offset or after it
-abbrev pub IsNamed : List ℕ → Pair → Type 0
-IsNamed buffer pair = Contains (drop pair.name_offset buffer) 0
+abbrev pub HasName : List ℕ → Pair → Type 0
+HasName buffer pair = Contains (drop pair.name_offset buffer) 0
 
 -- the stream of a pair, with its name: the bytes of the buffer from the offset up to the next NUL
 abbrev pub named_in : List ℕ → Pair → NamedStream
@@ -32,6 +32,18 @@ named_in buffer pair = record { text = before_first (λ byte. byte == 0) (drop p
 -- how many buckets are present: the bits of the words that are 1
 abbrev pub present_count : List ℕ → ℕ
 present_count present = sum_by count_ones present
+
+-- bucket 32 * w + b is present: bit b of present word w, the lowest first, is 1
+abbrev pub is_present : List ℕ → ℕ → Bool
+is_present present bucket = get_or present (bucket / 32) 0 / 2 ^ (bucket % 32) % 2 == 1
+
+-- the buckets below a number that are present, in rising order
+abbrev pub buckets_below : List ℕ → ℕ → List ℕ
+buckets_below present count = filter (is_present present) (range_with_len 0 count)
+
+-- the present buckets in rising order
+unfoldable pub present_buckets : List ℕ → List ℕ
+present_buckets present = buckets_below present (32 * length present)
 
 -- feature codes behind no closing word don't begin with a zero, which would be one
 abbrev pub IsUnclosed : List ℕ → Type 0
@@ -47,7 +59,7 @@ abbrev pub map_numbers : ℕ → ℕ → List ℕ → List ℕ → List Pair →
 map_numbers size capacity present deleted pairs closing features =
     size ∷ capacity ∷ length present ∷ present ++ length deleted ∷ deleted ++ flat_map pair_numbers pairs ++ closing ++ features
 
--- behind the header stand the buffer with its length, the numbers of the map, the feature codes, and at most three bytes
+-- after the header come the buffer with its length, the numbers of the map, the feature codes, and at most three bytes; Size counts the present buckets, and there is a pair for each of them, in rising order
 pub record HasNames (stream : List ℕ) (names : List NamedStream) (features : List ℕ) : Type 0 where
   pub buffer : List ℕ
   pub size : ℕ
@@ -62,9 +74,9 @@ pub record HasNames (stream : List ℕ) (names : List NamedStream) (features : L
   pub small : All (λ number. number < 2 ^ 32) (map_numbers size capacity present deleted pairs closing features)
   pub few : length rest < 4
   pub counted : present_count present ≡ size
-  pub paired : length pairs ≡ size
+  pub paired : length pairs ≡ length (present_buckets present)
   pub closed : IsClosing closing features
-  pub each : All (IsNamed buffer) pairs
+  pub each : All (HasName buffer) pairs
   pub named : names ≡ map (named_in buffer) pairs
 
 -- ---- the checks, by where the fields stand
@@ -108,18 +120,6 @@ numbers_at stream offset count = map (λ k. number_at 4 stream (offset + 4 * k))
 -- the present words themselves
 unfoldable pub present_of : List ℕ → List ℕ
 present_of stream = numbers_at stream (present_offset stream) (present_words stream)
-
--- bucket 32 * w + b is present: bit b of present word w, the lowest first, is 1
-abbrev pub is_present : List ℕ → ℕ → Bool
-is_present present bucket = get_or present (bucket / 32) 0 / 2 ^ (bucket % 32) % 2 == 1
-
--- the buckets below a number that are present, in rising order
-abbrev pub buckets_below : List ℕ → ℕ → List ℕ
-buckets_below present count = filter (is_present present) (range_with_len 0 count)
-
--- the present buckets in rising order
-unfoldable pub present_buckets : List ℕ → List ℕ
-present_buckets present = buckets_below present (32 * length present)
 
 -- the string buffer
 unfoldable pub buffer_of : List ℕ → List ℕ

@@ -3,7 +3,7 @@
 ghost use Rattle.std.specs.Prelude.{◌≡◌, ◌≢◌, ◌≤◌, length, take, drop, IsOk, IfOk, IfErr};
 ghost use Rattle.byte_fields.specs.Check.{Makes};
 ghost use Rattle.pdb_info.specs.Guid.{stored_guid};
-ghost use Rattle.pdb_info.specs.Header.{HeaderFields, HasHeader, header_checks};
+ghost use Rattle.pdb_info.specs.Header.{HeaderFields, HasInfoHeader, header_checks};
 
 use crate::fault::InfoFault;
 use crate::guid::guid_of;
@@ -50,9 +50,9 @@ impl InfoHeader {
     /// aren't checked. It takes no memory. ("The PDB Info Stream", "Stream Header".)
     #[tactic(auto, unfolding(crate::specs::Header::header_checks))]
     pub fn read(stream: &[u8]) -> Result<InfoHeader, InfoFault>
-        ensures value { IfOk result (HasHeader stream.now) }
+        ensures value { IfOk result (HasInfoHeader stream.now) }
         // Nothing that has a header is refused.
-        ensures found { (fields : HeaderFields) → HasHeader stream.now fields → IsOk result }
+        ensures found { (fields : HeaderFields) → HasInfoHeader stream.now fields → IsOk result }
         ensures first { Makes result (header_checks stream.now) }
         ensures checked { IfErr result (λ fault. fault ≢ InfoFault.Memory) }
     {

@@ -2,7 +2,7 @@
 
 ghost use Rattle.std.specs.Prelude.{◌≡◌, ◌+◌, ◌*◌, ◌≤◌, map, length, None, IfOk, IfErr};
 ghost use Rattle.byte_fields.specs.Check.{Makes, Refuses, first_failing, checks_below};
-ghost use Rattle.pdb_info.specs.Header.{HasHeader};
+ghost use Rattle.pdb_info.specs.Header.{HasInfoHeader};
 ghost use Rattle.pdb_info.specs.Names.{IsMap, pair_checks, pairs_offset, size_of};
 ghost use Rattle.pdb_info.specs.Name.{named};
 ghost use Rattle.pdb_info.specs.Info.{InfoView, HasInfo, info_checks};
@@ -37,7 +37,7 @@ impl<'a, A: Allocator> Model for Info<'a, A> {
 /// Checks an info stream, and answers its header and where its names stand. It takes no memory.
 #[tactic(auto, using(crate::proofs::InfoLaws::header_fault, crate::proofs::InfoLaws::map_fault, crate::proofs::InfoLaws::pairs_answer))]
 fn check(stream: &[u8]) -> Result<(InfoHeader, NameMap), InfoFault>
-    ensures header { IfOk result (λ found. HasHeader stream.now found.0) }
+    ensures header { IfOk result (λ found. HasInfoHeader stream.now found.0) }
     ensures map { IfOk result (λ found. IsMap stream.now found.1) }
     ensures inside { IfOk result (λ _. pairs_offset stream.now + 8 * size_of stream.now ≤ length stream.now) }
     ensures held { IfOk result (λ _. first_failing (checks_below (size_of stream.now) (pair_checks stream.now)) ≡ None) }

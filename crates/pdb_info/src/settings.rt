@@ -1,7 +1,8 @@
 //! What the program that writes a file decides.
 
 ghost use Rattle.std.specs.Prelude.{◌≡◌, ◌≤◌, ◌↔◌, length, IfSome, IsSome};
-ghost use Rattle.pdb_info.specs.Settings.{SettingsView, limit_of_records};
+ghost use Rattle.byte_fields.specs.Bytes.{AreBytes};
+ghost use Rattle.pdb_info.specs.Settings.{SettingsView, AreSettings, limit_of_records};
 
 use std::marker::Model;
 use uuid::Uuid;
@@ -19,22 +20,26 @@ pub struct Settings {
 }
 
 impl Model for Settings {
-    ghost use Rattle.std.specs.Prelude.{◌≡◌, ◌≤◌, length};
-    ghost use Rattle.pdb_info.specs.Settings.{SettingsView, limit_of_records};
+    ghost use Rattle.pdb_info.specs.Settings.{SettingsView, AreSettings};
 
     ghost Value = { SettingsView };
 
     ghost view = { λ s. record { guid = s.guid; age = s.age; limit = s.limit } };
 
-    ghost invariant = { λ s. (length s.guid ≡ 16) × (s.limit ≤ limit_of_records) };
+    ghost invariant = { λ s. AreSettings (record { guid = s.guid; age = s.age; limit = s.limit }) };
 
     ghost inverse = { λ s. record { guid = s.guid; age = s.age; limit = s.limit } };
 }
 
+/// The bytes of a slice are bytes.
+fn are_bytes(bytes: &[u8])
+    ensures { AreBytes bytes.now }
+{}
+
 impl Settings {
-    /// These settings, where the limit is at most 1,073,741,824 bytes.
+    /// These settings, where the limit is at most 1,073,741,824 bytes; else `None`.
     ///
-    /// So many bytes fit in a file whatever the records are. It takes no memory.
+    /// It does not allocate.
     pub fn new(guid: Uuid, age: u32, limit: u32) -> Option<Settings>
         ensures value { IfSome result (λ s. s ≡ record { guid = guid; age = age; limit = limit }) }
         ensures some { IsSome result ↔ (limit ≤ 1073741824) }
@@ -43,14 +48,14 @@ impl Settings {
             return None;
         }
         // The proof learns here that a GUID has 16 bytes.
-        let _ = guid.into_bytes();
+        are_bytes(&guid.into_bytes());
         Some(Settings { guid, age, limit })
     }
 
     /// The GUID that the file gets.
     pub fn guid(&self) -> Uuid
         ensures value { result ≡ self.now.guid }
-        ensures whole { length result ≡ 16 }
+        ensures settings { AreSettings self.now }
     {
         self.guid
     }

@@ -1,8 +1,8 @@
 -- The file of the types of files: one for all lists of files with the same types.
-use Rattle.std.proofs.Common.{◌≡◌, ◌↔◌, ℕ, subst, ◌≤◌, List, [], ◌∷◌, length, refl, sym, ap, ◌∙◌, arith, inl, inr}
+use Rattle.std.proofs.Common.{◌≡◌, ◌↔◌, ℕ, subst, List, [], ◌∷◌, length, refl, sym, ap, ◌∙◌, arith, inl, inr}
 use Rattle.std.specs.Prelude.{Option, Result, Ok, Err, IfOk, IfErr}
 use Rattle.std.specs.List.{concat}
-use Rattle.pdb_info.specs.Settings.{SettingsView}
+use Rattle.pdb_info.specs.Settings.{SettingsView, AreSettings}
 use Rattle.type_trees.specs.Tree.{Tree, IsType}
 use Rattle.type_trees.specs.Canon.{texts}
 use Rattle.type_trees.specs.Finish.{IsCanonOf}
@@ -15,7 +15,7 @@ use Rattle.pdb_merge.proofs.UnionLaws.{types_of_first, types_of_both, within_mor
 use Rattle.pdb_merge.proofs.ReadBackLaws.{IsBack, is_back}
 use Rattle.type_trees.proofs.CanonTableLaws.{canon_same}
 use Rattle.msf_streams.specs.Woven.{AppendsPart}
-use Rattle.pdb_merge.proofs.AcceptedLaws.{one_list_short}
+use Rattle.pdb_merge.proofs.AcceptedLaws.{one_list}
 use Rattle.pdb_merge.specs.Merged.{merged_file, IsFileOf, Merged, WroteFile, Wrote, WrotePart}
 use Rattle.pdb_merge.specs.declared.summary.Summary.{Summary}
 
@@ -35,7 +35,7 @@ one_merged_file files others settings same x y age guid types (records, canon, i
 
 -- the file is accepted with its own records alone
 own_records : (P : Tree → Type 0) (file : List ℕ) (records others : List (List ℕ)) → IsBack P file records → IsAccepted file others → records ≡ others
-own_records P file records others back accepted = one_list_short file records others back.short.accepted back.short.few back.short.bytes accepted
+own_records P file records others back accepted = one_list file records others back.accepted accepted
 
 -- so its types are just those
 file_has : (P : Tree → Type 0) (file : List ℕ) (records : List (List ℕ)) → IsBack P file records → (t : Tree) → FileHas file t ↔ P t
@@ -43,7 +43,7 @@ file_has P file records back t = (
   λ h.
       let own : records ≡ h.0 = own_records P file records h.0 back h.1 in
       (back.just t).0 (subst (λ (r : List (List ℕ)). IsType r t) (sym own) h.2),
-  λ p. (records, back.short.accepted, (back.just t).1 p),
+  λ p. (records, back.accepted, (back.just t).1 p),
 )
 
 -- the types of a list of one file are those of the file
@@ -53,21 +53,21 @@ types_of_one x t =
     (λ h. elim (first.0 h) [ inl here ↦ here | inr none ↦ absurd (omega (arith, none.1)) ], λ here. first.1 (inl here))
 
 -- the file of a canonical list of the types of files is just what is said of it
-pub is_file : (files : List (List ℕ)) (settings : SettingsView) (records : List (List ℕ)) → length settings.guid ≡ 16 → settings.limit ≤ 1073741824 → Within (HasType files) settings.limit
+pub is_file : (files : List (List ℕ)) (settings : SettingsView) (records : List (List ℕ)) → AreSettings settings → Within (HasType files) settings.limit
     → IsCanonOf records (HasType files) → IsFileOf files settings (merged_file settings records) records
-is_file files settings records long few within canon =
+is_file files settings records are within canon =
     let file = merged_file settings records in
-    let back = is_back files settings records long (within_more (HasType files) settings.limit 1073741824 few within) canon in
+    let back = is_back files settings records are (within_more (HasType files) settings.limit 1073741824 are.limit_fits within) canon in
     let alone : SameTypes files (file ∷ []) = λ t. (
       λ h. (types_of_one file t).1 ((file_has (HasType files) file records back t).1 h),
       λ h. (file_has (HasType files) file records back t).0 ((types_of_one file t).0 h),
     ) in
     record {
       made = refl;
-      holds = record { accepted = back.short.accepted; canon = canon; types = back.just; once = back.once };
+      holds = record { accepted = back.accepted; canon = canon; types = back.just; once = back.once };
       same = λ others its other age guid types merged. sym (one_merged_file files others settings its file other (sym age) (sym guid) types (records, canon, refl) merged);
       can = record {
-        accepted = one_accepted file records back.short.accepted;
+        accepted = one_accepted file records back.accepted;
         within = within_same (HasType files) (HasType (file ∷ [])) settings.limit alone within;
       };
       again = (records, canon_same records (HasType files) (HasType (file ∷ [])) canon alone, refl);
@@ -75,31 +75,31 @@ is_file files settings records long few within canon =
 
 -- ---- the laws
 
-of_merged : (files : List (List ℕ)) (settings : SettingsView) (x : List ℕ) → length settings.guid ≡ 16 → settings.limit ≤ 1073741824 → Within (HasType files) settings.limit
+of_merged : (files : List (List ℕ)) (settings : SettingsView) (x : List ℕ) → AreSettings settings → Within (HasType files) settings.limit
     → (merged : Merged (HasType files) settings x) → IsFileOf files settings x merged.0
-of_merged files settings x long few within (records, canon, is_x) = rw is_x (is_file files settings records long few within canon)
+of_merged files settings x are within (records, canon, is_x) = rw is_x (is_file files settings records are within canon)
 
-pub merged_reads_back : (settings : SettingsView) → length settings.guid ≡ 16 → settings.limit ≤ 1073741824 → MergedReadsBack settings
-merged_reads_back settings long few files x within merged = (merged.0, (of_merged files settings x long few within merged).holds)
+pub merged_reads_back : (settings : SettingsView) → AreSettings settings → MergedReadsBack settings
+merged_reads_back settings are files x within merged = (merged.0, (of_merged files settings x are within merged).holds)
 
-pub merged_again : (settings : SettingsView) → length settings.guid ≡ 16 → settings.limit ≤ 1073741824 → MergedAgain settings
-merged_again settings long few files x within merged = let is = of_merged files settings x long few within merged in (is.can, is.again)
+pub merged_again : (settings : SettingsView) → AreSettings settings → MergedAgain settings
+merged_again settings are files x within merged = let is = of_merged files settings x are within merged in (is.can, is.again)
 
-pub merged_has : (settings : SettingsView) → length settings.guid ≡ 16 → settings.limit ≤ 1073741824 → MergedHas settings
-merged_has settings long few files x within (records, canon, is_x) t =
-    rw is_x (file_has (HasType files) (merged_file settings records) records (is_back files settings records long (within_more (HasType files) settings.limit 1073741824 few within) canon) t)
+pub merged_has : (settings : SettingsView) → AreSettings settings → MergedHas settings
+merged_has settings are files x within (records, canon, is_x) t =
+    rw is_x (file_has (HasType files) (merged_file settings records) records (is_back files settings records are (within_more (HasType files) settings.limit 1073741824 are.limit_fits within) canon) t)
 
-pub merged_files_differ : (settings other : SettingsView) → length settings.guid ≡ 16 → settings.limit ≤ 1073741824 → length other.guid ≡ 16 → other.limit ≤ 1073741824 → MergedFilesDiffer settings other
-merged_files_differ settings other long few long_o few_o files others x within within_o merged merged_o t =
-    let s = merged_has settings long few files x within merged t in
-    let o = merged_has other long_o few_o others x within_o merged_o t in
+pub merged_files_differ : (settings other : SettingsView) → AreSettings settings → AreSettings other → MergedFilesDiffer settings other
+merged_files_differ settings other are are_o files others x within within_o merged merged_o t =
+    let s = merged_has settings are files x within merged t in
+    let o = merged_has other are_o others x within_o merged_o t in
     (λ h. o.0 (s.1 h), λ h. s.0 (o.1 h))
 
-pub earlier_merge : (settings : SettingsView) → length settings.guid ≡ 16 → settings.limit ≤ 1073741824 → EarlierMerge settings
-earlier_merge settings long few files others x within merged t =
+pub earlier_merge : (settings : SettingsView) → AreSettings settings → EarlierMerge settings
+earlier_merge settings are files others x within merged t =
     let all = types_of_first x others t in
     let both = types_of_both files others t in
-    let here = merged_has settings long few files x within merged t in (
+    let here = merged_has settings are files x within merged t in (
       λ h. elim (all.0 h) [ inl first ↦ both.1 (inl (here.0 first)) | inr other ↦ both.1 (inr other) ],
       λ h. elim (both.0 h) [ inl first ↦ all.1 (inl (here.1 first)) | inr other ↦ all.1 (inr other) ],
     )
@@ -112,29 +112,24 @@ canon_weighs P records bytes (l, canonical, are, members) is =
     (l, record { distinct = canonical.distinct; members = members }, sym (is ∙ ap (λ (x : List (List ℕ)). length (concat x)) are ∙ weight_of_texts l canonical))
 
 pub wrote : {E : Type 0} (files : List (List ℕ)) (settings : SettingsView) (records : List (List ℕ)) (old new : Option (List ℕ)) (answer : Result Summary E)
-    → length settings.guid ≡ 16 → settings.limit ≤ 1073741824 → Within (HasType files) settings.limit → IsCanonOf records (HasType files)
+    → AreSettings settings → Within (HasType files) settings.limit → IsCanonOf records (HasType files)
     → IfOk answer (WroteFile records settings old new) → IfOk answer (Wrote files settings old new)
-wrote files settings records old new (Ok summary) long few within canon did = record {
+wrote files settings records old new (Ok summary) are within canon did = record {
   file = merged_file settings records;
   records = records;
   taken = did.taken;
-  is_file = is_file files settings records long few within canon;
+  is_file = is_file files settings records are within canon;
   types = did.types;
   bytes = canon_weighs (HasType files) records summary.bytes canon did.bytes;
   long = did.long;
 }
-wrote files settings records old new (Err fault) long few within canon did = tt
+wrote files settings records old new (Err fault) are within canon did = tt
 
 pub wrote_part : {A E : Type 0} (files : List (List ℕ)) (settings : SettingsView) (records : List (List ℕ)) (old new : Option (List ℕ)) (Broken : Type 0) (e : E) (answer : Result A E)
-    → length settings.guid ≡ 16 → settings.limit ≤ 1073741824 → Within (HasType files) settings.limit → IsCanonOf records (HasType files)
+    → AreSettings settings → Within (HasType files) settings.limit → IsCanonOf records (HasType files)
     → IfErr answer (λ fault. fault ≡ e → Broken × AppendsPart old new (merged_file settings records))
     → IfErr answer (λ fault. fault ≡ e → Broken × WrotePart files settings old new)
-wrote_part files settings records old new Broken e (Ok done) long few within canon part = tt
-wrote_part files settings records old new Broken e (Err fault) long few within canon part = λ is.
+wrote_part files settings records old new Broken e (Ok done) are within canon part = tt
+wrote_part files settings records old new Broken e (Err fault) are within canon part = λ is.
     let did = part is in
-    (did.0, record { file = merged_file settings records; records = records; taken = did.1; is_file = is_file files settings records long few within canon })
-
--- what holds anyway holds of a fault
-pub if_err_any : {A E : Type 0} (Q : Type 0) (e : E) (answer : Result A E) → Q → IfErr answer (λ fault. fault ≡ e → Q)
-if_err_any Q e (Ok value) holds = tt
-if_err_any Q e (Err fault) holds = λ is. holds
+    (did.0, record { file = merged_file settings records; records = records; taken = did.1; is_file = is_file files settings records are within canon })

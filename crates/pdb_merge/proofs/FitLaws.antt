@@ -1,17 +1,16 @@
 -- How long the file of types is, and that it fits.
-use Rattle.std.proofs.Common.{◌≡◌, ℕ, ◌+◌, ◌-◌, ◌*◌, ◌<◌, ◌≤◌, ◌^◌, List, [], ◌∷◌, ◌++◌, length, map, refl, ap, ◌∙◌, arith}
+use Rattle.std.proofs.Common.{◌≡◌, ℕ, ◌+◌, ◌<◌, ◌≤◌, ◌^◌, List, [], ◌∷◌, ◌++◌, length, map, refl, ap, ◌∙◌, arith}
 use Rattle.std.specs.Prelude.{All}
-use Rattle.std.specs.List.{AllByRecursion, concat, sum_by}
+use Rattle.std.specs.List.{concat, sum_by}
 use Rattle.std.proofs.lemmas.List.Sums.{sum_by-cons}
-use Rattle.msf_blocks.proofs.BlockLaws.{nth_few}
+use Rattle.msf_streams.proofs.FitLaws.{few_blocks_fit}
 use Rattle.std.proofs.lemmas.List.{length-append}
 use Rattle.std.proofs.lemmas.List.Elements.{All-nil, All-cons, All-head, All-tail}
 use Rattle.msf_blocks.specs.BlockNumber.{blocks_for}
-use Rattle.msf_streams.specs.Image.{directory_len, directory_count, data_count, Fits, Writable}
-use Rattle.pdb_info.specs.Settings.{SettingsView}
+use Rattle.msf_streams.specs.Image.{Fits, Writable}
+use Rattle.pdb_info.specs.Settings.{SettingsView, AreSettings}
 use Rattle.pdb_info.specs.Written.{info_text}
 use Rattle.pdb_info.specs.Guid.{stored_guid}
-use Rattle.tpi_records.specs.Records.{IsRecord}
 use Rattle.tpi_records.specs.Written.{header_text, header_numbers}
 use Rattle.byte_fields.proofs.NumberLaws.{length-words}
 use Rattle.pdb_info.proofs.GuidLaws.{stored_is}
@@ -26,11 +25,6 @@ length-info age guid long =
     let back : List ℕ = words (0 ∷ 0 ∷ 8 ∷ 0 ∷ 0 ∷ 0 ∷ []) in
     let stored : length (stored_guid guid) ≡ 16 = ap length (stored_is guid long) in
     omega (arith, length-append front (stored_guid guid ++ back), length-append (stored_guid guid) back, stored, length-words (20000404 ∷ 0 ∷ age ∷ []), length-words (0 ∷ 0 ∷ 8 ∷ 0 ∷ 0 ∷ 0 ∷ []))
-
--- each record has at least four bytes
-pub many_bytes : (records : List (List ℕ)) → AllByRecursion IsRecord records → 4 * length records ≤ length (concat records)
-many_bytes [] each = omega arith
-many_bytes (r ∷ records) each = omega (arith, length-append r (concat records), each.0.long, many_bytes records each.1)
 
 length-header : (count bytes : ℕ) → length (header_text count bytes) ≡ 56
 unfolding header_text
@@ -48,56 +42,46 @@ stream_blocks bytes =
     let small : f 52 ≡ 1 = refl in
     omega (arith, sum_by-cons f 0 (52 ∷ (56 + bytes) ∷ 0 ∷ 0 ∷ []), sum_by-cons f 52 ((56 + bytes) ∷ 0 ∷ 0 ∷ []), sum_by-cons f (56 + bytes) (0 ∷ 0 ∷ []), sum_by-cons f 0 (0 ∷ []), sum_by-cons f 0 [], none, small)
 
--- few blocks fit
-few_fit : (sizes : List ℕ) (total : ℕ) → length sizes ≡ 5 → sum_by (blocks_for 4096) sizes ≡ total → total ≤ 262146 → Fits 4096 sizes
-few_fit sizes total five sum few =
-    let len : directory_len 4096 sizes ≡ 4 * (6 + total) = rw (five, sum) refl in
-    let count : directory_count 4096 sizes ≡ blocks_for 4096 (4 * (6 + total)) = ap (blocks_for 4096) len in
-    let all : data_count 4096 sizes ≡ 2 + blocks_for 4096 (4 * (6 + total)) + total = rw (count, sum) refl in
-    let last = nth_few 4096 (data_count 4096 sizes - 1) (omega arith) in
-    let bound : blocks_for 4096 (4 * (6 + total)) ≤ 257 = omega (arith, few) in
-    record { directory = omega (arith, count, bound); short = omega (arith, last, all, bound, few) }
-
 pub small_fits : (bytes : ℕ) → bytes ≤ 1073741824 → Fits 4096 (0 ∷ 52 ∷ (56 + bytes) ∷ 0 ∷ 0 ∷ [])
 small_fits bytes few =
     let total : 1 + blocks_for 4096 (56 + bytes) ≤ 262146 = omega (arith, few) in
-    few_fit (0 ∷ 52 ∷ (56 + bytes) ∷ 0 ∷ 0 ∷ []) (1 + blocks_for 4096 (56 + bytes)) refl (stream_blocks bytes) total
+    few_blocks_fit (0 ∷ 52 ∷ (56 + bytes) ∷ 0 ∷ 0 ∷ []) refl (rw (stream_blocks bytes) total)
 
 stream_short : (records : List (List ℕ)) → length (concat records) ≤ 1073741824 → length (type_stream records) < 2 ^ 32
 stream_short records few = omega (arith, length-stream records, few)
 
 -- the sizes of the texts
-pub sizes_are : (settings : SettingsView) (records : List (List ℕ)) → length settings.guid ≡ 16
+pub sizes_are : (settings : SettingsView) (records : List (List ℕ)) → AreSettings settings
     → map length (merged_texts settings records) ≡ 0 ∷ 52 ∷ (56 + length (concat records)) ∷ 0 ∷ 0 ∷ []
-sizes_are settings records long = rw (length-info settings.age settings.guid long, length-stream records) refl
+sizes_are settings records are = rw (length-info settings.age settings.guid are.guid_long, length-stream records) refl
 
-pub merged_fits : (settings : SettingsView) (records : List (List ℕ)) → length settings.guid ≡ 16 → length (concat records) ≤ 1073741824
+pub merged_fits : (settings : SettingsView) (records : List (List ℕ)) → AreSettings settings → length (concat records) ≤ 1073741824
     → Fits 4096 (map length (merged_texts settings records))
-merged_fits settings records long few = rw (sizes_are settings records long) (small_fits (length (concat records)) few)
+merged_fits settings records are few = rw (sizes_are settings records are) (small_fits (length (concat records)) few)
 
-short_writable : (settings : SettingsView) (records : List (List ℕ)) → length settings.guid ≡ 16 → 56 + length (concat records) < 2 ^ 32 → All (λ text. length text < 2 ^ 32) (merged_texts settings records)
-short_writable settings records long few =
+short_writable : (settings : SettingsView) (records : List (List ℕ)) → AreSettings settings → 56 + length (concat records) < 2 ^ 32 → All (λ text. length text < 2 ^ 32) (merged_texts settings records)
+short_writable settings records are few =
     let P : List ℕ → Type 0 = λ text. length text < 2 ^ 32 in
     let none : All P ([] ∷ [] ∷ []) = All-cons P [] ([] ∷ []) (omega arith) (All-cons P [] [] (omega arith) (All-nil P)) in
     let short : length (type_stream records) < 2 ^ 32 = omega (arith, length-stream records, few) in
     All-cons P [] (info_text settings.age settings.guid ∷ type_stream records ∷ [] ∷ [] ∷ []) (omega arith)
-    (All-cons P (info_text settings.age settings.guid) (type_stream records ∷ [] ∷ [] ∷ []) (omega (arith, length-info settings.age settings.guid long)) (All-cons P (type_stream records) ([] ∷ [] ∷ []) short none))
+    (All-cons P (info_text settings.age settings.guid) (type_stream records ∷ [] ∷ [] ∷ []) (omega (arith, length-info settings.age settings.guid are.guid_long)) (All-cons P (type_stream records) ([] ∷ [] ∷ []) short none))
 
 -- the texts can be written just where their sizes fit
-pub sizes_writable : (settings : SettingsView) (records : List (List ℕ)) → length settings.guid ≡ 16 → Fits 4096 (merged_sizes (length (concat records))) → 56 + length (concat records) < 2 ^ 32
+pub sizes_writable : (settings : SettingsView) (records : List (List ℕ)) → AreSettings settings → Fits 4096 (merged_sizes (length (concat records))) → 56 + length (concat records) < 2 ^ 32
     → Writable 4096 (merged_texts settings records)
-sizes_writable settings records long fits few = record { short = short_writable settings records long few; fits = rw (sizes_are settings records long) fits }
+sizes_writable settings records are fits few = record { short = short_writable settings records are few; fits = rw (sizes_are settings records are) fits }
 
-pub writable_sizes : (settings : SettingsView) (records : List (List ℕ)) → length settings.guid ≡ 16 → Writable 4096 (merged_texts settings records)
+pub writable_sizes : (settings : SettingsView) (records : List (List ℕ)) → AreSettings settings → Writable 4096 (merged_texts settings records)
     → Fits 4096 (merged_sizes (length (concat records))) × (56 + length (concat records) < 2 ^ 32)
-writable_sizes settings records long w =
+writable_sizes settings records are w =
     let P : List ℕ → Type 0 = λ text. length text < 2 ^ 32 in
     let behind = All-tail P (info_text settings.age settings.guid) (type_stream records ∷ [] ∷ [] ∷ []) (All-tail P [] (info_text settings.age settings.guid ∷ type_stream records ∷ [] ∷ [] ∷ []) w.short) in
     let short = All-head P (type_stream records) ([] ∷ [] ∷ []) behind in
     let fits = w.fits in
-    let fit = rw (sizes_are settings records long) at fits in
+    let fit = rw (sizes_are settings records are) at fits in
     (fit, omega (arith, length-stream records, short))
 
-pub merged_writable : (settings : SettingsView) (records : List (List ℕ)) → length settings.guid ≡ 16 → length (concat records) ≤ 1073741824
+pub merged_writable : (settings : SettingsView) (records : List (List ℕ)) → AreSettings settings → length (concat records) ≤ 1073741824
     → Writable 4096 (merged_texts settings records)
-merged_writable settings records long few = sizes_writable settings records long (small_fits (length (concat records)) few) (omega (arith, few))
+merged_writable settings records are few = sizes_writable settings records are (small_fits (length (concat records)) few) (omega (arith, few))

@@ -1,9 +1,9 @@
-pub mod LayoutLaws
 pub mod StreamLaws
 pub mod AcceptedLaws
 pub mod MemoryLaws
 pub mod UnionLaws
 pub mod MergingLaws
 pub mod FitLaws
+pub mod BytesLaws
 pub mod ReadBackLaws
 pub mod FileLaws

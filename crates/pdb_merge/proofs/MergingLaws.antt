@@ -8,7 +8,7 @@ use Rattle.type_trees.specs.Finish.{IsCanonOf}
 use Rattle.type_trees.proofs.CanonTableLaws.{canon_same}
 use Rattle.pdb_merge.specs.Fault.{of_add}
 use Rattle.pdb_merge.specs.Merging.{MergeView, HasTaken}
-use Rattle.pdb_merge.specs.Union.{AreBytes, HasType, HasTypeBelow, AcceptedBelow, Within, Takes, Hinders, CanMerge, CanMergeBelow, Stops, Unites}
+use Rattle.pdb_merge.specs.Union.{HasType, HasTypeBelow, AcceptedBelow, Within, Takes, Hinders, CanMerge, CanMergeBelow, Stops, Unites}
 use Rattle.pdb_merge.specs.declared.fault.AddFault.{AddFault}
 use Rattle.pdb_merge.specs.declared.fault.AddFault.TheVariants as add
 use Rattle.pdb_merge.specs.declared.fault.MergeFault.{MergeFault}
@@ -65,9 +65,9 @@ nothing_taken limit = record { accepted = none_accepted []; unites = none_united
 last_file : (files : List (List ℕ)) (file : List ℕ) → get_or (files ++ file ∷ []) (length files) [] ≡ file
 last_file files file = get_or-append_seam files file [] []
 
-pub taken_more : (before after : MergeView) (files : List (List ℕ)) (file : List ℕ) → AreBytes file → Takes before.types after.types file → Within (IsType after.types) after.limit
+pub taken_more : (before after : MergeView) (files : List (List ℕ)) (file : List ℕ) → Takes before.types after.types file → Within (IsType after.types) after.limit
     → HasTaken before files → HasTaken after (files ++ file ∷ [])
-taken_more before after files file bytes takes within taken =
+taken_more before after files file takes within taken =
     let all = files ++ file ∷ [] in
     let last = last_file files file in
     let many : length files + 1 ≡ length all = omega (arith, length-append files (file ∷ [])) in
@@ -75,20 +75,20 @@ taken_more before after files file bytes takes within taken =
     let accepted = accepted_still files (file ∷ []) (length files) (omega arith) taken.accepted in
     record {
       accepted = rw (← many) (accepted_more all (length files) takes.records (rw last takes.accepted) accepted);
-      unites = rw (← many) (united_more before.types after.types all (length files) (rw last bytes) unites (rw last takes));
+      unites = rw (← many) (united_more before.types after.types all (length files) unites (rw last takes));
       within = within;
     }
 
 -- what hinders a file is the fault of the list of all files
-pub taken_stops : {A : Type 0} (before : MergeView) (files : List (List ℕ)) (file : List ℕ) (inner : AddFault A) → AreBytes file → Hinders before.types before.limit file inner
+pub taken_stops : {A : Type 0} (before : MergeView) (files : List (List ℕ)) (file : List ℕ) (inner : AddFault A) → Hinders before.types before.limit file inner
     → HasTaken before files → Stops (files ++ file ∷ []) before.limit (of_add (length files) inner)
-taken_stops before files file inner bytes hinders taken =
+taken_stops before files file inner hinders taken =
     let all = files ++ file ∷ [] in
     let last = last_file files file in
     let inside : length files < length all = omega (arith, length-append files (file ∷ [])) in
     let unites = unites_still before.types files (file ∷ []) (length files) (omega arith) taken.unites in
     let accepted = accepted_still files (file ∷ []) (length files) (omega arith) taken.accepted in
-    hindered before.types all (length files) before.limit inner (of_add (length files) inner) inside (rw last bytes) unites accepted taken.within refl (rw last hinders)
+    hindered before.types all (length files) before.limit inner (of_add (length files) inner) inside unites accepted taken.within refl (rw last hinders)
 
 -- ---- all files
 
@@ -97,9 +97,9 @@ pub taken_can : (merge : MergeView) (files : List (List ℕ)) → HasTaken merge
 taken_can merge files taken = all_merged merge.types files (length files) merge.limit refl taken.unites taken.accepted taken.within
 
 -- a file that can be merged with those before it, and with more after it, is hindered by nothing but memory
-pub taken_alone : {A : Type 0} (before : MergeView) (files more : List (List ℕ)) (file : List ℕ) (inner : AddFault A) → AreBytes file → Hinders before.types before.limit file inner
+pub taken_alone : {A : Type 0} (before : MergeView) (files more : List (List ℕ)) (file : List ℕ) (inner : AddFault A) → Hinders before.types before.limit file inner
     → HasTaken before files → CanMerge ((files ++ file ∷ []) ++ more) before.limit → inner ≡ add.Memory
-taken_alone before files more file inner bytes hinders taken can =
+taken_alone before files more file inner hinders taken can =
     let first = files ++ file ∷ [] in
     let all = first ++ more in
     let inside : length files < length first = omega (arith, length-append files (file ∷ [])) in
@@ -107,24 +107,24 @@ taken_alone before files more file inner bytes hinders taken can =
     let last : get_or all (length files) [] ≡ file = same_file first more (length files) inside ∙ last_file files file in
     let unites = unites_still before.types first more (length files) (omega (arith, inside)) (unites_still before.types files (file ∷ []) (length files) (omega arith) taken.unites) in
     let accepted = accepted_still first more (length files) (omega (arith, inside)) (accepted_still files (file ∷ []) (length files) (omega arith) taken.accepted) in
-    added_alone before.types all (length files) before.limit inner whole (rw last bytes) unites accepted taken.within (rw last hinders) can
+    added_alone before.types all (length files) before.limit inner whole unites accepted taken.within (rw last hinders) can
 
 -- ---- what one more file comes to
 
-pub taken_after : {A E : Type 0} (before after : MergeView) (file : List ℕ) (answer : Result A E) → AreBytes file → IfOk answer (λ _. Takes before.types after.types file)
+pub taken_after : {A E : Type 0} (before after : MergeView) (file : List ℕ) (answer : Result A E) → IfOk answer (λ _. Takes before.types after.types file)
     → IfOk answer (λ _. Within (IsType after.types) after.limit) → IfOk answer (λ _. (files : List (List ℕ)) → HasTaken before files → HasTaken after (files ++ file ∷ []))
-taken_after before after file (Ok done) bytes takes within = λ files taken. taken_more before after files file bytes takes within taken
-taken_after before after file (Err fault) bytes takes within = tt
+taken_after before after file (Ok done) takes within = λ files taken. taken_more before after files file takes within taken
+taken_after before after file (Err fault) takes within = tt
 
-pub stops_after : {T A : Type 0} (before : MergeView) (file : List ℕ) (answer : Result T (AddFault A)) → AreBytes file → IfErr answer (Hinders before.types before.limit file)
+pub stops_after : {T A : Type 0} (before : MergeView) (file : List ℕ) (answer : Result T (AddFault A)) → IfErr answer (Hinders before.types before.limit file)
     → IfErr answer (λ fault. (files : List (List ℕ)) → HasTaken before files → Stops (files ++ file ∷ []) before.limit (of_add (length files) fault))
-stops_after before file (Ok done) bytes hinders = tt
-stops_after before file (Err fault) bytes hinders = λ files taken. taken_stops before files file fault bytes hinders taken
+stops_after before file (Ok done) hinders = tt
+stops_after before file (Err fault) hinders = λ files taken. taken_stops before files file fault hinders taken
 
-pub alone_after : {T A : Type 0} (before : MergeView) (file : List ℕ) (answer : Result T (AddFault A)) → AreBytes file → IfErr answer (Hinders before.types before.limit file)
+pub alone_after : {T A : Type 0} (before : MergeView) (file : List ℕ) (answer : Result T (AddFault A)) → IfErr answer (Hinders before.types before.limit file)
     → IfErr answer (λ fault. (files more : List (List ℕ)) → HasTaken before files → CanMerge ((files ++ file ∷ []) ++ more) before.limit → fault ≡ add.Memory)
-alone_after before file (Ok done) bytes hinders = tt
-alone_after before file (Err fault) bytes hinders = λ files more taken can. taken_alone before files more file fault bytes hinders taken can
+alone_after before file (Ok done) hinders = tt
+alone_after before file (Err fault) hinders = λ files more taken can. taken_alone before files more file fault hinders taken can
 
 -- a list is what stands before a file, the file, and what stands after it
 split_at : (files : List (List ℕ)) (k : ℕ) → k < length files → (take k files ++ get_or files k [] ∷ []) ++ drop (k + 1) files ≡ files

@@ -6,7 +6,7 @@ use Rattle.std.proofs.lemmas.List.FromFn.{length-map-range_with_len}
 use Rattle.msf_blocks.specs.Directory.{Listed, bytes_of}
 use Rattle.msf_blocks.specs.Layout.{LayoutView}
 use Rattle.msf_streams.specs.Stream.{stream_text, text_of, gathered}
-use Rattle.pdb_merge.specs.Accepted.{HasInfo, HasShortInfo}
+use Rattle.pdb_merge.specs.Accepted.{HasLongInfo, HasShortInfo}
 
 length-text : (file : List ℕ) (block_size : ℕ) (stream : Listed) → length (text_of file block_size stream) ≡ bytes_of stream.size
 unfolding gathered
@@ -19,7 +19,7 @@ text_there file block_size size None is = absurd cc
 text_there file block_size size (Some stream) is = (text_of file block_size stream, refl, (length-text file block_size stream ∙ cc))
 
 -- a stream 1 of at least 28 bytes
-pub long_info : (file : List ℕ) (layout : LayoutView) (size : ℕ) → option_map (λ s. bytes_of s.size) (slice_get layout.streams 1) ≡ Some size → 28 ≤ size → HasInfo file layout
+pub long_info : (file : List ℕ) (layout : LayoutView) (size : ℕ) → option_map (λ s. bytes_of s.size) (slice_get layout.streams 1) ≡ Some size → 28 ≤ size → HasLongInfo file layout
 long_info file layout size is long =
     let there = text_there file layout.superblock.block_size size (slice_get layout.streams 1) is in
     (there.0, there.1, omega (arith, there.2))

@@ -14,7 +14,7 @@ use Rattle.type_trees.proofs.WeightLaws.{weight-none, weight_grows}
 use Rattle.pdb_merge.specs.Accepted.{IsAccepted}
 use Rattle.pdb_merge.specs.Fault.{of_join, of_add}
 use Rattle.pdb_merge.specs.Laws.{TypesOfFirst, TypesOfBoth, AnyOrder, RefusedInAnyOrder, OneWeight}
-use Rattle.pdb_merge.specs.Union.{AreBytes, FileHas, HasTypeBelow, HasType, SameFiles, AcceptedBelow, Weighs, Within, Takes, Hinders, CanMerge, CanMergeBelow, Stops, Unites}
+use Rattle.pdb_merge.specs.Union.{FileHas, HasTypeBelow, HasType, SameFiles, AcceptedBelow, Weighs, Within, Takes, Hinders, CanMerge, CanMergeBelow, Stops, Unites}
 use Rattle.pdb_merge.specs.declared.fault.AddFault.{AddFault}
 use Rattle.pdb_merge.specs.declared.fault.AddFault.TheVariants as add
 use Rattle.pdb_merge.specs.declared.fault.MergeFault.{MergeFault}
@@ -66,9 +66,9 @@ join_hinders before types limit file join.Memory outer accepted made large = rw 
 pub none_united : (files : List (List ℕ)) → Unites [] files 0
 none_united files t = (λ h. absurd (no_types t h), λ h. absurd (omega (arith, h.1)))
 
-joined : (before types files : List (List ℕ)) (k : ℕ) → AreBytes (get_or files k []) → Unites before files k → IsAccepted (get_or files k []) types
+joined : (before types files : List (List ℕ)) (k : ℕ) → Unites before files k → IsAccepted (get_or files k []) types
     → (t : Tree) → (IsType before t ⊎ IsType types t) ↔ HasTypeBelow files (k + 1) t
-joined before types files k bytes unites accepted t = (
+joined before types files k unites accepted t = (
   λ h. elim h [
     | inl old ↦ let there = (unites t).0 old in (there.0, omega (arith, there.1), there.2)
     | inr new ↦ (k, omega arith, (types, accepted, new))
@@ -78,14 +78,14 @@ joined before types files k bytes unites accepted t = (
     | inr le ↦
         let same : h.0 ≡ k = omega (arith, h.1, le) in
         let has : IsAccepted (get_or files k []) h.2.0 = rw (← same) h.2.1 in
-        let list : h.2.0 ≡ types = one_list (get_or files k []) h.2.0 types bytes has accepted in
+        let list : h.2.0 ≡ types = one_list (get_or files k []) h.2.0 types has accepted in
         inr (rw (← list) h.2.2)
   ],
 )
 
-pub united_more : (before after files : List (List ℕ)) (k : ℕ) → AreBytes (get_or files k []) → Unites before files k → Takes before after (get_or files k []) → Unites after files (k + 1)
-united_more before after files k bytes unites takes t =
-    let both = joined before takes.records files k bytes unites takes.accepted t in
+pub united_more : (before after files : List (List ℕ)) (k : ℕ) → Unites before files k → Takes before after (get_or files k []) → Unites after files (k + 1)
+united_more before after files k unites takes t =
+    let both = joined before takes.records files k unites takes.accepted t in
     (λ h. both.0 ((takes.types t).0 h), λ h. (takes.types t).1 (both.1 h))
 
 pub accepted_more : (files : List (List ℕ)) (k : ℕ) (types : List (List ℕ)) → IsAccepted (get_or files k []) types → AcceptedBelow files k → AcceptedBelow files (k + 1)
@@ -110,19 +110,19 @@ all_merged before files k limit all unites accepted within =
     record { accepted = rw (← all) accepted; within = rw (← all) (within_same (IsType before) (HasTypeBelow files k) limit unites within) }
 
 -- what hinders a file stops the merge
-pub hindered : {A : Type 0} (before files : List (List ℕ)) (k limit : ℕ) (inner : AddFault A) (outer : MergeFault A) → k < length files → AreBytes (get_or files k []) → Unites before files k → AcceptedBelow files k
+pub hindered : {A : Type 0} (before files : List (List ℕ)) (k limit : ℕ) (inner : AddFault A) (outer : MergeFault A) → k < length files → Unites before files k → AcceptedBelow files k
     → Within (IsType before) limit → outer ≡ of_add k inner → Hinders before limit (get_or files k []) inner → Stops files limit outer
-hindered before files k limit (add.Refused fault) outer inside bytes unites accepted within made hinders =
+hindered before files k limit (add.Refused fault) outer inside unites accepted within made hinders =
     rw made (inside, merged_below before files k limit unites accepted within, hinders)
-hindered before files k limit (add.TooLarge heavy) outer inside bytes unites accepted within made (types, has, weighs, more) =
+hindered before files k limit (add.TooLarge heavy) outer inside unites accepted within made (types, has, weighs, more) =
     rw made (
       inside,
       merged_below before files k limit unites accepted within,
       accepted_more files k types has accepted,
-      weighs_same (λ t. IsType before t ⊎ IsType types t) (HasTypeBelow files (k + 1)) heavy (joined before types files k bytes unites has) weighs,
+      weighs_same (λ t. IsType before t ⊎ IsType types t) (HasTypeBelow files (k + 1)) heavy (joined before types files k unites has) weighs,
       more,
     )
-hindered before files k limit add.Memory outer inside bytes unites accepted within made hinders = rw made tt
+hindered before files k limit add.Memory outer inside unites accepted within made hinders = rw made tt
 
 -- files that can be merged aren't too large
 can_large : (A : Type 0) (files : List (List ℕ)) (limit file heavy : ℕ) → Stops {A = A} files limit (merge.TooLarge file heavy) → CanMerge files limit → ⊥
@@ -132,22 +132,22 @@ can_large A files limit file heavy (inside, below, accepted, (l, lists, is), mor
     omega (arith, less, is, all.2, can.within.2, more)
 
 -- files that can be merged are stopped by nothing but memory
-pub stopped_alone : {A : Type 0} (files : List (List ℕ)) (limit : ℕ) (fault : MergeFault A) → ((i : ℕ) → AreBytes (get_or files i [])) → Stops files limit fault → CanMerge files limit → fault ≡ merge.Memory
-stopped_alone {A = A} files limit (merge.Refused file fault) bytes (inside, below, refused) can =
+pub stopped_alone : {A : Type 0} (files : List (List ℕ)) (limit : ℕ) (fault : MergeFault A) → Stops files limit fault → CanMerge files limit → fault ≡ merge.Memory
+stopped_alone {A = A} files limit (merge.Refused file fault) (inside, below, refused) can =
     let has = can.accepted file inside in
-    absurd (accepted_unrefused (get_or files file []) has.0 fault (bytes file) has.1 refused)
-stopped_alone {A = A} files limit (merge.TooLarge file heavy) bytes stops can = absurd (can_large A files limit file heavy stops can)
-stopped_alone {A = A} files limit merge.Memory bytes stops can = refl
+    absurd (accepted_unrefused (get_or files file []) has.0 fault has.1 refused)
+stopped_alone {A = A} files limit (merge.TooLarge file heavy) stops can = absurd (can_large A files limit file heavy stops can)
+stopped_alone {A = A} files limit merge.Memory stops can = refl
 
 -- nor is a last file that can be merged with those before it
-pub added_alone : {A : Type 0} (before files : List (List ℕ)) (k limit : ℕ) (inner : AddFault A) → k < length files → AreBytes (get_or files k []) → Unites before files k → AcceptedBelow files k
+pub added_alone : {A : Type 0} (before files : List (List ℕ)) (k limit : ℕ) (inner : AddFault A) → k < length files → Unites before files k → AcceptedBelow files k
     → Within (IsType before) limit → Hinders before limit (get_or files k []) inner → CanMerge files limit → inner ≡ add.Memory
-added_alone {A = A} before files k limit (add.Refused fault) inside bytes unites accepted within hinders can =
+added_alone {A = A} before files k limit (add.Refused fault) inside unites accepted within hinders can =
     let has = can.accepted k inside in
-    absurd (accepted_unrefused (get_or files k []) has.0 fault bytes has.1 hinders)
-added_alone {A = A} before files k limit (add.TooLarge heavy) inside bytes unites accepted within hinders can =
-    absurd (can_large A files limit k heavy (hindered {A = A} before files k limit (add.TooLarge heavy) (merge.TooLarge k heavy) inside bytes unites accepted within refl hinders) can)
-added_alone {A = A} before files k limit add.Memory inside bytes unites accepted within hinders can = refl
+    absurd (accepted_unrefused (get_or files k []) has.0 fault has.1 hinders)
+added_alone {A = A} before files k limit (add.TooLarge heavy) inside unites accepted within hinders can =
+    absurd (can_large A files limit k heavy (hindered {A = A} before files k limit (add.TooLarge heavy) (merge.TooLarge k heavy) inside unites accepted within refl hinders) can)
+added_alone {A = A} before files k limit add.Memory inside unites accepted within hinders can = refl
 
 pub within_more : (P : Tree → Type 0) (limit more : ℕ) → limit ≤ more → Within P limit → Within P more
 within_more P limit more le (bytes, weighs, few) = (bytes, weighs, omega (arith, few, le))
@@ -217,8 +217,8 @@ pub weight_of_files : OneWeight
 weight_of_files files end some other weighs_s weighs_o = one_weight (HasTypeBelow files end) some other weighs_s weighs_o
 
 pub refused_in_any_order : {A : Type 0} → RefusedInAnyOrder A
-refused_in_any_order files others limit fault bytes same stops other can =
-    other (stopped_alone files limit fault bytes stops ((any_order files others limit same).0.1 can))
+refused_in_any_order files others limit fault same stops other can =
+    other (stopped_alone files limit fault stops ((any_order files others limit same).0.1 can))
 
 -- so it is where only memory refuses files that can be merged
 pub refused_any : {T A : Type 0} (files : List (List ℕ)) (limit : ℕ) (answer : Result T (MergeFault A)) → (CanMerge files limit → IfErr answer (λ fault. fault ≡ merge.Memory))

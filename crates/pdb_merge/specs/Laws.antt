@@ -1,16 +1,16 @@
 -- What holds of accepted files, and of the files that are written for their types.
-use Rattle.std.specs.Prelude.{ℕ, ◌≡◌, ◌≢◌, ◌⊎◌, ◌↔◌, List, [], ◌∷◌, ◌++◌, get_or}
+use Rattle.std.specs.Prelude.{ℕ, ◌≡◌, ◌≢◌, ◌⊎◌, ◌↔◌, List, [], ◌∷◌, ◌++◌}
 use Rattle.pdb_info.specs.Settings.{SettingsView}
 use Rattle.type_trees.specs.Tree.{Tree}
 use Rattle.pdb_merge.specs.Accepted.{IsAccepted}
-use Rattle.pdb_merge.specs.Union.{AreBytes, FileHas, HasTypeBelow, HasType, SameFiles, SameTypes, Weighs, Within, CanMerge, Stops}
+use Rattle.pdb_merge.specs.Union.{FileHas, HasTypeBelow, HasType, SameFiles, SameTypes, Weighs, Within, CanMerge, Stops}
 use Rattle.pdb_merge.specs.Merged.{Merged, HoldsJust}
 use Rattle.pdb_merge.specs.declared.fault.MergeFault.{MergeFault}
 use Rattle.pdb_merge.specs.declared.fault.MergeFault.TheVariants as merge
 
--- a file of bytes is accepted with one list of records alone
+-- a file is accepted with one list of records alone
 abbrev pub OneListEach : Type 0
-OneListEach = (file : List ℕ) (some others : List (List ℕ)) → AreBytes file → IsAccepted file some → IsAccepted file others → some ≡ others
+OneListEach = (file : List ℕ) (some others : List (List ℕ)) → IsAccepted file some → IsAccepted file others → some ≡ others
 
 -- ---- files that are written with these settings
 
@@ -67,7 +67,7 @@ AnyOrder = (files others : List (List ℕ)) (limit : ℕ) → SameFiles files ot
 -- where a list of files is refused, each list of the same files is, in any order
 abbrev pub RefusedInAnyOrder : Type 0 → Type 0
 RefusedInAnyOrder A =
-    (files others : List (List ℕ)) (limit : ℕ) (fault : MergeFault A) → ((i : ℕ) → AreBytes (get_or files i [])) → SameFiles files others
+    (files others : List (List ℕ)) (limit : ℕ) (fault : MergeFault A) → SameFiles files others
     → Stops files limit fault → fault ≢ merge.Memory → CanMerge others limit → ⊥
 
 -- the types of files have one number of bytes together

@@ -3,17 +3,13 @@ use Rattle.std.specs.Prelude.{ℕ, ◌≡◌, ◌≢◌, ◌+◌, ◌<◌, ◌�
 use Rattle.std.specs.List.{AllPairs, Contains}
 use Rattle.type_trees.specs.Tree.{Tree, IsType}
 use Rattle.type_trees.specs.Canon.{weight}
-use Rattle.pdb_merge.specs.Accepted.{IsAccepted, HasNoTypes}
+use Rattle.pdb_merge.specs.Accepted.{IsAccepted, HasPdbFault}
 use Rattle.pdb_merge.specs.declared.fault.AddFault.{AddFault}
 use Rattle.pdb_merge.specs.declared.fault.AddFault.TheVariants as add
 use Rattle.pdb_merge.specs.declared.fault.MergeFault.{MergeFault}
 use Rattle.pdb_merge.specs.declared.fault.MergeFault.TheVariants as merge
 
 -- ---- the types of files
-
--- a file is made of bytes
-abbrev pub AreBytes : List ℕ → Type 0
-AreBytes file = (i : ℕ) → get_or file i 0 < 256
 
 -- the file is accepted, with records one of whose types this is
 abbrev pub FileHas : List ℕ → Tree → Type 0
@@ -64,7 +60,7 @@ pub record Takes (before after : List (List ℕ)) (file : List ℕ) : Type 0 whe
 
 -- this is why the file isn't added to the types of `before`: it isn't accepted, or the union has so many bytes, which is more than the limit
 abbrev pub Hinders : {A : Type 0} → List (List ℕ) → ℕ → List ℕ → AddFault A → Type 0
-Hinders before limit file (add.Refused fault) = HasNoTypes file fault
+Hinders before limit file (add.Refused fault) = HasPdbFault file fault
 Hinders before limit file (add.TooLarge bytes) =
     (records : List (List ℕ)) × IsAccepted file records × Weighs (λ t. IsType before t ⊎ IsType records t) bytes × (limit < bytes)
 Hinders before limit file add.Memory = Unit {0}
@@ -83,7 +79,7 @@ pub record CanMergeBelow (files : List (List ℕ)) (end limit : ℕ) : Type 0 wh
 
 -- this is why the files aren't merged: those before one of them can be merged, and it has this fault, or the union with it has so many bytes, which is more than the limit
 abbrev pub Stops : {A : Type 0} → List (List ℕ) → ℕ → MergeFault A → Type 0
-Stops files limit (merge.Refused file fault) = (file < length files) × CanMergeBelow files file limit × HasNoTypes (get_or files file []) fault
+Stops files limit (merge.Refused file fault) = (file < length files) × CanMergeBelow files file limit × HasPdbFault (get_or files file []) fault
 Stops files limit (merge.TooLarge file bytes) =
     (file < length files) × CanMergeBelow files file limit × AcceptedBelow files (file + 1) × Weighs (HasTypeBelow files (file + 1)) bytes × (limit < bytes)
 Stops files limit merge.Memory = Unit {0}

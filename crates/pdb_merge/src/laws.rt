@@ -17,9 +17,8 @@ pub fn one_list_each()
 pub fn merged_reads_back(settings: &Settings)
     ensures { MergedReadsBack settings.now }
 {
-    // The proof learns here that a GUID has 16 bytes, and how high a limit can be.
+    // The proof learns here what holds of all settings.
     let _ = settings.guid();
-    let _ = settings.limit();
 }
 
 /// The types of a file that is written for files are theirs.
@@ -27,7 +26,6 @@ pub fn merged_has(settings: &Settings)
     ensures { MergedHas settings.now }
 {
     let _ = settings.guid();
-    let _ = settings.limit();
 }
 
 /// Lists of files for which one file is written have the same types.
@@ -35,9 +33,7 @@ pub fn merged_files_differ(settings: &Settings, other: &Settings)
     ensures { MergedFilesDiffer settings.now other.now }
 {
     let _ = settings.guid();
-    let _ = settings.limit();
     let _ = other.guid();
-    let _ = other.limit();
 }
 
 /// A file that is written for files can be merged alone, and is written again.
@@ -45,7 +41,6 @@ pub fn merged_again(settings: &Settings)
     ensures { MergedAgain settings.now }
 {
     let _ = settings.guid();
-    let _ = settings.limit();
 }
 
 /// A file that is written for files, in their place, changes no types.
@@ -53,7 +48,6 @@ pub fn earlier_merge(settings: &Settings)
     ensures { EarlierMerge settings.now }
 {
     let _ = settings.guid();
-    let _ = settings.limit();
 }
 
 /// For lists of files with the same types one file is written.

@@ -4,7 +4,7 @@ ghost use Rattle.std.specs.Prelude.{◌≡◌, ◌++◌, [], ◌∷◌, ℕ, Lis
 ghost use Rattle.type_trees.specs.Tree.{IsType};
 ghost use Rattle.type_trees.specs.Finish.{IsCanonOf};
 ghost use Rattle.pdb_merge.specs.Fault.{of_add};
-ghost use Rattle.pdb_merge.specs.Union.{AreBytes, HasType, Within, Takes, Hinders, CanMerge, Stops};
+ghost use Rattle.pdb_merge.specs.Union.{HasType, Within, Takes, Hinders, CanMerge, Stops};
 ghost use Rattle.pdb_merge.specs.Merging.{HasTaken};
 
 use crate::buffer::Buffer;
@@ -33,11 +33,6 @@ impl<S: BuildHasher, A: Allocator> Model for Merge<S, A> {
 
     ghost view = { λ m. record { types = m.table; limit = m.limit } };
 }
-
-/// The bytes of a file are bytes.
-fn are_bytes(file: &[u8])
-    ensures { AreBytes file.now }
-{}
 
 impl<S: BuildHasher, A: Allocator + Copy> Merge<S, A> {
     /// A merge of no files yet, whose types may have `limit` bytes together. It takes no memory.
@@ -87,8 +82,6 @@ impl<S: BuildHasher, A: Allocator + Copy> Merge<S, A> {
         // A file that can be merged with them, and with any that follow, is refused only where memory is.
         ensures found { IfErr result (λ fault. (files more : List (List ℕ)) → HasTaken self.old files → CanMerge ((files ++ file.now ∷ []) ++ more) self.old.limit → fault ≡ AddFault.Memory) }
     {
-        // The proof learns here that the file is made of bytes.
-        are_bytes(file);
         self.add_types(alloc, file, buffer)
     }
 

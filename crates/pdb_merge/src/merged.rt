@@ -45,7 +45,7 @@ fn write_canon<W: Sink, A: Allocator + Copy>(
         × AppendsPart (W.taken out.old) (W.taken out.new) (merged_file settings.now canon.now)) }
     ensures untouched { IfErr result (λ fault. fault ≢ OutFault.Write → out.new ≡ out.old) }
 {
-    // The proof learns here that a GUID has 16 bytes.
+    // The proof learns here what holds of all settings.
     let _ = settings.guid();
     if let Err(fault) = write_merged(alloc, canon, settings, out) {
         return Err(out_fault(fault));
@@ -85,9 +85,8 @@ pub fn merge_to<W: Sink, S: BuildHasher + Drop, A: Allocator + Copy>(
         × WrotePart (texts_of files.now) settings.now (W.taken out.old) (W.taken out.new)) }
     ensures untouched { IfErr result (λ fault. fault ≢ OutFault.Write → out.new ≡ out.old) }
 {
-    // The proof learns here that a GUID has 16 bytes, and that the limit is one of settings.
+    // The proof learns here what holds of all settings.
     let _ = settings.guid();
-    let _ = settings.limit();
     let canon = merge_files(alloc, files, settings, hasher)?;
     write_canon(alloc, &canon, settings, out)
 }

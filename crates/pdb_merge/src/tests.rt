@@ -154,3 +154,17 @@ fn growth_is_refused(rt: HostRuntime) -> Result<(), Fail> {
     assert!(rt; 0 < refused && refused < 64);
     Ok(())
 }
+
+#[test]
+fn a_buffer_grows_in_its_own_memory(rt: HostRuntime) -> Result<(), Fail> {
+    let file = sample(rt.alloc())?;
+    let none = LocalHeap::new(rt.alloc(), 0)?;
+    let own = LocalHeap::new(rt.alloc(), 256)?;
+    let ample = LocalHeap::new(rt.alloc(), 4096)?;
+    // However much memory the call has, a buffer without any can't hold the stream.
+    let refused = read(&ample, &file, &mut Buffer::new(&none));
+    assert!(rt; matches!(refused, Err(PdbFault::Memory)));
+    let read = read(&ample, &file, &mut Buffer::new(&own));
+    assert_eq!(rt; read.ok(), Some((2, 24, 1)));
+    Ok(())
+}

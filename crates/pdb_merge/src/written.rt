@@ -67,12 +67,13 @@ pub fn write_merged<W: Sink, A: Allocator + Copy>(
     ensures value { OnOk result (Appends (W.taken out.old) (W.taken out.new) (merged_file settings.now canon.now)) }
     ensures image { IfErr result (λ fault. fault ≡ WriteFault.Image → Writable 4096 (merged_texts settings.now canon.now) → ⊥) }
     ensures found { length (concat canon.now) ≤ 1073741824 → IfErr result (λ fault. (fault ≡ WriteFault.Memory) ⊎ (fault ≡ WriteFault.Write)) }
-    ensures memory { IfErr result (λ fault. fault ≡ WriteFault.Memory → Writable 4096 (merged_texts settings.now canon.now)) }
+    // Every answer but `Image` comes only where the file can be.
+    ensures writable { (result ≡ Err WriteFault.Image) ⊎ Writable 4096 (merged_texts settings.now canon.now) }
     ensures write { IfErr result (λ fault. fault ≡ WriteFault.Write → (W.is_broken out.new ≡ true)
         × AppendsPart (W.taken out.old) (W.taken out.new) (merged_file settings.now canon.now)) }
     ensures untouched { IfErr result (λ fault. fault ≢ WriteFault.Write → out.new ≡ out.old) }
 {
-    // The proof learns here that a GUID has 16 bytes.
+    // The proof learns here what holds of all settings.
     let _ = settings.guid();
     let Some(_) = file_len(canon.bytes_len()) else {
         return Err(WriteFault::Image);

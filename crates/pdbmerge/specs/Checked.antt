@@ -2,7 +2,7 @@
 use Rattle.std.specs.Prelude.{ℕ, ◌≡◌, List, ◌∷◌, ◌++◌, length, codes}
 use Rattle.std.specs.List.{concat}
 use Rattle.type_trees.specs.Depth.{HasLevels}
-use Rattle.pdb_merge.specs.Accepted.{IsAccepted, HasNoTypes}
+use Rattle.pdb_merge.specs.Accepted.{IsAccepted, HasPdbFault}
 use Rattle.pdbmerge.specs.Text.{word_line}
 use Rattle.pdbmerge.specs.declared.fault.RunFault.{RunFault}
 use Rattle.pdbmerge.specs.declared.fault.RunFault.TheVariants.{Pdb}
@@ -19,5 +19,5 @@ ShowsChecked file text =
 
 -- this is the first fault of the file on the way to its types
 abbrev pub HasNoAccepted : {A : Type 0} → List ℕ → RunFault A → Type 0
-HasNoAccepted file (Pdb fault) = HasNoTypes file fault
+HasNoAccepted file (Pdb fault) = HasPdbFault file fault
 HasNoAccepted file _ = ⊥

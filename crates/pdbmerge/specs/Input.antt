@@ -10,8 +10,8 @@ pub record GivesAll (old new : Option (List ℕ)) (limit : ℕ) (bytes : List �
   pub ended : IsAtEnd new
   pub short : length bytes ≤ limit
 
--- the source isn't read to its end: it is broken, or more bytes came than the limit allows, or there was no memory
+-- the source isn't read to its end: it is broken, or more bytes came than the limit allows
 abbrev pub IsNotRead : Option (List ℕ) → Option (List ℕ) → Bool → ℕ → ReadFault → Type 0
 IsNotRead old new broken limit Read = broken ≡ true
 IsNotRead old new broken limit TooLong = (bytes : List ℕ) × (limit < length bytes) × Consumes old new bytes
-IsNotRead old new broken limit Memory = Unit {0}
+IsNotRead old new broken limit Memory = ⊥

@@ -3,7 +3,9 @@ pub mod Fault
 pub mod Index
 pub mod Info
 pub mod Input
+pub mod Line
 pub mod Merge
+pub mod Program
 pub mod Record
 pub mod Records
 pub mod Run

@@ -1,25 +1,19 @@
 -- What the command `streams` prints.
-use Rattle.std.specs.Prelude.{ℕ, ◌≡◌, ◌+◌, ◌/◌, ◌%◌, ◌^◌, ◌==◌, ◌&&◌, nat_lt, Bool, count_by, List, [], ◌∷◌, ◌++◌, length, Some, codes}
+use Rattle.std.specs.Prelude.{ℕ, ◌≡◌, ◌+◌, count_by, List, [], ◌∷◌, ◌++◌, length, Some, codes}
 use Rattle.std.specs.List.{range_with_len, flat_map}
 use Rattle.std.specs.Fmt.{decimal}
 use Rattle.byte_fields.specs.Check.{first_failing}
 use Rattle.msf_blocks.specs.Superblock.{Fields}
 use Rattle.msf_blocks.specs.Directory.{Listed, bytes_of}
-use Rattle.msf_blocks.specs.FreeMap.{map_block_of, map_byte_of, blocks_per_map_block}
+use Rattle.msf_blocks.specs.FreeMap.{is_free}
 use Rattle.msf_blocks.specs.Layout.{LayoutView, HasLayout, layout_checks}
 use Rattle.pdbmerge.specs.Text.{word_line}
 use Rattle.pdbmerge.specs.declared.fault.RunFault.{RunFault}
 use Rattle.pdbmerge.specs.declared.fault.RunFault.TheVariants.{Msf}
 
--- the block is known to be free: the map block that speaks of it is in the file, and its bit there is 1
-abbrev pub is_known_free : List ℕ → Fields → ℕ → Bool
-is_known_free file fields block =
-    nat_lt (map_block_of fields block) fields.num_blocks
-    && map_byte_of file fields block / 2 ^ (block % blocks_per_map_block fields % 8) % 2 == 1
-
--- how many blocks of the file are known to be free
+-- how many blocks of the file are free
 unfoldable pub free_blocks : List ℕ → Fields → ℕ
-free_blocks file fields = count_by (is_known_free file fields) (range_with_len 0 fields.num_blocks)
+free_blocks file fields = count_by (is_free file fields) (range_with_len 0 fields.num_blocks)
 
 -- the lines on the container
 unfoldable pub container_lines : List ℕ → LayoutView → List ℕ

@@ -1,6 +1,6 @@
 //! The whole input of a command.
 
-ghost use Rattle.std.specs.Prelude.{◌≡◌, IfOk, IfErr};
+ghost use Rattle.std.specs.Prelude.{◌≡◌, ◌⊎◌, IfOk, IfErr};
 ghost use Rattle.pdbmerge.specs.Input.{GivesAll, IsNotRead};
 ghost use Rattle.pdbmerge.specs.declared.input.ReadFault.TheVariants.{Memory};
 
@@ -45,7 +45,7 @@ pub fn read_all<R: Source, A: Allocator>(
     limit: u32,
 ) -> Result<Vec<u8, A>, ReadFault>
     ensures value { IfOk result (λ file. GivesAll (R.left input.old) (R.left input.new) limit file.items) }
-    ensures first { IfErr result (IsNotRead (R.left input.old) (R.left input.new) (R.is_broken input.new) limit) }
+    ensures first { IfErr result (λ fault. IsNotRead (R.left input.old) (R.left input.new) (R.is_broken input.new) limit fault ⊎ (fault ≡ ReadFault.Memory)) }
 {
     let mut file = Vec::new(alloc);
     let mut piece = [0u8; PIECE];

@@ -1,6 +1,7 @@
 //! The words of the command line.
 
-ghost use Rattle.std.specs.Prelude.{◌≡◌, ◌≤◌, ◌⊎◌, []};
+ghost use Rattle.std.specs.Prelude.{◌≡◌, ◌⊎◌, []};
+ghost use Rattle.pdbmerge.specs.Line.{IsStatus};
 ghost use Rattle.pdbmerge.specs.declared.line.LineFault.TheVariants.{Refused, Memory};
 
 use crate::index::read_index;
@@ -125,14 +126,12 @@ impl From<clap::Error> for LineFault {
 }
 
 impl LineFault {
-    /// The exit status: 0 for a request for help, 1 for want of memory, 2 for all others.
+    /// The exit status: 0 for a request for help, 1 for out of memory, 2 for all others.
     pub fn status(&self) -> u8
-        ensures word { self.now ≡ LineFault.Word → result ≡ 2 }
-        ensures memory { self.now ≡ LineFault.Memory → result ≡ 1 }
-        ensures known { result ≤ 2 }
+        ensures { IsStatus self.now result }
     {
         match self {
-            LineFault::Refused(error) => { if error.exit_code() == 0 { 0 } else { 2 } }
+            LineFault::Refused(error) => { if error.use_stderr() { 2 } else { 0 } }
             LineFault::Word => 2,
             LineFault::Memory => 1,
         }

@@ -8,7 +8,8 @@
 //! exit status.
 #![tactic(auto)]
 
-ghost use Rattle.std.specs.Prelude.{◌≡◌};
+ghost use Rattle.std.specs.Prelude.{◌≡◌, IfErr};
+ghost use Rattle.pdbmerge.specs.Program.{IsOnce};
 ghost use Rattle.pdbmerge.specs.declared.ProgramFault.TheVariants.{Run};
 ghost use Rattle.pdbmerge.specs.declared.fault.RunFault.TheVariants.{Memory};
 
@@ -61,7 +62,7 @@ pub enum ProgramFault {
     /// This file of several, counted from 0, can't be opened.
     #[error("file {0}: 40 Open")]
     OpenOne(usize),
-    /// This file of several, counted from 0, wasn't read to its end.
+    /// This file of several, counted from 0, wasn't read to its end. Out of memory isn't inside.
     #[error("file {file}: {fault}")]
     ReadOne { file: usize, fault: ReadFault },
     /// The file that is to be written can't be created.
@@ -116,7 +117,9 @@ fn read_one<R: Files + AllocGlobal>(
     rt: &R,
     file: usize,
     name: &str,
-) -> Result<Vec<u8>, ProgramFault> {
+) -> Result<Vec<u8>, ProgramFault>
+    ensures { IfErr result IsOnce }
+{
     let Ok(mut input) = open(rt, name) else {
         return Err(ProgramFault::OpenOne(file));
     };

@@ -43,7 +43,9 @@ impl<'a, R: Files> NewFile<'a, R> {
     }
 
     /// Creates the file, where that wasn't tried yet.
-    fn create(&mut self) {
+    fn create(&mut self)
+        ensures { ⟦<NewFile<'a, R> as Sink>⟧.is_broken self.new ≡ ⟦<NewFile<'a, R> as Sink>⟧.is_broken self.old }
+    {
         if let State::Absent = &self.state {
             self.state = match fs::create(self.rt, self.path) {
                 Ok(file) => State::Created(Out::new(file)),

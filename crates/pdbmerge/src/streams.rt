@@ -4,9 +4,10 @@ ghost use Rattle.std.specs.Prelude.{◌≡◌, ◌⊎◌, ◌++◌, ◌*◌, ◌
 ghost use Rattle.std.specs.List.{flat_map};
 ghost use Rattle.msf_blocks.specs.Directory.{Listed};
 ghost use Rattle.msf_streams.specs.Stream.{blocks_in};
+ghost use Rattle.msf_blocks.specs.FreeMap.{is_free};
 ghost use Rattle.pdbmerge.specs.Input.{IsNotRead};
 ghost use Rattle.pdbmerge.specs.Run.{Prints, PrintsPart, GivesRefused, IfRead, IfOfFile};
-ghost use Rattle.pdbmerge.specs.Streams.{ShowsStreams, HasNoLayout, free_blocks, is_known_free, blank_number, container_lines, stream_line, stream_lines};
+ghost use Rattle.pdbmerge.specs.Streams.{ShowsStreams, HasNoLayout, free_blocks, blank_number, container_lines, stream_line, stream_lines};
 
 use crate::fault::RunFault;
 use crate::show::{Show, run};
@@ -15,10 +16,10 @@ use msf_blocks::{Layout, Sink, Source, Superblock, free_bit};
 use std::alloc::{AllocError, Allocator};
 
 /// Whether a block of the file is free, by the map in force.
-fn is_known_free(file: &[u8], superblock: &Superblock, block: u32) -> bool
+fn is_free(file: &[u8], superblock: &Superblock, block: u32) -> bool
     requires whole { superblock.now.num_blocks * superblock.now.block_size ≤ length file.now }
     requires below { block < superblock.now.num_blocks }
-    ensures { result ≡ is_known_free file.now superblock.now block }
+    ensures { result ≡ is_free file.now superblock.now block }
 {
     match free_bit(file, superblock, block) {
         Some(free) => free,
@@ -35,7 +36,7 @@ fn free_blocks(file: &[u8], superblock: &Superblock) -> u32
 {
     let mut free = 0;
     for block in 0..superblock.num_blocks() {
-        if is_known_free(file, superblock, block) {
+        if is_free(file, superblock, block) {
             free += 1;
         }
     }
@@ -88,7 +89,7 @@ fn push_blocks<A: Allocator, L: Allocator>(
 }
 
 /// Adds the line of the `s`-th stream, which has so many bytes.
-#[tactic(auto, unfolding(crate::specs::Streams::stream_line))]
+#[tactic(auto, using(msf_blocks::proofs::SizeLaws::some_bytes), unfolding(crate::specs::Streams::stream_line))]
 fn push_stream<A: Allocator, L: Allocator>(
     text: &mut String<A>,
     layout: &Layout<L>,

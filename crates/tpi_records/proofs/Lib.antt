@@ -1,4 +1,5 @@
 pub mod FramingLaws
+pub mod CutLaws
 pub mod TableLaws
 pub mod StreamLaws
 pub mod WrittenLaws

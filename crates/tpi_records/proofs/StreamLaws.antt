@@ -1,10 +1,10 @@
 -- What a stream with records can't be besides.
-use Rattle.std.proofs.Common.{◌≡◌, ◌⊎◌, ℕ, None, List, [], length, drop, refl, sym, ap, ◌∙◌, arith, inl, inr}
+use Rattle.std.proofs.Common.{◌≡◌, ◌⊎◌, ℕ, None, ◌≤◌, List, [], length, drop, refl, sym, ap, ◌∙◌, arith, inl, inr}
 use Rattle.std.specs.List.{concat, AllByRecursion}
-use Rattle.std.proofs.lemmas.List.{append-nil, take-append-drop, take_at, length-take, length-drop}
+use Rattle.std.proofs.lemmas.List.{append-nil, take-append-drop, take_at, length-append, length-take, length-drop}
 use Rattle.std.proofs.lemmas.Bool.Decides.{nat_tests}
 use Rattle.byte_fields.specs.Check.{first_failing}
-use Rattle.tpi_records.specs.Header.{Header, HasHeader, header_checks}
+use Rattle.tpi_records.specs.Header.{Header, HasTpiHeader, header_checks}
 use Rattle.tpi_records.specs.Records.{IsRecord, Begins, HasFlaw, IsMiscounted, HasRecords, IsFirstFault, framed_bytes}
 use Rattle.tpi_records.specs.declared.fault.TpiFault.{TpiFault}
 use Rattle.tpi_records.specs.declared.fault.TpiFault.TheVariants.{Memory}
@@ -13,13 +13,13 @@ use Rattle.tpi_records.proofs.FramingLaws.{one_framing, framed_unflawed}
 -- ---- headers
 
 -- a stream that has a header passes its checks
-header_checks-none : (stream : List ℕ) (header : Header) → HasHeader stream header → first_failing (header_checks stream) ≡ None
+header_checks-none : (stream : List ℕ) (header : Header) → HasTpiHeader stream header → first_failing (header_checks stream) ≡ None
 unfolding header_checks
 header_checks-none stream header has = grind (arith, nat_tests)
 
 -- ---- the records that a header frames
 
-pub framed-records : (stream : List ℕ) (header : Header) (records : List (List ℕ)) → HasHeader stream header → HasRecords stream records → framed_bytes stream header ≡ concat records
+pub framed-records : (stream : List ℕ) (header : Header) (records : List (List ℕ)) → HasTpiHeader stream header → HasRecords stream records → framed_bytes stream header ≡ concat records
 framed-records stream header records has h =
     let size : length (concat records) ≡ header.record_bytes = omega (arith, has.bytes, h.header.bytes) in
     rw h.parts (take_at (concat records) h.rest header.record_bytes size)
@@ -28,6 +28,10 @@ framed-records stream header records has h =
 pub one_records : (stream : List ℕ) (rs ss : List (List ℕ)) → HasRecords stream rs → HasRecords stream ss → rs ≡ ss
 one_records stream rs ss has_r has_s =
     one_framing rs ss has_r.each has_s.each (sym (framed-records stream _ rs has_r.header has_r) ∙ framed-records stream _ ss has_r.header has_s)
+
+-- the records of a stream lie within it
+pub has_few : (stream : List ℕ) (records : List (List ℕ)) → HasRecords stream records → length (concat records) ≤ length stream
+has_few stream records has = omega (arith, ap length has.parts, length-append (concat records) has.rest, length-drop 56 stream)
 
 -- a stream that has records has no fault
 pub no_fault : (stream : List ℕ) (records : List (List ℕ)) (fault : TpiFault) → HasRecords stream records → IsFirstFault stream fault → ⊥
@@ -41,7 +45,7 @@ no_fault stream records fault has (inr (header, is, inr (found, begins, counted,
 -- ---- what was found
 
 -- records in the bytes that a header frames, as many as it says, are the stream's
-pub counted_records : (stream bytes : List ℕ) (header : Header) (records : List (List ℕ)) → bytes ≡ framed_bytes stream header → HasHeader stream header → Begins bytes records []
+pub counted_records : (stream bytes : List ℕ) (header : Header) (records : List (List ℕ)) → bytes ≡ framed_bytes stream header → HasTpiHeader stream header → Begins bytes records []
     → length records ≡ header.count → HasRecords stream records
 counted_records stream bytes header records is has begins count =
     let all : framed_bytes stream header ≡ concat records = sym is ∙ begins.parts ∙ append-nil (concat records) in
@@ -55,7 +59,7 @@ counted_records stream bytes header records is has begins count =
     }
 
 -- a fault of the bytes that a header frames is the stream's
-pub framed_fault : (stream bytes : List ℕ) (header : Header) (said : ℕ) (fault : TpiFault) → bytes ≡ framed_bytes stream header → HasHeader stream header → said ≡ header.count
+pub framed_fault : (stream bytes : List ℕ) (header : Header) (said : ℕ) (fault : TpiFault) → bytes ≡ framed_bytes stream header → HasTpiHeader stream header → said ≡ header.count
     → HasFlaw bytes fault ⊎ IsMiscounted bytes said fault → IsFirstFault stream fault
 framed_fault stream bytes header said fault is has count flaw = inr (header, has, rw (is, count) at flaw)
 

@@ -1,11 +1,10 @@
 -- A table of the starts of records.
-use Rattle.std.proofs.Common.{◌≡◌, ℕ, zero, suc, ◌+◌, ◌*◌, ◌≤◌, List, [], ◌∷◌, ◌++◌, length, take, drop, Some, refl, sym, ap, ◌∙◌, arith}
+use Rattle.std.proofs.Common.{◌≡◌, ℕ, zero, suc, ◌+◌, List, [], ◌∷◌, ◌++◌, take, drop, Some, refl, ap, ◌∙◌}
 use Rattle.std.specs.List.{slice_get, AllByRecursion}
-use Rattle.std.proofs.lemmas.List.{map-append, length_push}
-use Rattle.std.proofs.lemmas.List.Elements.{All-push}
+use Rattle.std.proofs.lemmas.List.{map-append}
 use Rattle.std.proofs.lemmas.Option.{slice_get-map}
 use Rattle.byte_fields.specs.Number.{number_at}
-use Rattle.tpi_records.specs.Records.{IsRecord, Begins, IsTable, record_at, records_at}
+use Rattle.tpi_records.specs.Records.{IsRecord, Begins, record_at, records_at}
 use Rattle.tpi_records.proofs.FramingLaws.{Begins-more}
 
 -- ---- a table that grows
@@ -23,15 +22,6 @@ pub Begins-push : (bytes starts : List ℕ) (start whole : ℕ) → whole ≡ nu
     → Begins bytes (records_at bytes (starts ++ start ∷ [])) (drop (start + whole) bytes)
 Begins-push bytes starts start whole field this so_far = rw (records_at-push bytes starts start whole field) (Begins-more bytes (records_at bytes starts) start whole so_far this)
 
-pub IsTable-push : (bytes starts : List ℕ) (start whole : ℕ) → IsTable bytes starts → Begins bytes (records_at bytes (starts ++ start ∷ [])) (drop (start + whole) bytes) → whole ≡ number_at 2 bytes start + 2 → start + whole ≤ length bytes
-    → 4 * (length starts + 1) ≤ length bytes → IsTable bytes (starts ++ start ∷ [])
-IsTable-push bytes starts start whole so_far begins field inside few = record {
-  inside = All-push (λ start. start + number_at 2 bytes start + 2 ≤ length bytes) starts start so_far.inside (omega arith);
-  each = begins.each;
-  few = omega (arith, length_push starts start);
-  short = so_far.short;
-}
-
 -- ---- what stands in a table
 
 pub record_there : (bytes starts : List ℕ) (position start : ℕ) → slice_get starts position ≡ Some start → slice_get (records_at bytes starts) position ≡ Some (record_at bytes start)
@@ -45,10 +35,3 @@ AllByRecursion-slice_get P (y ∷ ys) (suc position) x each there = AllByRecursi
 pub record_is : (bytes starts : List ℕ) (position start : ℕ) → AllByRecursion IsRecord (records_at bytes starts) → slice_get starts position ≡ Some start → IsRecord (record_at bytes start)
 record_is bytes starts position start each there =
     AllByRecursion-slice_get IsRecord (records_at bytes starts) position (record_at bytes start) each (record_there bytes starts position start there)
-
--- ---- what is left of a list
-
-pub drop_first : (xs : List (List ℕ)) (i : ℕ) (r : List ℕ) → Some r ≡ slice_get xs i → drop i xs ≡ r ∷ drop (i + 1) xs
-drop_first [] i r there = absurd cc
-drop_first (x ∷ xs) zero r there = let same : r ≡ x = cc in ap (λ (y : List ℕ). y ∷ xs) (sym same)
-drop_first (x ∷ xs) (suc i) r there = let one : suc i + 1 ≡ suc (i + 1) = omega arith in rw one (drop_first xs i r there)

@@ -11,7 +11,7 @@ pub record Header : Type 0 where
   pub record_bytes : ℕ
 
 -- the stream begins with a header that says this
-pub record HasHeader (stream : List ℕ) (header : Header) : Type 0 where
+pub record HasTpiHeader (stream : List ℕ) (header : Header) : Type 0 where
   pub long : 56 ≤ length stream
   pub version : number_at 4 stream 0 ≡ 20040203
   pub header_size : number_at 4 stream 4 ≡ 56

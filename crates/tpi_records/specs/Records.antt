@@ -1,21 +1,22 @@
 -- The records of a TPI stream, one after the other ("The PDB TPI and IPI Streams", "Type Records").
-use Rattle.std.specs.Prelude.{map, All, ◌*◌, ℕ, ◌≡◌, ◌≢◌, ◌+◌, ◌%◌, ◌^◌, ◌<◌, ◌≤◌, ◌⊎◌, Some, List, [], ◌++◌, length, take, drop}
+use Rattle.std.specs.Prelude.{map, All, ℕ, zero, suc, ◌≡◌, ◌≢◌, ◌+◌, ◌%◌, ◌^◌, ◌<◌, ◌≤◌, ◌⊎◌, Some, List, [], ◌∷◌, ◌++◌, length, take, drop}
 use Rattle.std.specs.List.{concat, AllByRecursion}
 use Rattle.byte_fields.specs.Number.{number_at}
 use Rattle.byte_fields.specs.Check.{first_failing}
-use Rattle.tpi_records.specs.Header.{Header, HasHeader, header_checks}
+use Rattle.tpi_records.specs.Header.{Header, HasTpiHeader, header_checks}
 use Rattle.tpi_records.specs.declared.fault.TpiFault.{TpiFault}
 use Rattle.tpi_records.specs.declared.fault.TpiFault.TheVariants.{RecordShort, RecordLen, RecordCount}
 
--- a record: at least four bytes, a whole number of words, and its first number is its length without that number
+-- a record: 4 to 65,536 bytes, a multiple of four, and its first number is its length without that number
 pub record IsRecord (r : List ℕ) : Type 0 where
   pub long : 4 ≤ length r
+  pub short : length r ≤ 65536
   pub padded : length r % 4 ≡ 0
   pub len : number_at 2 r 0 + 2 ≡ length r
 
 -- the stream is a header, the concatenation of these records, and any rest; the header counts them and their bytes
 pub record HasRecords (stream : List ℕ) (records : List (List ℕ)) : Type 0 where
-  pub header : HasHeader stream (record { count = length records; record_bytes = length (concat records) })
+  pub header : HasTpiHeader stream (record { count = length records; record_bytes = length (concat records) })
   pub rest : List ℕ
   pub parts : drop 56 stream ≡ concat records ++ rest
   pub each : AllByRecursion IsRecord records
@@ -57,7 +58,7 @@ framed_bytes stream header = take header.record_bytes (drop 56 stream)
 abbrev pub IsFirstFault : List ℕ → TpiFault → Type 0
 IsFirstFault stream fault =
     (first_failing (header_checks stream) ≡ Some fault)
-    ⊎ ((header : Header) × HasHeader stream header × (HasFlaw (framed_bytes stream header) fault ⊎ IsMiscounted (framed_bytes stream header) header.count fault))
+    ⊎ ((header : Header) × HasTpiHeader stream header × (HasFlaw (framed_bytes stream header) fault ⊎ IsMiscounted (framed_bytes stream header) header.count fault))
 
 -- the record that begins at a start in these bytes
 unfoldable pub record_at : List ℕ → ℕ → List ℕ
@@ -67,9 +68,23 @@ record_at bytes start = take (number_at 2 bytes start + 2) (drop start bytes)
 abbrev pub records_at : List ℕ → List ℕ → List (List ℕ)
 records_at bytes starts = map (record_at bytes) starts
 
--- a table of starts: at each a record begins that lies within the bytes, and there are no more of them than words
-pub record IsTable (bytes starts : List ℕ) : Type 0 where
-  pub inside : All (λ start. start + number_at 2 bytes start + 2 ≤ length bytes) starts
-  pub each : AllByRecursion IsRecord (records_at bytes starts)
-  pub few : 4 * length starts ≤ length bytes
+-- these bytes cut into records, at most so many of them
+unfoldable pub cut : ℕ → List ℕ → List (List ℕ)
+cut zero bytes = []
+cut (suc n) [] = []
+cut (suc n) (byte ∷ bytes) = record_at (byte ∷ bytes) 0 ∷ cut n (drop (number_at 2 (byte ∷ bytes) 0 + 2) (byte ∷ bytes))
+
+-- these bytes cut into records: each is as long as the number with which it begins says
+unfoldable pub records_in : List ℕ → List (List ℕ)
+records_in bytes = cut (length bytes) bytes
+
+-- these bytes are records, one after the other, and few enough for a number of four bytes
+pub record IsFramed (bytes : List ℕ) : Type 0 where
+  pub each : AllByRecursion IsRecord (records_in bytes)
+  pub whole : concat (records_in bytes) ≡ bytes
   pub short : length bytes < 2 ^ 32
+
+-- these are the starts of the records of these bytes, in order, and each record lies within the bytes
+pub record AreStarts (bytes starts : List ℕ) : Type 0 where
+  pub inside : All (λ start. start + number_at 2 bytes start + 2 ≤ length bytes) starts
+  pub are : records_in bytes ≡ records_at bytes starts

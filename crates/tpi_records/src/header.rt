@@ -2,7 +2,7 @@
 
 ghost use Rattle.std.specs.Prelude.{◌≡◌, ◌≢◌, IsOk, IfOk, IfErr};
 ghost use Rattle.byte_fields.specs.Check.{Makes};
-ghost use Rattle.tpi_records.specs.Header.{Header, HasHeader, header_checks};
+ghost use Rattle.tpi_records.specs.Header.{Header, HasTpiHeader, header_checks};
 
 use crate::fault::TpiFault;
 use byte_fields::u32_at;
@@ -42,9 +42,9 @@ impl TpiHeader {
     /// takes no memory. ("The PDB TPI and IPI Streams", "Stream Header".)
     #[tactic(auto, unfolding(crate::specs::Header::header_checks))]
     pub fn read(stream: &[u8]) -> Result<TpiHeader, TpiFault>
-        ensures value { IfOk result (HasHeader stream.now) }
+        ensures value { IfOk result (HasTpiHeader stream.now) }
         // Nothing that has a header is refused.
-        ensures found { (header : Header) → HasHeader stream.now header → IsOk result }
+        ensures found { (header : Header) → HasTpiHeader stream.now header → IsOk result }
         ensures first { Makes result (header_checks stream.now) }
         ensures checked { IfErr result (λ fault. fault ≢ TpiFault.Memory) }
     {

@@ -1,55 +1,67 @@
 //! Going over the records of a TPI stream.
 
-ghost use Rattle.std.specs.Prelude.{◌≡◌};
+ghost use Rattle.std.specs.Prelude.{◌≡◌, ◌∷◌, ◌<◌, length};
 ghost use Rattle.std.specs.Iterator.{YieldsFirstRef, item_count};
+ghost use Rattle.tpi_records.specs.Records.{IsFramed, records_in};
 
-use crate::records::Records;
-use std::alloc::{Allocator, Global};
+use byte_fields::u16_at;
 use std::marker::Model;
 
 /// The records of a TPI stream that are left, in order.
 ///
-/// Made by [`Records::iter`]. The records are lent from the stream, and may outlive this.
+/// Made by [`Records::iter`](crate::Records::iter). It holds the bytes that are left, and the
+/// records are lent from the stream.
 #[derive(Drop)]
-pub struct Iter<'r, 'a, A: Allocator = Global> {
-    records: &'r Records<'a, A>,
-    position: usize,
+pub struct Iter<'a> {
+    left: &'a [u8],
 }
 
-impl<'r, 'a, A: Allocator> Model for Iter<'r, 'a, A> {
-    ghost use Rattle.std.specs.Prelude.{List, ℕ, drop};
+impl<'a> Model for Iter<'a> {
+    ghost use Rattle.std.specs.Prelude.{List, ℕ};
+    ghost use Rattle.tpi_records.specs.Records.{IsFramed, records_in};
 
     ghost Value = { List (List ℕ) };
 
-    ghost view = { λ i. drop i.position i.records.now };
+    ghost view = { λ i. records_in i.left.now };
+
+    ghost invariant = { λ i. IsFramed i.left.now };
 }
 
-impl<'r, 'a, A: Allocator> Iter<'r, 'a, A> {
-    /// All the records.
-    pub(crate) fn new(records: &'r Records<'a, A>) -> Iter<'r, 'a, A>
-        ensures { result ≡ records.now }
+impl<'a> Iter<'a> {
+    /// All the records of these bytes.
+    pub(crate) fn over(bytes: &'a [u8]) -> Iter<'a>
+        requires { IsFramed bytes.now }
+        ensures { result ≡ records_in bytes.now }
     {
-        Iter {
-            records,
-            position: 0,
-        }
+        Iter { left: bytes }
     }
 }
 
-impl<'r, 'a, A: Allocator> Iterator for Iter<'r, 'a, A> {
+/// The record at the front of bytes that are records, and the bytes after it.
+fn split_record(bytes: &[u8]) -> (&[u8], &[u8])
+    requires framed { IsFramed bytes.now }
+    requires some { 0 < length bytes.now }
+    ensures records { records_in bytes.now ≡ result.0.now ∷ records_in result.1.now }
+    ensures framed { IsFramed result.1.now }
+{
+    let len = usize::from(u16_at(bytes, 0)) + 2;
+    bytes.split_at(len)
+}
+
+impl<'a> Iterator for Iter<'a> {
     type Item = &'a [u8];
 
     ghost next_gives = { YieldsFirstRef (λ s. s) };
 
     ghost remaining = { item_count (λ s. s) };
 
-    #[tactic(auto, using(crate::proofs::TableLaws::drop_first, std::proofs::lemmas::List::drop_all))]
+    #[tactic(auto, using(crate::proofs::CutLaws::none_in))]
     fn next(&mut self) -> Option<&'a [u8]> {
-        if self.records.len() <= self.position {
+        if self.left.is_empty() {
             return None;
         }
-        let record = self.records.get(self.position)?;
-        self.position += 1;
+        let (record, others) = split_record(self.left);
+        self.left = others;
         Some(record)
     }
 }

@@ -3,8 +3,8 @@
 ghost use Rattle.std.specs.Prelude.{◌≡◌, ◌⊎◌, ◌↔◌, ◌+◌, ◌*◌, ◌^◌, ◌<◌, ◌≤◌, IsTrue, option_map, slice_get, length, take, drop, [], List, ℕ, IfOk, IfErr, IfSome};
 ghost use Rattle.std.specs.List.{AllByRecursion, concat};
 ghost use Rattle.byte_fields.specs.Number.{number_at};
-ghost use Rattle.tpi_records.specs.Header.{HasHeader};
-ghost use Rattle.tpi_records.specs.Records.{IsRecord, IsFlaw, IsTable, Begins, HasFlaw, IsMiscounted, IsFirstFault, HasRecords, record_at, records_at, framed_bytes};
+ghost use Rattle.tpi_records.specs.Header.{HasTpiHeader};
+ghost use Rattle.tpi_records.specs.Records.{IsRecord, IsFlaw, IsFramed, AreStarts, Begins, HasFlaw, IsMiscounted, IsFirstFault, HasRecords, record_at, records_in, framed_bytes};
 
 use crate::fault::TpiFault;
 use crate::header::{BEGIN, LENGTH, TpiHeader};
@@ -49,7 +49,7 @@ fn record_at(bytes: &[u8], start: usize) -> &[u8]
 
 /// The bytes that the header frames: those of the records.
 fn framed(stream: &[u8], header: TpiHeader) -> &[u8]
-    requires { HasHeader stream.now header }
+    requires { HasTpiHeader stream.now header }
     ensures value { result.now ≡ framed_bytes stream.now header }
     ensures short { length result.now < 2 ^ 32 }
 {
@@ -91,8 +91,9 @@ fn check(stream: &[u8]) -> Result<(&[u8], u32), TpiFault>
 /// Where each record of these bytes begins. There are `count` of them.
 fn record_starts<A: Allocator>(alloc: A, bytes: &[u8], count: u32) -> Result<Vec<u32, A>, TpiFault>
     requires { length bytes.now < 2 ^ 32 }
-    ensures table { IfOk result (λ starts. IsTable bytes.now starts.items) }
-    ensures value { IfOk result (λ starts. Begins bytes.now (records_at bytes.now starts.items) []) }
+    ensures framed { IfOk result (λ _. IsFramed bytes.now) }
+    ensures table { IfOk result (λ starts. AreStarts bytes.now starts.items) }
+    ensures value { IfOk result (λ _. Begins bytes.now (records_in bytes.now) []) }
     ensures first { IfErr result (λ fault. HasFlaw bytes.now fault ⊎ (fault ≡ TpiFault.Memory)) }
 {
     let mut starts = Vec::with_capacity(alloc, count as usize)?;
@@ -118,15 +119,14 @@ pub struct Records<'a, A: Allocator = Global> {
 }
 
 impl<'a, A: Allocator> Model for Records<'a, A> {
-    ghost use Rattle.std.specs.Prelude.{List, ℕ, ◌≡◌};
-    ghost use Rattle.std.specs.List.{concat};
-    ghost use Rattle.tpi_records.specs.Records.{IsTable, records_at};
+    ghost use Rattle.std.specs.Prelude.{List, ℕ};
+    ghost use Rattle.tpi_records.specs.Records.{IsFramed, AreStarts, records_in};
 
     ghost Value = { List (List ℕ) };
 
-    ghost view = { λ r. records_at r.bytes.now r.starts.items };
+    ghost view = { λ r. records_in r.bytes.now };
 
-    ghost invariant = { λ r. IsTable r.bytes.now r.starts.items × (concat (records_at r.bytes.now r.starts.items) ≡ r.bytes.now) };
+    ghost invariant = { λ r. IsFramed r.bytes.now × AreStarts r.bytes.now r.starts.items };
 }
 
 impl<'a, A: Allocator + Copy> Records<'a, A> {
@@ -191,9 +191,9 @@ impl<'a, A: Allocator> Records<'a, A> {
     /// The records in order, each whole.
     ///
     /// It takes no memory.
-    pub fn iter(&self) -> Iter<'_, 'a, A>
+    pub fn iter(&self) -> Iter<'a>
         ensures { result ≡ self.now }
     {
-        Iter::new(self)
+        Iter::over(self.bytes)
     }
 }

@@ -12,21 +12,21 @@ use Rattle.topological_order.proofs.WalkLaws.{none_in}
 use Rattle.tpi_records.specs.Records.{IsRecord}
 use Rattle.cv_leaves.specs.HasPlaces.{IsChecked}
 use Rattle.text_set.specs.TextSet.{Holds}
-use Rattle.type_trees.specs.References.{IsWhole, references, blanked, filled}
+use Rattle.cv_leaves.specs.References.{references, blanked, filled}
 use Rattle.type_trees.specs.Tree.{Tree, Branches, tree, no_branch, simple, branch, nothing, Stands, AreBranches, IsType, IsRanked, NamesLower}
 use Rattle.type_trees.specs.Named.{graph_of}
 use Rattle.type_trees.specs.Canon.{weight}
-use Rattle.type_trees.specs.Table.{AreBytes, IsTable, IsUnion, AreNumbered, EachNamed, renumber, renumbered}
+use Rattle.byte_fields.specs.Bytes.{AreBytes}
+use Rattle.type_trees.specs.Table.{IsTable, IsUnion, AreNumbered, EachNamed, renumber, renumbered}
 use Rattle.type_trees.specs.Checked.{AreTypes}
 use Rattle.type_trees.specs.Merge.{Adds}
 use Rattle.type_trees.specs.declared.fault.JoinFault.TheVariants as JoinFault
 use Rattle.text_set.proofs.TextSetLaws.{four_each}
-use Rattle.type_trees.proofs.LeafLaws.{fill-kept, length-fill, take-fill, refs-fill, length-refs}
-use Rattle.type_trees.proofs.ReadLaws.{IsRecord-same}
+use Rattle.cv_leaves.proofs.FilledLaws.{filled_checked, filled_framed, filled_len, filled_read}
 use Rattle.type_trees.proofs.TreeLaws.{one, at_position, tree_there}
 use Rattle.type_trees.proofs.NamedLaws.{many_nodes, concat_push}
 use Rattle.type_trees.proofs.OrderLaws.{NamesDone, next_in_order, order_weighs}
-use Rattle.type_trees.proofs.TableLaws.{stands_still, renumbered_stands, length-renumber, renumber-none, renumber-simple, renumber-named}
+use Rattle.type_trees.proofs.TableLaws.{stands_still, renumbered_stands, renumber-each, renumber-none, renumber-simple, renumber-named}
 use Rattle.type_trees.proofs.PushLaws.{table_grows}
 use Rattle.type_trees.proofs.NextLaws.{in_range, trees_of_table, table_weight, apart_of_table}
 
@@ -38,18 +38,17 @@ padded_record r x h same = ap (λ (n : ℕ). n % 4) same ∙ h.padded
 pub long_record : (r x : List ℕ) → IsRecord r → length x ≡ length r → 4 ≤ length x
 long_record r x h same = omega (arith, h.long, same)
 
-pub renumbered_long : (f : ℕ → ℕ) (r : List ℕ) → IsRecord r → IsChecked r → length (renumbered f r) ≡ length r
+pub renumbered_long : (f : ℕ → ℕ) (r : List ℕ) → IsChecked r → length (renumbered f r) ≡ length r
 unfolding renumbered
-renumbered_long f r framed checked = length-fill r (renumber f (references r)) (checked, framed.long)
+renumbered_long f r checked = filled_len r (renumber f (references r)) checked
 
-renumbered_framed : (f : ℕ → ℕ) (r : List ℕ) → IsRecord r → IsWhole r → IsRecord (renumbered f r)
+renumbered_framed : (f : ℕ → ℕ) (r : List ℕ) → IsRecord r → IsChecked r → IsRecord (renumbered f r)
 unfolding renumbered
-renumbered_framed f r framed whole =
-    IsRecord-same r (filled r (renumber f (references r))) (sym (length-fill r (renumber f (references r)) whole)) (sym (take-fill r (renumber f (references r)) whole)) framed
+renumbered_framed f r framed checked = filled_framed r (renumber f (references r)) checked framed
 
-renumbered_whole : (f : ℕ → ℕ) (r : List ℕ) → IsWhole r → IsWhole (renumbered f r)
+renumbered_checked : (f : ℕ → ℕ) (r : List ℕ) → IsChecked r → IsChecked (renumbered f r)
 unfolding renumbered
-renumbered_whole f r whole = (fill-kept r (renumber f (references r)) whole).0
+renumbered_checked f r checked = filled_checked r (renumber f (references r)) checked
 
 -- n is simple, or f gives it a position of the table
 abbrev pub HasPosition : (List (List ℕ)) → (ℕ → ℕ) → ℕ → Type 0
@@ -74,11 +73,9 @@ unfolding renumbered
 renumbered-is f r = refl
 
 -- the references of a renumbered record name records of the table
-renumbered_names : (after : List (List ℕ)) (f : ℕ → ℕ) (r : List ℕ) → IsWhole r → length after ≤ 4294963200 → AllByRecursion (HasPosition after f) (references r) → references (renumbered f r) ≡ renumber f (references r)
-renumbered_names after f r whole few h =
-    let many = length-renumber f (references r) in
-    let each = length-refs r in
-    ap references (renumbered-is f r) ∙ refs-fill r (renumber f (references r)) whole (omega (arith, many, each)) (numbers_small after f (references r) few h)
+renumbered_names : (after : List (List ℕ)) (f : ℕ → ℕ) (r : List ℕ) → IsChecked r → length after ≤ 4294963200 → AllByRecursion (HasPosition after f) (references r) → references (renumbered f r) ≡ renumber f (references r)
+renumbered_names after f r checked few h =
+    ap references (renumbered-is f r) ∙ filled_read r (renumber f (references r)) checked (renumber-each f r) (numbers_small after f (references r) few h)
 
 -- ---- The first records of a longer table
 
@@ -131,20 +128,20 @@ done_stands records before after grown f done (n ∷ ns) adds few still names = 
 )
 
 -- the tree of a record stands where its renumbered record stands in the grown table
-row_stands : (records before after grown : List (List ℕ)) (f : ℕ → ℕ) (done : ℕ → Type 0) (i j : ℕ) (t : Tree) → IsWhole (get_or records i []) → Adds records before after f done → length after ≤ 4294963200
+row_stands : (records before after grown : List (List ℕ)) (f : ℕ → ℕ) (done : ℕ → Type 0) (i j : ℕ) (t : Tree) → IsChecked (get_or records i []) → Adds records before after f done → length after ≤ 4294963200
     → ((k : ℕ) (u : Tree) → Stands after k u → Stands grown k u) → NamesDone done (references (get_or records i [])) → j < length grown → get_or grown j [] ≡ renumbered f (get_or records i []) → Stands records i t → Stands grown j t
-row_stands records before after grown f done i j t whole adds few still names inside at stands =
-    renumbered_stands records grown f i j t whole inside (at ∙ renumbered-is f (get_or records i [])) (done_stands records before after grown f done (references (get_or records i [])) adds few still names) stands
+row_stands records before after grown f done i j t checked adds few still names inside at stands =
+    renumbered_stands records grown f i j t checked inside (at ∙ renumbered-is f (get_or records i [])) (done_stands records before after grown f done (references (get_or records i [])) adds few still names) stands
 
 -- the table is still a table after it has grown
-grown_table : (records before after grown : List (List ℕ)) (f : ℕ → ℕ) (done : ℕ → Type 0) (r : List ℕ) → Adds records before after f done → length after ≤ 4294963200 → IsRecord r → IsWhole r → AreBytes (renumbered f r)
+grown_table : (records before after grown : List (List ℕ)) (f : ℕ → ℕ) (done : ℕ → Type 0) (r : List ℕ) → Adds records before after f done → length after ≤ 4294963200 → IsRecord r → IsChecked r → AreBytes (renumbered f r)
     → NamesDone done (references r) → Holds after grown (renumbered f r) → IsTable grown
-grown_table records before after grown f done r adds few framed whole bytes names holds = elim holds [
+grown_table records before after grown f done r adds few framed checked bytes names holds = elim holds [
   | inl same ↦ rw same adds.table
   | inr more ↦
       let placed = done_placed records before after f done (references r) adds names in
-      rw more.0 (table_grows after (renumbered f r) adds.table (renumbered_framed f r framed whole) (renumbered_whole f r whole) bytes
-      (rw (renumbered_names after f r whole few placed) (numbers_in after f (references r) placed)) more.1)
+      rw more.0 (table_grows after (renumbered f r) adds.table (renumbered_framed f r framed checked) (renumbered_checked f r checked) bytes
+      (rw (renumbered_names after f r checked few placed) (numbers_in after f (references r) placed)) more.1)
 ]
 
 -- each tree still stands after the table has grown
@@ -155,16 +152,16 @@ grown_long : (after grown : List (List ℕ)) (y : List ℕ) → Holds after grow
 grown_long after grown y holds = elim holds [ inl same ↦ rw same (omega arith) | inr more ↦ rw more.0 (omega (arith, length-append after (y ∷ []))) ]
 
 -- one more record is done, if all that it names was done before
-pub adds_more : (records before after grown : List (List ℕ)) (f g : ℕ → ℕ) (done more : ℕ → Type 0) (i j : ℕ) → Adds records before after f done → length after ≤ 4294963200 → IsRecord (get_or records i []) → IsWhole (get_or records i [])
+pub adds_more : (records before after grown : List (List ℕ)) (f g : ℕ → ℕ) (done more : ℕ → Type 0) (i j : ℕ) → Adds records before after f done → length after ≤ 4294963200 → IsRecord (get_or records i []) → IsChecked (get_or records i [])
     → ((t : Tree) × Stands records i t) → NamesDone done (references (get_or records i [])) → AreBytes (renumbered f (get_or records i [])) → Holds after grown (renumbered f (get_or records i []))
     → j < length grown → get_or grown j [] ≡ renumbered f (get_or records i []) → ((k : ℕ) → done k → g k ≡ f k) → g i ≡ j → ((k : ℕ) → more k → done k ⊎ (k ≡ i)) → Adds records before grown g more
-adds_more records before after grown f g done more i j adds few framed whole there names bytes holds inside at kept put either =
+adds_more records before after grown f g done more i j adds few framed checked there names bytes holds inside at kept put either =
     let still = still_stands after grown (renumbered f (get_or records i [])) holds in
     let long = grown_long after grown (renumbered f (get_or records i [])) holds in
     let row : (p : ℕ) (t : Tree) → p < length grown → get_or grown p [] ≡ renumbered f (get_or records i []) → Stands records i t → Stands grown p t = λ p t p_in p_at stands.
-    row_stands records before after grown f done i p t whole adds few still names p_in p_at stands in
+    row_stands records before after grown f done i p t checked adds few still names p_in p_at stands in
     record {
-      table = grown_table records before after grown f done (get_or records i []) adds few framed whole bytes names holds;
+      table = grown_table records before after grown f done (get_or records i []) adds few framed checked bytes names holds;
       inside = λ k m. elim (either k m) [
         | inl old ↦ rw (kept k old) (omega (arith, adds.inside k old, long))
         | inr new ↦ rw (new, put) inside
@@ -292,12 +289,12 @@ adding_numbered records left others before after positions p a split =
     numbered (n ∷ ns) names = (elim names.0 [ inl low ↦ inl low | inr on ↦ inr (inside (n - 0x1000) on, omega (arith, a.adds.inside (n - 0x1000) on, small)) ], numbered ns names.1)
 
 -- one more record is added
-pub adding_more : (records : List (List ℕ)) (left others : List ℕ) (before after grown : List (List ℕ)) (positions : List ℕ) (p last : ℕ) → AreTypes records → AllByRecursion IsRecord records → IsAdding records left before after positions → left ≡ p ∷ others
+pub adding_more : (records : List (List ℕ)) (left others : List ℕ) (before after grown : List (List ℕ)) (positions : List ℕ) (p last : ℕ) → AreTypes records → IsAdding records left before after positions → left ≡ p ∷ others
     → AreBytes (renumbered (λ q. get_or positions q 0) (get_or records p [])) → Holds after grown (renumbered (λ q. get_or positions q 0) (get_or records p []))
     → last < length grown → get_or grown last [] ≡ renumbered (λ q. get_or positions q 0) (get_or records p []) → IsAdding records others before grown (set positions p last)
-adding_more records left others before after grown positions p last types framed a split bytes holds inside at =
+adding_more records left others before after grown positions p last types a split bytes holds inside at =
     let next = next_in_order records a.done left others (a.done ++ left) p a.order refl split in
-    let frame : IsRecord (get_or records p []) = at_position IsRecord records p framed next.0 in
+    let frame : IsRecord (get_or records p []) = at_position IsRecord records p types.framed next.0 in
     let checked : IsChecked (get_or records p []) = at_position IsChecked records p types.checked next.0 in
     let few = adding_few records left others before after positions p a split in
     record {
@@ -305,11 +302,11 @@ adding_more records left others before after grown positions p last types framed
       order = subst (IsOrder (graph_of records)) (all ∙ sym (append_assoc a.done (p ∷ []) others)) a.order;
       many = length-set positions p last ∙ a.many;
       adds = adds_more records before after grown (λ q. get_or positions q 0) (λ q. get_or (set positions p last) q 0) (Contains a.done) (Contains (a.done ++ p ∷ [])) p last a.adds
-          (omega (arith, table_few after a.adds.table (omega (arith, few)))) frame (checked, frame.long) (tree_there records types.ranked.0 p types.ranked.1 next.0) next.1 bytes holds inside at
+          (omega (arith, table_few after a.adds.table (omega (arith, few)))) frame checked (tree_there records types.ranked.0 p types.ranked.1 next.0) next.1 bytes holds inside at
           (λ k old. get_or-set_other positions p k last 0 (apart next.2 k old))
           (get_or-set_same positions p last 0 (omega (arith, next.0, a.many)))
           (λ k new. elim (Contains-push_cases a.done p k new) [ inl old ↦ inl old | inr same ↦ inr (sym same) ]);
-      few = omega (arith, few, holds_short after grown (renumbered (λ q. get_or positions q 0) (get_or records p [])) holds, renumbered_long (λ q. get_or positions q 0) (get_or records p []) frame checked);
+      few = omega (arith, few, holds_short after grown (renumbered (λ q. get_or positions q 0) (get_or records p [])) holds, renumbered_long (λ q. get_or positions q 0) (get_or records p []) checked);
     }
   where
     all : a.done ++ left ≡ a.done ++ p ∷ others

@@ -1,14 +1,13 @@
 -- A canonical list is a table.
-use Rattle.std.proofs.Common.{◌≡◌, ◌≢◌, ◌≤◌, ◌<◌, ◌^◌, ◌+◌, ◌↔◌, ℕ, zero, suc, Some, List, [], ◌∷◌, length, take, get_or, refl, sym, ap, ◌∙◌, arith, inl, inr, length-append}
+use Rattle.std.proofs.Common.{◌≡◌, ◌≢◌, ◌≤◌, ◌<◌, ◌^◌, ◌+◌, ◌↔◌, ℕ, zero, suc, Some, List, [], ◌∷◌, length, take, drop, get_or, refl, sym, ap, ◌∙◌, arith, inl, inr, length-append}
 use Rattle.std.specs.Prelude.{slice_get}
 use Rattle.std.proofs.lemmas.Bool.{cases_lt}
 use Rattle.std.proofs.lemmas.List.{get_or_append_left, get_or-append-add, get_or-map, length-map}
-use Rattle.std.proofs.lemmas.List.Elements.{Contains-get_or}
 use Rattle.std.specs.List.{AllPairs, concat}
 use Rattle.type_trees.specs.Tree.{Tree, nothing, IsType}
 use Rattle.type_trees.specs.Canon.{text, texts, Canonical}
-use Rattle.type_trees.specs.Table.{AreBytes, IsTable}
-use Rattle.type_trees.specs.Laws.{StandsSomewhere}
+use Rattle.byte_fields.specs.Bytes.{AreBytes}
+use Rattle.type_trees.specs.Table.{IsTable}
 use Rattle.type_trees.specs.Finish.{IsCanon, IsCanonOf}
 use Rattle.type_trees.proofs.NextLaws.{table_weighs_all}
 use Rattle.type_trees.proofs.PushLaws.{nothing_listed}
@@ -56,9 +55,7 @@ distinct_texts l c i j d less j_in e =
 pub canon_of_table : (r out : List (List ℕ)) → IsTable r → IsCanonOf out (IsType r) → AreBytes (concat out) → IsCanon out
 canon_of_table r out table c bytes =
     let l : List Tree = c.0 in
-    let known : (i : ℕ) → i < length l → StandsSomewhere (get_or l i nothing) = λ i inside.
-    let h = (c.3 (get_or l i nothing)).0 (Contains-get_or l i nothing inside) in (r, h.0, table.good, h.1) in
-    let back = canonical_reads_back l c.1 known in
+    let back = canonical_reads_back l c.1 in
     record {
       trees = l;
       canonical = c.1;
@@ -95,3 +92,10 @@ all_taken (x ∷ r) = ap (λ (y : List (List ℕ)). x ∷ y) (all_taken r)
 -- a canonical list stays one when its types are described by an equal condition
 pub canon_same : (out : List (List ℕ)) (P Q : Tree → Type 0) → IsCanonOf out P → ((t : Tree) → P t ↔ Q t) → IsCanonOf out Q
 canon_same out P Q c same = (c.0, c.1, c.2, λ t. (λ h. (same t).0 ((c.3 t).0 h), λ h. (c.3 t).1 ((same t).1 h)))
+
+-- ---- what is left of a list
+
+pub drop_first : (xs : List (List ℕ)) (i : ℕ) (r : List ℕ) → Some r ≡ slice_get xs i → drop i xs ≡ r ∷ drop (i + 1) xs
+drop_first [] i r there = absurd cc
+drop_first (x ∷ xs) zero r there = let same : r ≡ x = cc in ap (λ (y : List ℕ). y ∷ xs) (sym same)
+drop_first (x ∷ xs) (suc i) r there = let one : suc i + 1 ≡ suc (i + 1) = omega arith in rw one (drop_first xs i r there)

@@ -303,7 +303,7 @@ ready_padded r d f rows ps table h x c =
     let p_in = h.are.within k inside in
     let at : x ≡ renumbered f (get_or r p []) = sym c.2 ∙ ap (λ (y : List (List ℕ)). get_or y k x) h.fit ∙ get_or-map (row r f) ps k 0 x inside ∙ row_is r f p in
     let frame = table.good.framed p p_in in
-    ap (λ (y : List ℕ). length y % 4) at ∙ ap (λ (n : ℕ). n % 4) (renumbered_long f (get_or r p []) frame (table.good.checked p p_in).0) ∙ frame.padded
+    ap (λ (y : List ℕ). length y % 4) at ∙ ap (λ (n : ℕ). n % 4) (renumbered_long f (get_or r p []) (table.good.checked p p_in)) ∙ frame.padded
 
 -- the list and the numbers are right after the level is added
 pub ready_listed : (r : List (List ℕ)) (d : ℕ) (out rows : List (List ℕ)) (ps before after : List ℕ) → IsTable r → length (concat r) < 2 ^ 32 → Listed r d out (λ k. get_or before k 0) → Ready r d (λ k. get_or before k 0) rows ps

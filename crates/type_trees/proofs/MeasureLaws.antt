@@ -6,7 +6,7 @@ use Rattle.std.proofs.lemmas.List.{length-append, length-set, length-replicate, 
 use Rattle.std.proofs.lemmas.List.Elements.{All-contains, Contains-push_cases, Contains-append_left}
 use Rattle.topological_order.specs.Order.{IsOrder}
 use Rattle.topological_order.proofs.WalkLaws.{none_in}
-use Rattle.type_trees.specs.References.{references}
+use Rattle.cv_leaves.specs.References.{references}
 use Rattle.type_trees.specs.Tree.{Tree, tree, Stands}
 use Rattle.type_trees.specs.Named.{graph_of}
 use Rattle.type_trees.specs.Checked.{AreTypes, NamesThere}

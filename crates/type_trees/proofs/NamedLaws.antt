@@ -11,7 +11,7 @@ use Rattle.topological_order.specs.Graph.{Names, NamesNodes, IsRank}
 use Rattle.topological_order.specs.Order.{IsOrder}
 use Rattle.topological_order.proofs.WalkLaws.{none_in}
 use Rattle.topological_order.proofs.OrderLaws.{in_cons, in_head, in_tail, names_inside, orders_rank}
-use Rattle.type_trees.specs.References.{reference_at, references}
+use Rattle.cv_leaves.specs.References.{reference_at, references}
 use Rattle.type_trees.specs.Tree.{IsRanked, NamesLower}
 use Rattle.type_trees.specs.Named.{positions_in, named_by, graph_of}
 use Rattle.type_trees.specs.Checked.{NamesThere, AllNameThere}

@@ -11,10 +11,10 @@ use Rattle.type_trees.specs.Depth.{depth, depth_over}
 use Rattle.type_trees.specs.Canon.{weight}
 use Rattle.type_trees.specs.Level.{IsLevel}
 use Rattle.type_trees.specs.Table.{IsTable, TreesOfTable, TableWeighs, TableWeighsAll, HoldsBelow, NextLevel}
-use Rattle.type_trees.proofs.TreeLaws.{one, tree_there}
+use Rattle.type_trees.proofs.TreeLaws.{one, tree_there, standing_is_closed}
 use Rattle.type_trees.proofs.WeightLaws.{weight_grows, weight-cons, weight-none}
-use Rattle.type_trees.proofs.TableLaws.{table_is_set, standing_is_closed, branches_stand}
-use Rattle.type_trees.proofs.LeafLaws.{length-blank}
+use Rattle.type_trees.proofs.TableLaws.{table_is_set, branches_stand}
+use Rattle.cv_leaves.proofs.FilledLaws.{blanked_len}
 use Rattle.type_trees.proofs.LevelLaws.{level_adds, level_ordered, distinct-ordered}
 
 -- the trees of the first n records
@@ -55,7 +55,7 @@ same_weight (x ∷ r) (t ∷ s) long each =
     rw (weight-cons t s, length-append x (concat r)) (omega arith)
 
 long_as : (r : List (List ℕ)) (i : ℕ) (t : Tree) → IsTable r → Stands r i t → length (blank_of t) ≡ length (get_or r i [])
-long_as r i (tree b bs) table h = sym (ap length h.1) ∙ length-blank (get_or r i []) (table.good.checked i h.0)
+long_as r i (tree b bs) table h = sym (ap length h.1) ∙ blanked_len (get_or r i []) (table.good.checked i h.0)
 
 pub table_weight : (r : List (List ℕ)) (table : IsTable r) → weight (trees_of_table r table).0 ≡ length (concat r)
 table_weight r table =

@@ -13,7 +13,7 @@ use Rattle.std.proofs.lemmas.Map.Views.{Contains-from_any}
 use Rattle.std.proofs.lemmas.List.FromFn.{get_or-range_with_len, length-range_with_len}
 use Rattle.topological_order.specs.Graph.{Names}
 use Rattle.topological_order.specs.Order.{IsOrder}
-use Rattle.type_trees.specs.References.{references}
+use Rattle.cv_leaves.specs.References.{references}
 use Rattle.type_trees.specs.Tree.{IsRanked}
 use Rattle.type_trees.specs.Named.{graph_of}
 use Rattle.type_trees.specs.Order.{positions_left, EndsAt}

@@ -6,10 +6,12 @@ use Rattle.std.proofs.lemmas.List.{get_or_default}
 use Rattle.std.proofs.lemmas.List.Quantifiers.{all_pairs_push}
 use Rattle.std.proofs.Math.ListN.{get_or-append}
 use Rattle.std.proofs.Math.Seq.{get_or-append_seam}
-use Rattle.type_trees.specs.References.{IsWhole, references}
+use Rattle.cv_leaves.specs.References.{references}
+use Rattle.cv_leaves.specs.HasPlaces.{IsChecked}
 use Rattle.tpi_records.specs.Records.{IsRecord}
 use Rattle.type_trees.specs.Tree.{NamesLower}
-use Rattle.type_trees.specs.Table.{AreBytes, IsTable}
+use Rattle.byte_fields.specs.Bytes.{AreBytes}
+use Rattle.type_trees.specs.Table.{IsTable}
 use Rattle.type_trees.specs.Push.{TableGrows, NothingListed}
 use Rattle.type_trees.proofs.WeightLaws.{weight-none}
 
@@ -40,7 +42,7 @@ table_grows r y table framed ok bytes named new =
     record {
       good = record {
         framed = each_pushed IsRecord r y table.good.framed framed;
-        checked = each_pushed (λ x. IsWhole x) r y table.good.checked ok;
+        checked = each_pushed (λ x. IsChecked x) r y table.good.checked ok;
       };
       bytes = each_pushed AreBytes r y table.bytes bytes;
       lower = λ i lt. elim (cases_lt i (length r)) [

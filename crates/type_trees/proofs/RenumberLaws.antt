@@ -3,7 +3,7 @@ use Rattle.std.proofs.Common.{◌≡◌, ℕ, ◌+◌, suc, List, [], ◌∷◌,
 use Rattle.std.specs.List.{Contains}
 use Rattle.cv_leaves.specs.Blank.{put_four, fill}
 use Rattle.cv_leaves.specs.Checks.{places_of}
-use Rattle.type_trees.specs.References.{reference_at, references, filled}
+use Rattle.cv_leaves.specs.References.{reference_at, references, filled}
 use Rattle.type_trees.specs.Table.{renumber, renumber_one, renumbered, AreNumbered}
 
 -- at the start all places are left to write

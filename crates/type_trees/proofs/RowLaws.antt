@@ -10,20 +10,20 @@ use Rattle.std.proofs.lemmas.List.{length-map, get_or-map, ext_get_or, get_or_de
 use Rattle.std.proofs.lemmas.List.Elements.{Contains-get_or}
 use Rattle.std.proofs.lemmas.Map.Lookups.{exact_bytes}
 use Rattle.std.proofs.Math.ListN.{get_or-append}
-use Rattle.type_trees.specs.References.{references}
+use Rattle.cv_leaves.specs.References.{references}
 use Rattle.type_trees.specs.Tree.{Tree, Branches, tree, no_branch, simple, branch, nothing, branches_of, trees_in, IsClosed, Stands, AreBranches}
 use Rattle.type_trees.specs.Depth.{depth, depth_over}
 use Rattle.type_trees.specs.Canon.{position_in, text, Canonical}
 use Rattle.type_trees.specs.Canon.{texts, HoldsBranches}
 use Rattle.type_trees.specs.Table.{IsTable, renumbered, EachNamed, IsLevelOf}
 use Rattle.type_trees.specs.Rows.{Numbers, row, RowsContinue, NumbersContinue}
-use Rattle.type_trees.proofs.TreeLaws.{one}
+use Rattle.type_trees.proofs.TreeLaws.{one, standing_is_closed}
 use Rattle.type_trees.proofs.SameLaws.{position_in-get_or, position_in-lt-length}
 use Rattle.type_trees.proofs.TextLaws.{texts_differ}
 use Rattle.type_trees.proofs.ReadLaws.{few, holds, text-at}
 use Rattle.type_trees.proofs.LevelLaws.{text-more}
 use Rattle.type_trees.proofs.CanonLaws.{position_in-below}
-use Rattle.type_trees.proofs.TableLaws.{table_is_set, standing_is_closed, branches_stand, renumbered_is_text}
+use Rattle.type_trees.proofs.TableLaws.{table_is_set, branches_stand, renumbered_is_text}
 use Rattle.type_trees.proofs.NextLaws.{trees_of_table, next_level, branches_less_deep, all_held}
 
 -- the trees that a record names are less deep

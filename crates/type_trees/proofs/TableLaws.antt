@@ -3,12 +3,14 @@ use Rattle.std.proofs.Common.{◌≡◌, ℕ, ◌+◌, ◌-◌, ◌<◌, ◌≤�
 use Rattle.std.specs.List.{AllByRecursion}
 use Rattle.std.proofs.lemmas.Bool.{cases_order, lt-ltb, le-ltb}
 use Rattle.std.proofs.Math.ListN.{get_or-append}
-use Rattle.type_trees.specs.References.{IsWhole, references, blanked, filled}
-use Rattle.type_trees.specs.Tree.{Tree, Branches, tree, no_branch, simple, branch, count, trees_in, IsClosed, AreClosed, Stands, AreBranches, IsType}
+use Rattle.cv_leaves.specs.References.{references, blanked, filled}
+use Rattle.cv_leaves.specs.HasPlaces.{IsChecked}
+use Rattle.type_trees.specs.Tree.{Tree, Branches, tree, no_branch, simple, branch, trees_in, Stands, AreBranches, IsType}
 use Rattle.type_trees.specs.Canon.{position_in, numbers, text}
-use Rattle.type_trees.specs.Table.{AreGood}
-use Rattle.type_trees.specs.Table.{AreBytes, IsTable, renumber_one, renumber, EachNamed, TableIsSet, StandingIsClosed, BranchesStand, RenumberedStands, RenumberedIsText, StandsStill}
-use Rattle.type_trees.proofs.LeafLaws.{refs-fill, blank-fill, fill-blank, blank-kept, blank-blank, length-refs, places-each, fill-own}
+use Rattle.byte_fields.specs.Bytes.{AreBytes}
+use Rattle.type_trees.specs.Table.{IsTable, renumber_one, renumber, EachNamed, TableIsSet, BranchesStand, RenumberedStands, RenumberedIsText, StandsStill}
+use Rattle.cv_leaves.specs.Checks.{places_of}
+use Rattle.cv_leaves.proofs.FilledLaws.{reference_each, filled_read, filled_blank, fill_blanked, own_fill}
 
 -- a tree still stands when more records are added after r
 mutual
@@ -33,32 +35,15 @@ named_stand r ns (branch t bs) h = ((h.0 - 0x1000, h.4), named_stand r h.1 bs h.
 pub branches_stand : BranchesStand
 branches_stand r i (tree b bs) h = named_stand r (references (get_or r i [])) bs h.2
 
--- there is a branch for each number
-count-branches : (r : List (List ℕ)) (ns : List ℕ) (bs : Branches) → AreBranches r ns bs → length ns ≡ count bs
-count-branches r ns no_branch h = ap length h
-count-branches r ns (simple m bs) h = let e = count-branches r h.1 bs h.5 in let f : length ns ≡ length (h.0 ∷ h.1) = ap length h.2 in omega arith
-count-branches r ns (branch t bs) h = let e = count-branches r h.1 bs h.5 in let f : length ns ≡ length (h.0 ∷ h.1) = ap length h.2 in omega arith
-
-mutual
-  pub standing_is_closed : StandingIsClosed
-  standing_is_closed r i (tree b bs) good h =
-      let x : List ℕ = get_or r i [] in
-      let ok = good.checked i h.0 in
-      let kept = blank-kept x ok in
-      let many : length (references x) ≡ count bs = count-branches r (references x) bs h.2 in
-      subst (λ (y : List ℕ). IsClosed (tree y bs)) h.1
-      (kept.0, blank-blank x ok, sym (places-each (blanked x)) ∙ ap length kept.1 ∙ sym (length-refs x) ∙ many, branches_closed r (references x) bs good h.2)
-
-  branches_closed : (r : List (List ℕ)) (ns : List ℕ) (bs : Branches) → AreGood r → AreBranches r ns bs → AreClosed bs
-  branches_closed r ns no_branch good h = tt
-  branches_closed r ns (simple m bs) good h = (subst (λ (k : ℕ). k < 0x1000) h.4 h.3, branches_closed r h.1 bs good h.5)
-  branches_closed r ns (branch t bs) good h = (standing_is_closed r (h.0 - 0x1000) t good h.4, branches_closed r h.1 bs good h.5)
-
 -- renumbering keeps how many numbers there are
 pub length-renumber : (f : ℕ → ℕ) (ns : List ℕ) → length (renumber f ns) ≡ length ns
 unfolding renumber
 length-renumber f [] = refl
 length-renumber f (n ∷ ns) = let e = length-renumber f ns in omega arith
+
+-- there is a number for each place
+pub renumber-each : (f : ℕ → ℕ) (x : List ℕ) → length (renumber f (references x)) ≡ length (places_of x)
+renumber-each f x = length-renumber f (references x) ∙ reference_each x
 
 pub renumber-none : (f : ℕ → ℕ) → renumber f [] ≡ []
 unfolding renumber
@@ -91,13 +76,11 @@ renumbered_is_text r l f i (tree b bs) ok each h =
     let x : List ℕ = get_or r i [] in
     let ns : List ℕ = renumber f (references x) in
     let same : ns ≡ numbers l bs = renumber-numbers r l f (references x) bs each h.2 in
-    let e = length-renumber f (references x) in
-    let o = length-refs x in
-    sym (fill-blank x ns ok (omega arith)) ∙ ap (λ (y : List ℕ). filled y ns) h.1 ∙ ap (filled b) same
+    sym (fill_blanked x ns ok (renumber-each f x)) ∙ ap (λ (y : List ℕ). filled y ns) h.1 ∙ ap (filled b) same
 
 -- a record is its blank filled with its references
-own_parts : (x b : List ℕ) → IsWhole x → AreBytes x → blanked x ≡ b → filled b (references x) ≡ x
-own_parts x b ok bytes e = let o = length-refs x in ap (λ (y : List ℕ). filled y (references x)) (sym e) ∙ fill-blank x (references x) ok (sym o) ∙ fill-own x ok bytes
+own_parts : (x b : List ℕ) → IsChecked x → AreBytes x → blanked x ≡ b → filled b (references x) ≡ x
+own_parts x b ok bytes e = ap (λ (y : List ℕ). filled y (references x)) (sym e) ∙ own_fill x ok bytes
 
 -- a renumbered record has the same branches
 renumber-branches : (r s : List (List ℕ)) (f : ℕ → ℕ) (ns : List ℕ) (bs : Branches) → EachNamed r (λ k u. (f k < 4294963200) × Stands s (f k) u) ns → AreBranches r ns bs → AreBranches s (renumber f ns) bs
@@ -127,10 +110,8 @@ pub renumbered_stands : RenumberedStands
 renumbered_stands r s f i j (tree b bs) ok j_in same each h =
     let x : List ℕ = get_or r i [] in
     let ns : List ℕ = renumber f (references x) in
-    let e = length-renumber f (references x) in
-    let o = length-refs x in
-    let blanks : blanked (get_or s j []) ≡ b = ap blanked same ∙ blank-fill x ns ok (omega arith) ∙ h.1 in
-    let named : references (get_or s j []) ≡ ns = ap references same ∙ refs-fill x ns ok (omega arith) (renumber-small r s f (references x) bs each h.2) in
+    let blanks : blanked (get_or s j []) ≡ b = ap blanked same ∙ filled_blank x ns ok ∙ h.1 in
+    let named : references (get_or s j []) ≡ ns = ap references same ∙ filled_read x ns ok (renumber-each f x) (renumber-small r s f (references x) bs each h.2) in
     (j_in, blanks, subst (λ (y : List ℕ). AreBranches s y bs) (sym named) (renumber-branches r s f (references x) bs each h.2))
 
 -- a tree stands at one position of a table at most

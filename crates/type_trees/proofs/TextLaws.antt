@@ -1,12 +1,12 @@
 -- Trees with equal texts are equal.
 use Rattle.std.proofs.Common.{◌≡◌, ℕ, ◌+◌, ◌<◌, ◌≤◌, ◌^◌, List, length, get_or, refl, sym, ap, ◌∙◌, arith}
 use Rattle.std.specs.List.{AllByRecursion, Contains}
-use Rattle.type_trees.specs.References.{references, blanked}
+use Rattle.cv_leaves.specs.References.{references, blanked}
 use Rattle.type_trees.specs.Tree.{Tree, Branches, tree, no_branch, simple, branch, nothing, blank_of, branches_of, count, trees_in, IsClosed, AreClosed}
 use Rattle.type_trees.specs.Canon.{position_in, numbers, text}
 use Rattle.type_trees.specs.Canon.{HoldsBranches}
 use Rattle.type_trees.specs.Laws.{TextsDiffer}
-use Rattle.type_trees.proofs.LeafLaws.{blank-fill, refs-fill, places-each}
+use Rattle.cv_leaves.proofs.FilledLaws.{filled_blank, filled_read}
 use Rattle.type_trees.proofs.SameLaws.{get_or-position_in, position_in-lt-length}
 
 pub length-numbers : (l : List Tree) (bs : Branches) → length (numbers l bs) ≡ count bs
@@ -51,25 +51,18 @@ numbers-same l (branch t bs) (branch u cs) ub uc hb hc e =
 
 pub blank-text : (l : List Tree) (t : Tree) → IsClosed t → blanked (text l t) ≡ blank_of t
 unfolding text
-blank-text l (tree b bs) closed =
-    let e = length-numbers l bs in
-    let many = closed.2 in
-    let each = places-each b in
-    blank-fill b (numbers l bs) closed.0 (omega arith) ∙ closed.1
+blank-text l (tree b bs) closed = filled_blank b (numbers l bs) closed.1 ∙ closed.2
 
 pub refs-text : (l : List Tree) (t : Tree) → length l ≤ 4294963200 → IsClosed t → HoldsBranches l t → references (text l t) ≡ numbers l (branches_of t)
 unfolding text
 refs-text l (tree b bs) few closed held =
-    let e = length-numbers l bs in
-    let many = closed.2 in
-    let each = places-each b in
-    refs-fill b (numbers l bs) closed.0 (omega arith) (numbers-small l bs few closed.3 held)
+    filled_read b (numbers l bs) closed.1 (length-numbers l bs ∙ sym closed.3) (numbers-small l bs few closed.4 held)
 
 of_parts : (t u : Tree) → blank_of t ≡ blank_of u → branches_of t ≡ branches_of u → t ≡ u
 of_parts (tree b bs) (tree c cs) x y = rw (x, y) refl
 
 closed_branches : (t : Tree) → IsClosed t → AreClosed (branches_of t)
-closed_branches (tree b bs) closed = closed.3
+closed_branches (tree b bs) closed = closed.4
 
 pub texts_differ : TextsDiffer
 texts_differ l t u few ct cu ht hu e =

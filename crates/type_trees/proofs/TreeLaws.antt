@@ -1,13 +1,16 @@
--- Exactly one tree stands at each position of records that have a rank, and it is closed.
-use Rattle.std.proofs.Common.{◌≡◌, ◌≤◌, ℕ, zero, suc, ◌-◌, ◌<◌, List, [], ◌∷◌, length, get_or, refl, sym, ap, ◌∙◌, subst, arith, inl, inr}
+-- Exactly one tree stands at each position of records that make types, and it is closed.
+use Rattle.std.proofs.Common.{◌≡◌, ℕ, zero, suc, ◌-◌, ◌<◌, List, [], ◌∷◌, length, get_or, refl, sym, ap, ◌∙◌, subst, arith, inl, inr}
 use Rattle.std.proofs.lemmas.Bool.{cases_lt}
 use Rattle.std.specs.List.{AllByRecursion}
 use Rattle.cv_leaves.specs.Checks.{places_of}
 use Rattle.cv_leaves.specs.HasPlaces.{IsChecked}
-use Rattle.type_trees.specs.References.{IsWhole, references, blanked}
+use Rattle.cv_leaves.specs.References.{references, blanked}
 use Rattle.type_trees.specs.Tree.{Tree, Branches, tree, no_branch, simple, branch, count, trees_in, IsClosed, AreClosed, Stands, AreBranches, IsType, IsRanked, NamesLower}
 use Rattle.type_trees.specs.Laws.{OneTreeEach, BranchesAreTypes}
-use Rattle.type_trees.proofs.ReferenceLaws.{reference_each, blanked_has, blanked_long, blanked_places, blanked_stays}
+use Rattle.type_trees.specs.Table.{AreGood, StandingIsClosed}
+use Rattle.type_trees.specs.Checked.{AreTypes}
+use Rattle.cv_leaves.proofs.FilledLaws.{reference_each, blanked_checked, blanked_framed, blanked_places, blanked_stays}
+use Rattle.tpi_records.specs.Records.{IsRecord}
 
 -- ---- At most one tree
 
@@ -92,32 +95,35 @@ branch_each records ns (simple m bs) h = omega (arith, branch_each records h.1 b
 branch_each records ns (branch t bs) h = omega (arith, branch_each records h.1 bs h.5, ap length h.2)
 
 mutual
-  -- a tree that stands in whole records is closed
-  closed : (records : List (List ℕ)) (i : ℕ) (t : Tree) → AllByRecursion IsWhole records → Stands records i t → IsClosed t
-  closed records i (tree b bs) each h =
+  -- a tree that stands in good records is closed
+  pub standing_is_closed : StandingIsClosed
+  standing_is_closed records i (tree b bs) good h =
       let r = get_or records i [] in
-      let whole = at_position IsWhole records i each h.0 in
-      let many : length (places_of (blanked r)) ≡ count bs = ap length (blanked_places r whole.0) ∙ sym (reference_each r) ∙ branch_each records (references r) bs h.2 in
-      subst (λ (y : List ℕ). IsClosed (tree y bs)) h.1 (((places_of r, blanked_has r whole.0), blanked_long r whole.0 whole.1), blanked_stays r whole.0 whole.1, many, all_closed records (references r) bs each h.2)
+      let checked = good.checked i h.0 in
+      let many : length (places_of (blanked r)) ≡ count bs = ap length (blanked_places r checked) ∙ sym (reference_each r) ∙ branch_each records (references r) bs h.2 in
+      subst (λ (y : List ℕ). IsClosed (tree y bs)) h.1
+      (blanked_framed r checked (good.framed i h.0), blanked_checked r checked, blanked_stays r checked, many, branches_closed records (references r) bs good h.2)
 
   -- its branches are closed too
-  all_closed : (records : List (List ℕ)) (ns : List ℕ) (bs : Branches) → AllByRecursion IsWhole records → AreBranches records ns bs → AreClosed bs
-  all_closed records ns no_branch each h = tt
-  all_closed records ns (simple m bs) each h = (subst (λ (k : ℕ). k < 0x1000) h.4 h.3, all_closed records h.1 bs each h.5)
-  all_closed records ns (branch t bs) each h = (closed records (h.0 - 0x1000) t each h.4, all_closed records h.1 bs each h.5)
+  branches_closed : (records : List (List ℕ)) (ns : List ℕ) (bs : Branches) → AreGood records → AreBranches records ns bs → AreClosed bs
+  branches_closed records ns no_branch good h = tt
+  branches_closed records ns (simple m bs) good h = (subst (λ (k : ℕ). k < 0x1000) h.4 h.3, branches_closed records h.1 bs good h.5)
+  branches_closed records ns (branch t bs) good h = (standing_is_closed records (h.0 - 0x1000) t good h.4, branches_closed records h.1 bs good h.5)
 
 -- ---- The laws
 
--- records are whole if they have places and four bytes each
-both : (records : List (List ℕ)) → AllByRecursion IsChecked records → AllByRecursion (λ r. 4 ≤ length r) records → AllByRecursion IsWhole records
-both [] checked long = tt
-both (r ∷ rs) checked long = ((checked.0, long.0), both rs checked.1 long.1)
+-- records that make types are good
+types_good : (records : List (List ℕ)) → AreTypes records → AreGood records
+types_good records types = record {
+  framed = λ i inside. at_position IsRecord records i types.framed inside;
+  checked = λ i inside. at_position IsChecked records i types.checked inside;
+}
 
 -- exactly one tree stands at each position, and it is closed
 pub one_tree_each : OneTreeEach
-one_tree_each records rank checked long ranked i inside =
-    let t = some_below records rank ranked (suc (rank i)) i (omega arith) inside in
-    (t.0, closed records i t.0 (both records checked long) t.1, t.1, λ u k. one records i t.0 u t.1 k)
+one_tree_each records types i inside =
+    let t = tree_there records types.ranked.0 i types.ranked.1 inside in
+    (t.0, standing_is_closed records i t.0 (types_good records types) t.1, t.1, λ u k. one records i t.0 u t.1 k)
 
 -- the branches of a record that are trees are types of the records
 named_stand : (records : List (List ℕ)) (ns : List ℕ) (bs : Branches) → AreBranches records ns bs → AllByRecursion (IsType records) (trees_in bs)

@@ -8,11 +8,11 @@ use Rattle.std.proofs.lemmas.List.Edits.{get_or-remove_below, get_or-remove_abov
 use Rattle.type_trees.specs.Tree.{Tree, tree, nothing, blank_of, IsClosed}
 use Rattle.type_trees.specs.Canon.{numbers, text, weight}
 use Rattle.type_trees.specs.Laws.{WeightOfTexts, WeightGrows}
-use Rattle.type_trees.proofs.LeafLaws.{length-fill}
+use Rattle.cv_leaves.proofs.FilledLaws.{filled_len}
 
 length-text : (l : List Tree) (t : Tree) → IsClosed t → length (text l t) ≡ length (blank_of t)
 unfolding text
-length-text l (tree b bs) closed = length-fill b (numbers l bs) closed.0
+length-text l (tree b bs) closed = filled_len b (numbers l bs) closed.1
 
 pub weight-cons : (t : Tree) (l : List Tree) → weight (t ∷ l) ≡ length (blank_of t) + weight l
 unfolding weight

@@ -5,7 +5,7 @@ use Rattle.std.specs.declared.cmp.Ordering.TheVariants.{Less}
 use Rattle.std.specs.Ordering.{nat_cmp, on, then_cmp}
 use Rattle.std.specs.Cmp.Lexicographic.{slice_cmp}
 use Rattle.std.specs.List.{AllByRecursion, AllPairs, Contains, position_or_len, sum_by}
-use Rattle.type_trees.specs.References.{filled}
+use Rattle.cv_leaves.specs.References.{filled}
 use Rattle.type_trees.specs.Depth.{depth}
 use Rattle.type_trees.specs.Tree.{Tree, Branches, no_branch, simple, branch, nothing, blank_of, branches_of, trees_in, IsClosed, same_tree}
 

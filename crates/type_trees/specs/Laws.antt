@@ -1,16 +1,15 @@
 -- Laws of the types of records, and of canonical lists.
 use Rattle.std.specs.Prelude.{ℕ, ◌≡◌, ◌≢◌, ◌<◌, ◌≤◌, ◌↔◌, List, length, get_or}
 use Rattle.std.specs.List.{AllByRecursion, AllPairs, Contains, concat}
-use Rattle.cv_leaves.specs.HasPlaces.{IsChecked}
 use Rattle.type_trees.specs.Tree.{Tree, nothing, branches_of, trees_in, IsClosed, Stands, IsType, IsRanked}
 use Rattle.type_trees.specs.Canon.{text, texts, weight, HoldsBranches, Canonical}
 use Rattle.type_trees.specs.Table.{AreGood}
-use Rattle.type_trees.specs.Checked.{IsCycle}
+use Rattle.type_trees.specs.Checked.{AreTypes, IsCycle}
 
--- exactly one tree stands at each position of records that are whole and ranked, and it is closed
+-- exactly one tree stands at each position of records that make types, and it is closed
 abbrev pub OneTreeEach : Type 0
 OneTreeEach =
-    (records : List (List ℕ)) (rank : ℕ → ℕ) → AllByRecursion IsChecked records → AllByRecursion (λ r. 4 ≤ length r) records → IsRanked records rank → (i : ℕ) → i < length records
+    (records : List (List ℕ)) → AreTypes records → (i : ℕ) → i < length records
     → (t : Tree) × IsClosed t × Stands records i t × ((u : Tree) → Stands records i u → t ≡ u)
 
 -- each branch that is a tree of a type of records is a type of these records
@@ -36,10 +35,6 @@ abbrev pub OneCanonicalList : Type 0
 OneCanonicalList =
     (l m : List Tree) → Canonical l → Canonical m → ((t : Tree) → Contains l t ↔ Contains m t) → l ≡ m
 
--- t stands somewhere in good records
-abbrev pub StandsSomewhere : Tree → Type 0
-StandsSomewhere t = (r : List (List ℕ)) × (i : ℕ) × AreGood r × Stands r i t
-
 -- the texts of l are good records, each names earlier ones, each tree of l stands at its position, and no other tree stands there
 pub record ReadsBack (l : List Tree) : Type 0 where
   pub good : AreGood (texts l)
@@ -47,9 +42,9 @@ pub record ReadsBack (l : List Tree) : Type 0 where
   pub stand : (i : ℕ) → i < length l → Stands (texts l) i (get_or l i nothing)
   pub alone : (i : ℕ) (u : Tree) → Stands (texts l) i u → u ≡ get_or l i nothing
 
--- a canonical list reads back from its texts, where its trees stand somewhere in good records
+-- a canonical list reads back from its texts
 abbrev pub CanonicalReadsBack : Type 0
-CanonicalReadsBack = (l : List Tree) → Canonical l → ((i : ℕ) → i < length l → StandsSomewhere (get_or l i nothing)) → ReadsBack l
+CanonicalReadsBack = (l : List Tree) → Canonical l → ReadsBack l
 
 -- the weight of a canonical list is the number of bytes of its texts
 abbrev pub WeightOfTexts : Type 0

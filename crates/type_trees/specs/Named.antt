@@ -1,6 +1,6 @@
 -- Which records a record names, by their positions.
 use Rattle.std.specs.Prelude.{ℕ, ◌-◌, nat_lt, if◌then◌else◌, List, [], ◌∷◌, map}
-use Rattle.type_trees.specs.References.{references}
+use Rattle.cv_leaves.specs.References.{references}
 
 -- the positions that references name: simple references are left out
 unfoldable pub positions_in : List ℕ → List ℕ

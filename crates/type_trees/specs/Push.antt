@@ -1,16 +1,18 @@
 -- How a table starts and grows, and how its canonical list starts.
 use Rattle.std.specs.Prelude.{ℕ, ◌-◌, ◌<◌, ◌⊎◌, List, [], ◌∷◌, ◌++◌, length}
 use Rattle.std.specs.List.{AllByRecursion, Contains}
-use Rattle.type_trees.specs.References.{IsWhole, references}
+use Rattle.cv_leaves.specs.References.{references}
+use Rattle.cv_leaves.specs.HasPlaces.{IsChecked}
 use Rattle.tpi_records.specs.Records.{IsRecord}
 use Rattle.type_trees.specs.Canon.{Canonical}
-use Rattle.type_trees.specs.Table.{AreBytes, IsTable, HoldsBelow}
+use Rattle.byte_fields.specs.Bytes.{AreBytes}
+use Rattle.type_trees.specs.Table.{IsTable, HoldsBelow}
 use Rattle.type_trees.specs.Rows.{Numbers}
 
 -- a table stays a table when a good record is added that isn't there yet and names records of the table alone
 abbrev pub TableGrows : Type 0
 TableGrows =
-    (r : List (List ℕ)) (y : List ℕ) → IsTable r → IsRecord y → IsWhole y → AreBytes y
+    (r : List (List ℕ)) (y : List ℕ) → IsTable r → IsRecord y → IsChecked y → AreBytes y
     → AllByRecursion (λ n. (n < 0x1000) ⊎ (n - 0x1000 < length r)) (references y) → (Contains r y → ⊥) → IsTable (r ++ y ∷ [])
 
 -- before the first level the canonical list is empty

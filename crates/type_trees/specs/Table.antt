@@ -4,20 +4,18 @@ use Rattle.std.specs.declared.cmp.Ordering.TheVariants.{Less}
 use Rattle.std.specs.Ordering.{nat_cmp}
 use Rattle.std.specs.Cmp.Lexicographic.{slice_cmp}
 use Rattle.std.specs.List.{AllByRecursion, AllPairs, Contains, concat}
-use Rattle.type_trees.specs.References.{IsWhole, references, filled}
+use Rattle.byte_fields.specs.Bytes.{AreBytes}
+use Rattle.cv_leaves.specs.References.{references, filled}
+use Rattle.cv_leaves.specs.HasPlaces.{IsChecked}
 use Rattle.type_trees.specs.Tree.{Tree, Stands, IsType, IsRanked, IsClosed, trees_in, branches_of, nothing}
 use Rattle.type_trees.specs.Depth.{depth}
 use Rattle.type_trees.specs.Canon.{position_in, text, weight, Canonical}
 use Rattle.tpi_records.specs.Records.{IsRecord}
 
--- each number is a byte
-abbrev pub AreBytes : List ℕ → Type 0
-AreBytes r = (k : ℕ) → get_or r k 0 < 256
-
 -- each record has its framing and its places
 pub record AreGood (r : List (List ℕ)) : Type 0 where
   pub framed : (i : ℕ) → i < length r → IsRecord (get_or r i [])
-  pub checked : (i : ℕ) → i < length r → IsWhole (get_or r i [])
+  pub checked : (i : ℕ) → i < length r → IsChecked (get_or r i [])
 
 -- r is a table: its records are good, made of bytes and distinct, and each names earlier records alone
 pub record IsTable (r : List (List ℕ)) : Type 0 where
@@ -67,7 +65,7 @@ BranchesStand = (r : List (List ℕ)) (i : ℕ) (t : Tree) → Stands r i t → 
 -- a renumbered record stands for the same tree, if it names the same trees
 abbrev pub RenumberedStands : Type 0
 RenumberedStands =
-    (r s : List (List ℕ)) (f : ℕ → ℕ) (i j : ℕ) (t : Tree) → IsWhole (get_or r i []) → j < length s
+    (r s : List (List ℕ)) (f : ℕ → ℕ) (i j : ℕ) (t : Tree) → IsChecked (get_or r i []) → j < length s
     → get_or s j [] ≡ filled (get_or r i []) (renumber f (references (get_or r i [])))
     → EachNamed r (λ k u. (f k < 4294963200) × Stands s (f k) u) (references (get_or r i []))
     → Stands r i t → Stands s j t
@@ -75,7 +73,7 @@ RenumberedStands =
 -- a record is the text of its tree, once it is renumbered by positions in l
 abbrev pub RenumberedIsText : Type 0
 RenumberedIsText =
-    (r : List (List ℕ)) (l : List Tree) (f : ℕ → ℕ) (i : ℕ) (t : Tree) → IsWhole (get_or r i [])
+    (r : List (List ℕ)) (l : List Tree) (f : ℕ → ℕ) (i : ℕ) (t : Tree) → IsChecked (get_or r i [])
     → EachNamed r (λ k u. f k ≡ position_in l u) (references (get_or r i []))
     → Stands r i t → filled (get_or r i []) (renumber f (references (get_or r i []))) ≡ text l t
 

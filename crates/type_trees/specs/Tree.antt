@@ -2,8 +2,10 @@
 use Rattle.std.specs.Prelude.{ℕ, suc, ◌≡◌, ◌-◌, ◌<◌, ◌≤◌, ◌⊎◌, Bool, true, false, ◌&&◌, nat_eq, List, [], ◌∷◌, length, get_or}
 use Rattle.std.specs.List.{AllByRecursion}
 use Rattle.std.specs.Str.{bytes_eq}
+use Rattle.tpi_records.specs.Records.{IsRecord}
 use Rattle.cv_leaves.specs.Checks.{places_of}
-use Rattle.type_trees.specs.References.{IsWhole, references, blanked}
+use Rattle.cv_leaves.specs.References.{references, blanked}
+use Rattle.cv_leaves.specs.HasPlaces.{IsChecked}
 
 mutual
   -- a type: a blank record, and a branch for each of its places
@@ -41,9 +43,9 @@ trees_in (simple n bs) = trees_in bs
 trees_in (branch t bs) = t ∷ trees_in bs
 
 abbrev mutual
-  -- the tree is closed: a whole record that has places, with zeros there, and a branch for each, a number below 0x1000 or a closed tree
+  -- the tree is closed: its blank is a record with its framing and its places, with zeros there, and it has a branch for each place, a number below 0x1000 or a closed tree
   pub IsClosed : Tree → Type 0
-  IsClosed (tree b bs) = IsWhole b × (blanked b ≡ b) × (length (places_of b) ≡ count bs) × AreClosed bs
+  IsClosed (tree b bs) = IsRecord b × IsChecked b × (blanked b ≡ b) × (length (places_of b) ≡ count bs) × AreClosed bs
 
   -- so are the trees among the branches, and the numbers are simple
   pub AreClosed : Branches → Type 0

@@ -1,7 +1,9 @@
 //! Canonical lists of types.
 
-ghost use Rattle.std.specs.Prelude.{◌≡◌, ◌⊎◌, ◌↔◌, ◌^◌, ◌<◌, ◌≤◌, [], IsTrue, ℕ, List, length, option_map, slice_get, IfOk, IfErr};
+ghost use Rattle.std.specs.Prelude.{◌≡◌, ◌⊎◌, ◌↔◌, ◌^◌, ◌<◌, ◌≤◌, [], IsTrue, ℕ, List, length, option_map, slice_get, IfOk, IfErr, IfSome};
 ghost use Rattle.std.specs.List.{concat};
+ghost use Rattle.tpi_records.specs.Records.{IsRecord};
+ghost use Rattle.cv_leaves.specs.HasPlaces.{IsChecked};
 ghost use Rattle.type_trees.specs.Tree.{Tree, IsType};
 ghost use Rattle.type_trees.specs.Canon.{weight};
 ghost use Rattle.type_trees.specs.Table.{IsUnion};
@@ -86,12 +88,15 @@ impl<A: Allocator> Canon<A> {
         self.texts.len() == 0
     }
 
-    /// The record at a position, whole: from its length field on.
+    /// The record at a position, whole: from its length field on, which says how long the record
+    /// is. [`cv_leaves::check`] accepts it.
     ///
     /// Positions count from 0. The answer is `None` at a position that no record has.
     #[tactic(auto, using(crate::proofs::CanonTableLaws::there))]
     pub fn get(&self, position: usize) -> Option<&[u8]>
-        ensures { option_map (λ r. r.now) result ≡ slice_get self.now position }
+        ensures value { option_map (λ r. r.now) result ≡ slice_get self.now position }
+        ensures framed { IfSome result (λ r. IsRecord r.now) }
+        ensures checked { IfSome result (λ r. IsChecked r.now) }
     {
         if position < self.texts.len() {
             return Some(self.texts.get(position));

@@ -40,7 +40,7 @@ impl<'a, A: Allocator> Iterator for CanonRecords<'a, A> {
 
     ghost remaining = { item_count (λ s. s) };
 
-    #[tactic(auto, using(tpi_records::proofs::TableLaws::drop_first, std::proofs::lemmas::List::drop_all))]
+    #[tactic(auto, using(crate::proofs::CanonTableLaws::drop_first, std::proofs::lemmas::List::drop_all))]
     fn next(&mut self) -> Option<&'a [u8]> {
         if self.canon.len() <= self.position {
             return None;

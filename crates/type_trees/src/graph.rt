@@ -7,7 +7,6 @@ ghost use Rattle.cv_leaves.specs.HasPlaces.{IsChecked};
 ghost use Rattle.type_trees.specs.Named.{named_by, graph_of};
 
 use crate::reference::FIRST_INDEX;
-use byte_fields::u16_at;
 use cv_leaves::{places, ref_at};
 use std::alloc::{AllocError, Allocator};
 use topological_order::Graph;
@@ -19,8 +18,6 @@ fn list_named<A: Allocator>(named: &mut Vec<u32, A>, bytes: &[u8]) -> Result<(),
     requires checked { IsChecked bytes.now }
     ensures { OnOk result (named.new.items ≡ named_by bytes.now) }
 {
-    // The proof learns here that the length field is below 2^16.
-    let _ = u16_at(bytes, 0);
     named.clear();
     for place in places(bytes) {
         if let Some(position) = ref_at(bytes, place).checked_sub(FIRST_INDEX) {

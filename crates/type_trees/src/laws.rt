@@ -6,8 +6,7 @@
 
 ghost use Rattle.type_trees.specs.Laws.{OneTreeEach, BranchesAreTypes, OneCycle, CyclesHaveNoRank, TextsDiffer, OneCanonicalList, CanonicalReadsBack, WeightOfTexts, WeightGrows};
 
-/// Exactly one tree stands at each position of records that have places, where each record has a
-/// higher rank than those that it names. That tree is closed.
+/// There is exactly one tree at each position of records that make types, and it is closed.
 pub fn one_tree_each()
     ensures { OneTreeEach }
 {}
@@ -38,8 +37,8 @@ pub fn one_canonical_list()
     ensures { OneCanonicalList }
 {}
 
-/// The texts of a canonical list are good records. Each of its trees
-/// stands there at its position, and no other tree does.
+/// The texts of a canonical list are good records: each is whole and has places. Each tree of
+/// the list is at its position there, and no other tree is.
 pub fn canonical_reads_back()
     ensures { CanonicalReadsBack }
 {}

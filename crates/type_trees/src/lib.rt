@@ -2,10 +2,9 @@
 //!
 //! A type record names other types by type indices: those below 0x1000 are *simple* types, and
 //! `0x1000 + i` is the record at position i. What a record means is a *closed tree*: the record
-//! with zeros at its places (it is *blank* then), and for each place a branch, which is the simple
-//! number that stands there or the tree of the record that it names. Two records mean the same
-//! type exactly where their trees are equal. No tree is ever built here: trees are words of the
-//! contracts.
+//! with zeros at its places (its *blank*), and for each place a branch: the simple number that is
+//! there, or the tree of the record that it names. Two records mean the same type exactly where
+//! their trees are equal. No tree is ever built here: trees are words of the contracts.
 //!
 //! - [`Types::check`] makes sure that each record has places, that each reference is simple or
 //!   names a record, and that no record leads into a cycle of references. [`TypeFault`] is the
@@ -20,13 +19,14 @@
 //!   by their positions in the list. Equal sets have equal canonical lists.
 //!
 //! What is proved: records are accepted exactly where they make types (`AreTypes` of
-//! `specs/Checked`: some rank makes each record higher than those that it names), unless memory is
-//! refused; a refusal names the first check that fails, and for a cycle exactly the records that
-//! lead into one (`IsCycle`); each depth is that of the tree that stands there; a table and a
-//! canonical list hold exactly the types that were put into them. The [`laws`] say that exactly one
-//! closed tree stands at each position, that each tree branch of a type is a type, that records
-//! with a cycle have no rank, and that a set of types has one canonical list, which reads back as
-//! that set. Nothing recurses along references: a record is looked at after those that it names.
+//! `specs/Checked`: each record is whole and has places, and some rank makes each record higher
+//! than those that it names), unless memory is refused. A refusal names the first check that fails,
+//! and for a cycle exactly the records that lead into one (`IsCycle`). Each record that is handed
+//! out is whole and has places. Each depth is that of the tree at that position. A
+//! table and a canonical list hold exactly the types that were put into them. The [`laws`] say that
+//! there is exactly one tree at each position of records that make types, and that it is closed;
+//! that each tree branch of a type is a type; that records with a cycle have no rank; and that a
+//! set of types has one canonical list, which reads back as that set. Nothing recurses along references: a record is looked at after those that it names.
 #![tactic(auto)]
 
 mod canon;

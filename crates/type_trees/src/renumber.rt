@@ -3,11 +3,10 @@
 ghost use Rattle.std.specs.Prelude.{◌≡◌, ◌⊎◌, ◌≤◌, ◌<◌, ◌+◌, ◌-◌, ◌^◌, ℕ, length, get_or};
 ghost use Rattle.tpi_records.specs.Records.{IsRecord};
 ghost use Rattle.cv_leaves.specs.HasPlaces.{IsChecked};
-ghost use Rattle.type_trees.specs.References.{references};
+ghost use Rattle.cv_leaves.specs.References.{references};
 ghost use Rattle.type_trees.specs.Table.{renumber_one, renumbered, AreNumbered};
 
 use crate::reference::FIRST_INDEX;
-use byte_fields::u16_at;
 use cv_leaves::{places, ref_at, set_ref};
 
 /// The new type index for a reference. A simple one stays as it is.
@@ -30,8 +29,6 @@ pub fn renumber(bytes: &[u8], numbers: &[u32], copy: &mut [u8])
     requires same { copy.old ≡ bytes.now }
     ensures { copy.new ≡ renumbered (λ k. get_or numbers.now k 0) bytes.now }
 {
-    // The proof learns here that the length field is below 2^16.
-    let _ = u16_at(bytes, 0);
     for place in places(bytes) {
         let to = number_for(ref_at(bytes, place), numbers);
         set_ref(copy, place, to);

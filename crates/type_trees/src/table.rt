@@ -5,10 +5,11 @@ ghost use Rattle.std.specs.List.{AllByRecursion, concat};
 ghost use Rattle.tpi_records.specs.Records.{IsRecord};
 ghost use Rattle.cv_leaves.specs.HasPlaces.{IsChecked};
 ghost use Rattle.text_set.specs.TextSet.{Holds};
-ghost use Rattle.type_trees.specs.References.{references};
+ghost use Rattle.cv_leaves.specs.References.{references};
 ghost use Rattle.type_trees.specs.Tree.{Tree, IsType};
 ghost use Rattle.type_trees.specs.Canon.{weight};
-ghost use Rattle.type_trees.specs.Table.{AreBytes, IsTable, IsUnion, AreNumbered, renumbered};
+ghost use Rattle.byte_fields.specs.Bytes.{AreBytes};
+ghost use Rattle.type_trees.specs.Table.{IsTable, IsUnion, AreNumbered, renumbered};
 ghost use Rattle.type_trees.specs.Merge.{Adds};
 ghost use Rattle.type_trees.specs.Finish.{IsCanon, IsCanonOf};
 

@@ -4,23 +4,23 @@ ghost use Rattle.std.specs.Prelude.{◌≡◌, ◌↔◌, ◌≤◌, ◌<◌, �
 ghost use Rattle.std.specs.List.{AllByRecursion, concat};
 ghost use Rattle.byte_fields.specs.Check.{Makes};
 ghost use Rattle.tpi_records.specs.Records.{IsRecord};
+ghost use Rattle.cv_leaves.specs.HasPlaces.{IsChecked};
 ghost use Rattle.topological_order.specs.Order.{IsOrder};
-ghost use Rattle.type_trees.specs.References.{references};
 ghost use Rattle.type_trees.specs.Tree.{Tree, Stands, IsRanked};
 ghost use Rattle.type_trees.specs.Named.{graph_of};
 ghost use Rattle.type_trees.specs.Depth.{depth, HasLevels};
-ghost use Rattle.type_trees.specs.Checked.{AreTypes, NamesThere, type_checks, checks_of, IsTypeFault};
+ghost use Rattle.type_trees.specs.Checked.{AreTypes, checks_of, IsTypeFault};
 
 use crate::depth::measure;
 use crate::fault::{RecordFault, TypeFault};
 use crate::order::{InOrder, Order, arrange};
 use crate::reference::check_record;
-use byte_fields::u16_at;
 use std::alloc::{Allocator, Global};
 use std::marker::Model;
 use tpi_records::Records;
 
-/// The type records of a file. Each has places, and no record leads into a cycle of references.
+/// The type records of a file. Each is whole and has places, and no record leads into a cycle of
+/// references.
 ///
 /// Returned by [`Types::check`]. It keeps the records and four bytes for each, its depth. Where a
 /// record names a later one it keeps four more bytes for each, their order.
@@ -47,20 +47,9 @@ impl<'a, A: Allocator> Model for Types<'a, A> {
     ghost invariant = { λ t. AreTypes t.records × IsOrder (graph_of t.records) (order_list (length t.records) t.order) × (length t.depths.items ≡ length t.records) × AreDepths t.records t.depths.items × HasLevels t.records t.levels };
 }
 
-/// Checks a record that begins with its length.
-fn check_framed(many: usize, position: usize, bytes: &[u8]) -> Result<bool, RecordFault>
-    requires few { (position < many) × (many ≤ 2 ^ 30) }
-    requires framed { IsRecord bytes.now }
-    ensures first { Makes result (type_checks many position bytes.now) }
-    ensures lower { IfOk result (λ lower. IsTrue lower → NamesThere position (references bytes.now)) }
-{
-    // The proof learns here that the length field is below 2^16.
-    let _ = u16_at(bytes, 0);
-    check_record(many, position, bytes)
-}
-
 /// Checks all records, in order, and tells whether each names earlier records alone.
 fn check_all<A: Allocator>(records: &Records<'_, A>) -> Result<bool, RecordFault>
+    ensures framed { AllByRecursion IsRecord records.now }
     ensures first { Makes result (checks_of records.now) }
     ensures lower { IfOk result (λ lower. IsTrue lower → IsRanked records.now (λ i. i)) }
 {
@@ -68,7 +57,7 @@ fn check_all<A: Allocator>(records: &Records<'_, A>) -> Result<bool, RecordFault
     let mut position = 0;
     let mut all_lower = true;
     for bytes in records.iter() {
-        let lower = check_framed(many, position, bytes)?;
+        let lower = check_record(many, position, bytes)?;
         all_lower = all_lower && lower;
         position += 1;
     }
@@ -112,7 +101,6 @@ impl<'a, A: Allocator> Types<'a, A> {
     pub fn len(&self) -> usize
         ensures value { result ≡ length self.now }
         ensures types { AreTypes self.now }
-        ensures each { AllByRecursion IsRecord self.now }
         // The type index of each fits a u32.
         ensures few { result < 2 ^ 30 }
     {
@@ -126,11 +114,14 @@ impl<'a, A: Allocator> Types<'a, A> {
         self.records.is_empty()
     }
 
-    /// The record at a position, whole: from its length field on.
+    /// The record at a position, whole: from its length field on, which says how long the record
+    /// is. [`cv_leaves::check`] accepts it.
     ///
     /// Positions count from 0. The answer is `None` at a position that no record has.
     pub fn get(&self, i: usize) -> Option<&'a [u8]>
-        ensures { option_map (λ r. r.now) result ≡ slice_get self.now i }
+        ensures value { option_map (λ r. r.now) result ≡ slice_get self.now i }
+        ensures framed { IfSome result (λ r. IsRecord r.now) }
+        ensures checked { IfSome result (λ r. IsChecked r.now) }
     {
         self.records.get(i)
     }
@@ -139,7 +130,8 @@ impl<'a, A: Allocator> Types<'a, A> {
     ///
     /// It takes no memory.
     pub fn in_order(&self) -> InOrder<'_>
-        ensures { IsOrder (graph_of self.now) result }
+        ensures types { AreTypes self.now }
+        ensures order { IsOrder (graph_of self.now) result }
     {
         self.order.positions(self.records.len())
     }

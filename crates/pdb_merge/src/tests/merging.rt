@@ -19,7 +19,7 @@ use tpi_records::tpi_header_bytes;
 use type_trees::Canon;
 
 /// How many bytes the types of a file may have together, where nothing else is said.
-pub const LIMIT: u32 = 1_073_741_824;
+pub(super) const LIMIT: u32 = 1_073_741_824;
 
 /// The GUID 00112233-4455-6677-8899-aabbccddeeff, as it is stored.
 const GUID: [u8; 16] = [
@@ -27,22 +27,22 @@ const GUID: [u8; 16] = [
 ];
 
 /// A pointer to an int.
-pub const P: &[u8] = b"\x0a\0\x02\x10\x74\0\0\0\x0c\0\x01\0";
+pub(super) const P: &[u8] = b"\x0a\0\x02\x10\x74\0\0\0\x0c\0\x01\0";
 
 /// A const int.
-pub const M: &[u8] = b"\x0a\0\x01\x10\x74\0\0\0\x01\0\xf2\xf1";
+pub(super) const M: &[u8] = b"\x0a\0\x01\x10\x74\0\0\0\x01\0\xf2\xf1";
 
 /// A volatile int.
 const V: &[u8] = b"\x0a\0\x01\x10\x74\0\0\0\x02\0\xf2\xf1";
 
 /// Pointers to the first five records.
-pub const Q0: &[u8] = b"\x0a\0\x02\x10\0\x10\0\0\x0c\0\x01\0";
+pub(super) const Q0: &[u8] = b"\x0a\0\x02\x10\0\x10\0\0\x0c\0\x01\0";
 
-pub const Q1: &[u8] = b"\x0a\0\x02\x10\x01\x10\0\0\x0c\0\x01\0";
+pub(super) const Q1: &[u8] = b"\x0a\0\x02\x10\x01\x10\0\0\x0c\0\x01\0";
 
-pub const Q2: &[u8] = b"\x0a\0\x02\x10\x02\x10\0\0\x0c\0\x01\0";
+pub(super) const Q2: &[u8] = b"\x0a\0\x02\x10\x02\x10\0\0\x0c\0\x01\0";
 
-pub const Q3: &[u8] = b"\x0a\0\x02\x10\x03\x10\0\0\x0c\0\x01\0";
+pub(super) const Q3: &[u8] = b"\x0a\0\x02\x10\x03\x10\0\0\x0c\0\x01\0";
 
 const Q4: &[u8] = b"\x0a\0\x02\x10\x04\x10\0\0\x0c\0\x01\0";
 
@@ -95,12 +95,12 @@ const ROWS: [Row; 16] = [
 ];
 
 /// Settings with this limit.
-pub fn settings(limit: u32) -> Result<Settings, Fail> {
+pub(super) fn settings(limit: u32) -> Result<Settings, Fail> {
     Ok(Settings::new(guid_of(GUID), 1, limit).ok_or("no settings")?)
 }
 
 /// A hasher of a fixed seed.
-pub fn hasher() -> BuildHasherDefault<FoldHasher> {
+pub(super) fn hasher() -> BuildHasherDefault<FoldHasher> {
     BuildHasherDefault::new()
 }
 
@@ -124,12 +124,12 @@ fn write_two<'a>(
 }
 
 /// A file with these records.
-pub fn file_of(alloc: Global, records: &[&[u8]]) -> Result<Vec<u8>, Fail> {
+pub(super) fn file_of(alloc: Global, records: &[&[u8]]) -> Result<Vec<u8>, Fail> {
     file_with(alloc, records.len(), &joined(alloc, records)?)
 }
 
 /// A file with the bytes of this many records.
-pub fn file_with(alloc: Global, count: usize, bytes: &[u8]) -> Result<Vec<u8>, Fail> {
+pub(super) fn file_with(alloc: Global, count: usize, bytes: &[u8]) -> Result<Vec<u8>, Fail> {
     if count > 20_000 || bytes.len() > 300_000 {
         return Err("too many records for a test".into());
     }
@@ -142,7 +142,7 @@ pub fn file_with(alloc: Global, count: usize, bytes: &[u8]) -> Result<Vec<u8>, F
 }
 
 /// Merges files, and says what was answered and written.
-pub fn merged(
+pub(super) fn merged(
     alloc: Global,
     files: &[&[u8]],
     limit: u32,

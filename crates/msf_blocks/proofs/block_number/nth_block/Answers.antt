@@ -1,4 +1,5 @@
-use Rattle.msf_blocks.proofs.BlockLaws.{big_enough, nth_is_data, data_below, rank_is}
+use Rattle.msf_blocks.proofs.SizeLaws.{big_enough}
+use Rattle.msf_blocks.proofs.BlockLaws.{nth_is_data, data_below, rank_is}
 use Rattle.msf_blocks.proofs.block_number.nth_block.Goals as goal
 
 pub returns : goal.returns

@@ -1,6 +1,5 @@
-use Rattle.std.proofs.Common.{arith}
 use Rattle.pdb_merge.proofs.FileLaws.{merged_has}
 use Rattle.pdb_merge.proofs.laws.merged_has.Goals as goal
 
 pub returns : goal.returns
-returns c = merged_has c.args.settings.now (rw c.guid.ensures.value at c.guid.ensures.whole) (omega (arith, c.limit.ensures.value, c.limit.ensures.fits))
+returns c = merged_has c.args.settings.now c.guid.ensures.settings

@@ -1,6 +1,5 @@
-use Rattle.std.proofs.Common.{arith}
 use Rattle.pdb_merge.proofs.FileLaws.{merged_reads_back}
 use Rattle.pdb_merge.proofs.laws.merged_reads_back.Goals as goal
 
 pub returns : goal.returns
-returns c = merged_reads_back c.args.settings.now (rw c.guid.ensures.value at c.guid.ensures.whole) (omega (arith, c.limit.ensures.value, c.limit.ensures.fits))
+returns c = merged_reads_back c.args.settings.now c.guid.ensures.settings

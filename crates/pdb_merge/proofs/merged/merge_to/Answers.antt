@@ -1,4 +1,4 @@
-use Rattle.std.proofs.Common.{◌≡◌, ◌∙◌, sym, arith, true}
+use Rattle.std.proofs.Common.{◌≡◌, ◌∙◌, sym, true}
 use Rattle.std.proofs.lemmas.Result.{err_from_is_err_and}
 use Rattle.msf_streams.specs.Image.{texts_of}
 use Rattle.pdb_merge.specs.Union.{HasType}
@@ -16,18 +16,18 @@ merge_injective a b same = cc
 pub write_canon-requires : goal.write_canon-requires
 write_canon-requires g c =
     let P = HasType (texts_of c.args.files.now) in
-    let within = within_more P c.args.settings.now.limit 1073741824 (omega (arith, c.limit.ensures.value, c.limit.ensures.fits)) c.in_ok-canon.ensures.can.within in
+    let within = within_more P c.args.settings.now.limit 1073741824 c.guid.ensures.settings.limit_fits c.in_ok-canon.ensures.can.within in
     canon_within P c.in_ok-canon.canon 1073741824 c.in_ok-canon.ensures.value within
 
 pub returns-clause-value : goal.returns-clause-value
 returns-clause-value g c =
     wrote (texts_of c.args.files.now) c.args.settings.now c.in_ok-canon.canon (g.W.Sink.taken c.args.out.now) (g.W.Sink.taken c.write_canon.new.out) c.write_canon.result
-    (rw c.guid.ensures.value at c.guid.ensures.whole) (omega (arith, c.limit.ensures.value, c.limit.ensures.fits)) c.in_ok-canon.ensures.can.within c.in_ok-canon.ensures.value c.write_canon.ensures.value
+    c.guid.ensures.settings c.in_ok-canon.ensures.can.within c.in_ok-canon.ensures.value c.write_canon.ensures.value
 
 pub returns-clause-write : goal.returns-clause-write
 returns-clause-write g c =
     wrote_part (texts_of c.args.files.now) c.args.settings.now c.in_ok-canon.canon (g.W.Sink.taken c.args.out.now) (g.W.Sink.taken c.write_canon.new.out) (g.W.Sink.is_broken c.write_canon.new.out ≡ true) _ c.write_canon.result
-    (rw c.guid.ensures.value at c.guid.ensures.whole) (omega (arith, c.limit.ensures.value, c.limit.ensures.fits)) c.in_ok-canon.ensures.can.within c.in_ok-canon.ensures.value c.write_canon.ensures.write
+    c.guid.ensures.settings c.in_ok-canon.ensures.can.within c.in_ok-canon.ensures.value c.write_canon.ensures.write
 
 pub returns-in_err-canon-clause-any_order : goal.returns-in_err-canon-clause-any_order
 returns-in_err-canon-clause-any_order g c =

@@ -1,7 +1,6 @@
-use Rattle.std.proofs.Common.{arith}
 use Rattle.pdb_merge.proofs.AcceptedLaws.{wants_memory}
 use Rattle.pdb_merge.proofs.read.read_types.Goals as goal
 
 pub returns-clause-found : goal.returns-clause-found
 returns-clause-found g c = λ records is.
-    wants_memory c.args.file.now records c.types.result (λ i. omega (arith, c.type_inv.file i)) is c.types.ensures.first
+    wants_memory c.args.file.now records c.types.result is c.types.ensures.first

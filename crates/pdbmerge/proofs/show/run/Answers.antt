@@ -1,5 +1,12 @@
 use Rattle.std.proofs.Common.{string_bytes}
+use Rattle.std.proofs.lemmas.Result.{err_from_is_err_and}
+use Rattle.pdbmerge.proofs.InputLaws.{read_refused}
 use Rattle.pdbmerge.proofs.show.run.Goals as goal
+
+pub returns-in_err-file-clause-read : goal.returns-in_err-file-clause-read
+returns-in_err-file-clause-read g c =
+    let p = err_from_is_err_and c.from_residual.result c.from_residual.ensures.1 in
+    rw p.1 (read_refused _ _ _ c.args.limit c.in_err-file.field-0.0 p.0 p.2 c.in_err-file.ensures.first)
 
 pub returns-in_err-put_all-clause-write : goal.returns-in_err-put_all-clause-write
 returns-in_err-put_all-clause-write g c = λ _.

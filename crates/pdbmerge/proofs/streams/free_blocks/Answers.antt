@@ -1,5 +1,6 @@
 use Rattle.std.proofs.Common.{arith}
-use Rattle.pdbmerge.specs.Streams.{free_blocks, is_known_free}
+use Rattle.msf_blocks.specs.FreeMap.{is_free}
+use Rattle.pdbmerge.specs.Streams.{free_blocks}
 use Rattle.pdbmerge.proofs.StreamsLaws.{count_whole}
 use Rattle.pdbmerge.proofs.streams.free_blocks.Goals as goal
 
@@ -7,4 +8,4 @@ pub returns : goal.returns
 unfolding free_blocks
 returns c =
     let superblock = c.args.superblock.now in
-    count_whole (is_known_free c.args.file.now superblock) superblock.num_blocks c.loop-block.block c.loop-block.free c.loop-block.invariant.counted (grind arith)
+    count_whole (is_free c.args.file.now superblock) superblock.num_blocks c.loop-block.block c.loop-block.free c.loop-block.invariant.counted (grind arith)

@@ -23,4 +23,4 @@ returns-then-left-whole-clause-first c =
     (refl, inr ((omega (arith, field), omega (arith, field)), omega (arith, field, length-drop c.args.start c.args.bytes.now)))
 
 pub returns-clause-value : goal.returns-clause-value
-returns-clause-value c = is_record c.args.bytes.now c.args.start (c.from-whole.result + 2) (omega arith) (omega arith) c.if-whole-ne0.false (omega arith)
+returns-clause-value c = is_record c.args.bytes.now c.args.start (c.from-whole.result + 2) (omega arith) (omega arith) (omega (arith, c.if-whole-ne0.false)) c.if-whole-ne0.false (omega arith)

@@ -1,5 +1,6 @@
-use Rattle.std.proofs.Common.{◌≡◌, ◌+◌, ◌*◌, ◌-◌, ◌≤◌, length, drop}
-use Rattle.tpi_records.specs.Records.{Begins, IsTable, records_at}
+use Rattle.std.proofs.Common.{◌≡◌, ◌+◌, ◌*◌, ◌-◌, ◌≤◌, All, length, drop}
+use Rattle.byte_fields.specs.Number.{number_at}
+use Rattle.tpi_records.specs.Records.{Begins, records_at}
 use Rattle.tpi_records.proofs.records.record_starts.Given as goal
 
 abbrev pub invariant-loop-start : goal.invariant-loop-start
@@ -7,7 +8,7 @@ invariant-loop-start g l = record {
   inside : l.start ≤ length l.bytes;
   few : 4 * length l.starts.items ≤ l.start;
   numbered : l.index ≡ 0x1000 + length l.starts.items;
-  table : IsTable l.bytes l.starts.items;
+  fit : All (λ start. start + number_at 2 l.bytes start + 2 ≤ length l.bytes) l.starts.items;
   begins : Begins l.bytes (records_at l.bytes l.starts.items) (drop l.start l.bytes);
 }
 

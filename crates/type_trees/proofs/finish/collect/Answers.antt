@@ -1,5 +1,5 @@
 use Rattle.std.proofs.Common.{◌≡◌, ◌<◌, [], None, get_or, length, refl, arith, rules}
-use Rattle.type_trees.specs.References.{references}
+use Rattle.cv_leaves.specs.References.{references}
 use Rattle.text_set.proofs.TextSetLaws.{bound, bound_of, bound_none, smaller}
 use Rattle.type_trees.proofs.AddLaws.{renumbered_long}
 use Rattle.type_trees.proofs.FinishLaws.{collected_first, collected_next, next_here, all_collected, names_numbered, rows_few, rows_short, rows_more, table_small}
@@ -14,6 +14,11 @@ loop-candidate-init g c =
       found = rw c.new-positions.ensures.items (collected_first c.args.depths.now c.args.level n.result n.ensures.last n.ensures.none);
       short = rw c.new-rows.ensures (omega arith);
     }
+
+pub push_row-requires-clause-checked : goal.push_row-requires-clause-checked
+push_row-requires-clause-checked g c =
+    let here = rw c.in-Some.is at c.loop-candidate.invariant.here in
+    rw c.get.ensures (c.requires.table.good.checked c.in-Some.position (omega (arith, here.0, c.requires.many)))
 
 pub push_row-requires-clause-named : goal.push_row-requires-clause-named
 push_row-requires-clause-named g c =
@@ -52,7 +57,7 @@ loop-candidate-preserved g c =
       rows = rw (row_pushed, pushed) (rows_more r c.loop-candidate.rows (λ n. get_or c.args.numbers.now n 0) c.loop-candidate.positions.items k so_far.rows);
       found = rw pushed (collected_next c.args.depths.now c.args.level k o.result c.loop-candidate.positions.items (rw (c.in-Some.is, bound_of k) at so_far.found) here.0 here.1 o.ensures.found o.ensures.last o.ensures.none);
       short = rw row_pushed (rows_short r c.loop-candidate.rows _ (bound o.result) k (rw (c.in-Some.is, bound_of k) at so_far.short) (omega (arith, less)) inside
-          (renumbered_long _ (get_or r k []) (c.requires.table.good.framed k inside) (c.requires.table.good.checked k inside).0));
+          (renumbered_long _ (get_or r k []) (c.requires.table.good.checked k inside)));
     }
 
 pub returns-clause-level : goal.returns-clause-level

@@ -1,11 +1,17 @@
 use Rattle.std.proofs.Common.{◌≡◌, ◌++◌, [], ◌∷◌, ◌≤◌, ◌+◌, max, get_or, length, ap, arith, rules, length-append}
-use Rattle.type_trees.specs.References.{references}
+use Rattle.cv_leaves.specs.References.{references}
 use Rattle.type_trees.specs.Depth.{depth_above, AreDepths}
 use Rattle.type_trees.proofs.CheckLaws.{names_lower}
 use Rattle.type_trees.proofs.TreeLaws.{tree_there}
 use Rattle.type_trees.proofs.DepthLaws.{depths_more, levels_more, bounded_more}
 use Rattle.type_trees.proofs.FinishLaws.{table_small}
 use Rattle.type_trees.proofs.finish.depths_of.Goals as goal
+
+pub depth_of-depth-requires-clause-checked : goal.depth_of-depth-requires-clause-checked
+depth_of-depth-requires-clause-checked g c =
+    let k = c.loop-position.position in
+    let below : k + 1 ≤ length c.args.table.now = search rules in
+    rw c.get.ensures (c.requires.table.good.checked k (omega (arith, below)))
 
 pub depth_of-depth-requires-clause-bounded : goal.depth_of-depth-requires-clause-bounded
 depth_of-depth-requires-clause-bounded g c =

@@ -1,6 +1,6 @@
 use Rattle.std.proofs.Common.{◌≡◌, ◌≤◌, ◌+◌, ◌<◌, ◌∷◌, [], ◌∙◌, arith, length, rules, inl, inr}
 use Rattle.std.proofs.lemmas.Bool.{cases_lt}
-use Rattle.type_trees.specs.References.{reference_at}
+use Rattle.cv_leaves.specs.References.{reference_at}
 use Rattle.type_trees.proofs.CheckLaws.{own_fit, each_other}
 use Rattle.type_trees.proofs.NamedLaws.{named_all, named_simple, named_more, named_whole}
 use Rattle.type_trees.proofs.graph.list_named.Goals as goal
@@ -9,7 +9,7 @@ pub loop-place-init : goal.loop-place-init
 loop-place-init g c =
     let r = c.args.bytes.now in
     let left : c.into_iter-place-iterator.result ≡ c.places-place-items.result = search rules in
-    let own = own_fit r c.places-place-items.result c.requires.framed.long c.places-place-items.ensures in
+    let own = own_fit r c.places-place-items.result c.places-place-items.ensures in
     record { rest = rw c.clear.ensures.items (named_all r c.into_iter-place-iterator.result [] (left ∙ own.0)); fit = rw left own.1 }
 
 pub returns : goal.returns

@@ -1,6 +1,6 @@
 use Rattle.std.proofs.Common.{◌≡◌, ◌≤◌, ◌+◌, ◌∷◌, ◌∙◌, ap, get_or, length, rules}
 use Rattle.cv_leaves.specs.Checks.{places_of}
-use Rattle.type_trees.specs.References.{reference_at}
+use Rattle.cv_leaves.specs.References.{reference_at}
 use Rattle.type_trees.specs.Table.{renumber_one}
 use Rattle.type_trees.proofs.CheckLaws.{own_fit, each_other}
 use Rattle.type_trees.proofs.RenumberLaws.{all_left, all_named, one_left, first_in, others_in, none_left}
@@ -10,7 +10,7 @@ pub loop-place-init : goal.loop-place-init
 loop-place-init c =
     let r = c.args.bytes.now in
     let left : c.into_iter-place-iterator.result ≡ c.places-place-items.result = search rules in
-    let own = own_fit r c.places-place-items.result c.requires.framed.long c.places-place-items.ensures in
+    let own = own_fit r c.places-place-items.result c.places-place-items.ensures in
     record {
       rest = all_left r _ _ _ (left ∙ own.0) c.requires.same;
       has = rw (c.requires.same, ← own.0) c.places-place-items.ensures;

@@ -6,7 +6,7 @@ pub loop-position-init : goal.loop-position-init
 loop-position-init g c =
     let zeros : c.in_ok-positions.positions.items ≡ replicate c.len.result 0 = search rules in
     rw c.into_iter-position-iterator.ensures.into_iter_gives
-    (adding_starts c.args.types.now c.in_order-position-items.result c.args.texts.now c.len.result c.in_ok-positions.positions.items c.requires.table c.requires.short (omega (arith, c.bytes_len.ensures, c.bytes_len.type_inv)) c.in_order-position-items.ensures c.len.ensures.value zeros)
+    (adding_starts c.args.types.now c.in_order-position-items.result c.args.texts.now c.len.result c.in_ok-positions.positions.items c.requires.table c.requires.short (omega (arith, c.bytes_len.ensures, c.bytes_len.type_inv)) c.in_order-position-items.ensures.order c.len.ensures.value zeros)
 
 pub record_at-bytes-requires : goal.record_at-bytes-requires
 record_at-bytes-requires g c =
@@ -30,7 +30,7 @@ loop-position-preserved g c =
     let so_far = c.loop-position in
     let ok = c.in_ok-last.ensures in
     let read : c.record_at-bytes.result.now ≡ get_or c.args.types.now c.in-Some.position [] = c.record_at-bytes.ensures.value ∙ ap (λ (rs : List (List ℕ)). get_or rs c.in-Some.position []) c.records.ensures in
-    adding_more c.args.types.now so_far.position-iterator c.next.new.self c.args.texts.now so_far.texts c.add_record.new.texts so_far.positions.items c.in-Some.position c.in_ok-last.last c.len.ensures.types c.len.ensures.each so_far.invariant c.in-Some.ensures.steps
+    adding_more c.args.types.now so_far.position-iterator c.next.new.self c.args.texts.now so_far.texts c.add_record.new.texts so_far.positions.items c.in-Some.position c.in_ok-last.last c.len.ensures.types so_far.invariant c.in-Some.ensures.steps
     (rw (c.deref.ensures.value, read) at ok.bytes) (rw (c.deref.ensures.value, read) at ok.holds) ok.at.0 (rw (c.deref.ensures.value, read) at ok.at.1)
 
 pub returns-clause-ok : goal.returns-clause-ok

@@ -1,5 +1,6 @@
 use Rattle.std.proofs.Common.{rules, arith}
 use Rattle.std.proofs.lemmas.Grind.{common_steps}
+use Rattle.msf_blocks.proofs.SizeLaws.{size_decides}
 use Rattle.msf_blocks.proofs.SuperblockLaws.{magic_from_starts_with}
 use Rattle.msf_blocks.proofs.superblock.Superblock.read.Goals as goal
 
@@ -15,7 +16,7 @@ returns-clause-value c = record {
   block_map_addr_is = search rules;
   whole = grind arith;
   fit = record {
-    block_size_fits = grind (arith, common_steps);
+    block_size_fits = (size_decides _).0 (grind (arith, common_steps));
     free_map_block_fits = grind (arith, common_steps);
     directory_words = grind (arith, common_steps);
     directory_fits = grind (arith, common_steps);

@@ -3,10 +3,10 @@ use Rattle.pdb_merge.proofs.merge.Merge.add.Goals as goal
 
 pub returns-clause-taken : goal.returns-clause-taken
 returns-clause-taken g c =
-    taken_after c.args.self.now c.add_types.new.self c.args.file.now c.add_types.result c.are_bytes.ensures c.add_types.ensures.value c.add_types.ensures.within
+    taken_after c.args.self.now c.add_types.new.self c.args.file.now c.add_types.result c.add_types.ensures.value c.add_types.ensures.within
 
 pub returns-clause-stops : goal.returns-clause-stops
-returns-clause-stops g c = stops_after c.args.self.now c.args.file.now c.add_types.result c.are_bytes.ensures c.add_types.ensures.first
+returns-clause-stops g c = stops_after c.args.self.now c.args.file.now c.add_types.result c.add_types.ensures.first
 
 pub returns-clause-found : goal.returns-clause-found
-returns-clause-found g c = alone_after c.args.self.now c.args.file.now c.add_types.result c.are_bytes.ensures c.add_types.ensures.first
+returns-clause-found g c = alone_after c.args.self.now c.args.file.now c.add_types.result c.add_types.ensures.first

@@ -10,4 +10,4 @@ returns-clause-each g c =
     let start = c.in_ok-start.field-0.now in
     let starts = c.self.inside.starts.items in
     let there : slice_get starts c.args.position ≡ Some start = grind (arith, common_steps, gets, c.in_ok-start.ensures.lookup, c.deref.ensures.value) in
-    rw c.record_at.ensures (record_is c.self.inside.bytes.now starts c.args.position start c.self.invariant.0.each there)
+    rw c.record_at.ensures (record_is c.self.inside.bytes.now starts c.args.position start (rw (← c.self.invariant.1.are) c.self.invariant.0.each) there)

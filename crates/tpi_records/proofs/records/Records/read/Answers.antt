@@ -1,7 +1,8 @@
-use Rattle.std.proofs.Common.{inr}
+use Rattle.std.proofs.Common.{arith, inr, ap, length}
 use Rattle.std.proofs.lemmas.Result.{err_from_is_err_and}
-use Rattle.tpi_records.specs.Records.{records_at}
-use Rattle.tpi_records.proofs.StreamLaws.{no_fault, found_again, wants_memory}
+use Rattle.tpi_records.specs.Records.{records_in}
+use Rattle.tpi_records.proofs.CutLaws.{few_records}
+use Rattle.tpi_records.proofs.StreamLaws.{no_fault, found_again, wants_memory, has_few}
 use Rattle.tpi_records.proofs.records.Records.read.Goals as goal
 
 pub returns-in_err-bytes-clause-found : goal.returns-in_err-bytes-clause-found
@@ -25,4 +26,10 @@ pub returns-clause-value : goal.returns-clause-value
 returns-clause-value g c =
     let r = c.in_ok-bytes.ensures.value in
     let bytes = c.in_ok-bytes.bytes.now in
-    found_again c.args.stream.now bytes r.0 (records_at bytes c.in_ok-starts.starts.items) r.1 r.2 c.in_ok-starts.ensures.value
+    found_again c.args.stream.now bytes r.0 (records_in bytes) r.1 r.2 c.in_ok-starts.ensures.value
+
+pub returns-clause-few : goal.returns-clause-few
+returns-clause-few g c =
+    let r = c.in_ok-bytes.ensures.value in
+    let framed = c.in_ok-starts.ensures.framed in
+    omega (arith, few_records c.in_ok-bytes.bytes.now framed, has_few c.args.stream.now r.0 r.1, ap length r.2)

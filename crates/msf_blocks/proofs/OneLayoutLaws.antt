@@ -4,6 +4,7 @@ use Rattle.std.specs.List.{flat_map, AllByRecursion, All}
 use Rattle.std.proofs.lemmas.Grind.{flat_map-append}
 use Rattle.std.proofs.lemmas.List.{length-append, length-map, append_cancel_left}
 use Rattle.std.proofs.lemmas.List.Elements.{All-head, All-tail}
+use Rattle.byte_fields.specs.Bytes.{AreBytes}
 use Rattle.byte_fields.specs.Number.{four_bytes, words, word}
 use Rattle.byte_fields.proofs.NumberLaws.{word-words, length-words, number_at-small}
 use Rattle.msf_blocks.specs.BlockNumber.{IsOrdinary, blocks_for}
@@ -17,7 +18,7 @@ use Rattle.msf_blocks.proofs.DirectoryLaws.{text_length}
 abbrev IsSmall : ℕ → Type 0
 IsSmall n = n < 2 ^ 32
 
--- two numbers that are spelled at the front of one text are one, and so is what stands behind them
+-- two numbers that are spelled at the front of one text are one, and so is what follows them
 first_same : (m n : ℕ) (xs ys : List ℕ) → IsSmall m → IsSmall n → words (m ∷ []) ++ xs ≡ words (n ∷ []) ++ ys → (m ≡ n) × (xs ≡ ys)
 first_same m n xs ys small_m small_n e =
     let same : m ≡ n = sym (word-words (m ∷ []) xs 0 (omega arith) small_m) ∙ ap (λ (t : List ℕ). word t 0) e ∙ word-words (n ∷ []) ys 0 (omega arith) small_n in
@@ -112,6 +113,6 @@ one_layout_short file some other few bytes has_s has_o =
     rw (fields, streams) refl
 
 -- a file of bytes has one layout alone
-pub one_layout : (file : List ℕ) (some other : LayoutView) → ((i : ℕ) → get_or file i 0 < 256) → HasLayout file some → HasLayout file other → some ≡ other
+pub one_layout : (file : List ℕ) (some other : LayoutView) → AreBytes file → HasLayout file some → HasLayout file other → some ≡ other
 one_layout file some other bytes has_s has_o =
     one_layout_short file some other (rw (← has_s.superblock.num_blocks_is) (number_at-small file 40 bytes)) (rw (← has_s.superblock.directory_bytes_is) (number_at-small file 44 bytes)) has_s has_o

@@ -1,0 +1,116 @@
+-- Texts that are made of bytes: the parts of an image, and the streams of a file.
+use Rattle.std.proofs.Common.{◌≡◌, ℕ, zero, suc, ◌+◌, ◌-◌, ◌*◌, ◌/◌, ◌%◌, ◌<◌, true, nat_lt, nat_eq, min, List, [], ◌∷◌, ◌++◌, Option, Some, None, length, map, drop, get_or, refl, arith, inl, inr}
+use Rattle.std.specs.List.{AllByRecursion, range_with_len, flat_map, list_all, slice_get}
+use Rattle.std.specs.Prelude.{option_map}
+use Rattle.std.proofs.lemmas.Nat.{pow_pos}
+use Rattle.std.proofs.lemmas.Bool.{cases_Bool}
+use Rattle.std.proofs.lemmas.Bool.Decides.{nat_tests}
+use Rattle.byte_fields.specs.Bytes.{AreBytes}
+use Rattle.byte_fields.proofs.BytesLaws.{bytes_append, bytes_take, bytes_drop, words_are_bytes}
+use Rattle.byte_fields.specs.Number.{words}
+use Rattle.msf_blocks.specs.BlockNumber.{is_map_block, blocks_for, data_blocks}
+use Rattle.msf_blocks.specs.Superblock.{magic}
+use Rattle.msf_blocks.specs.Directory.{Listed, bytes_of}
+use Rattle.msf_blocks.specs.Layout.{LayoutView}
+use Rattle.msf_streams.specs.Stream.{gathered, text_of, stream_text}
+use Rattle.msf_streams.specs.Image.{filled, text_block, map_byte, map_block, image_block, laid_out, numbers, superblock_numbers, superblock_part, block_map_part, directory_part, directory_count, blocks_of_all, parts, image, image_blocks}
+use lib.ListN.{replicate}
+
+-- ---- texts of bytes
+
+bytes_nil : AreBytes []
+bytes_nil i = omega arith
+
+bytes_cons : (x : ℕ) (xs : List ℕ) → x < 256 → AreBytes xs → AreBytes (x ∷ xs)
+bytes_cons x xs lt each zero = lt
+bytes_cons x xs lt each (suc i) = each i
+
+bytes_flat_map : {X : Type 0} (f : X → List ℕ) (xs : List X) → ((x : X) → AreBytes (f x)) → AreBytes (flat_map f xs)
+bytes_flat_map f [] each = bytes_nil
+bytes_flat_map f (x ∷ xs) each = bytes_append (f x) (flat_map f xs) (each x) (bytes_flat_map f xs each)
+
+bytes_map : {X : Type 0} (f : X → ℕ) (xs : List X) → ((x : X) → f x < 256) → AreBytes (map f xs)
+bytes_map f [] each = bytes_nil
+bytes_map f (x ∷ xs) each = bytes_cons (f x) (map f xs) (each x) (bytes_map f xs each)
+
+bytes_replicate : (n byte : ℕ) → byte < 256 → AreBytes (replicate n byte)
+bytes_replicate zero byte lt = bytes_nil
+bytes_replicate (suc n) byte lt = bytes_cons byte (replicate n byte) lt (bytes_replicate n byte lt)
+
+-- a text whose numbers pass the test of a byte
+bytes_tested : (xs : List ℕ) → list_all (λ x. nat_lt x 256) xs ≡ true → AreBytes xs
+bytes_tested [] e = bytes_nil
+bytes_tested (x ∷ xs) e = elim (cases_Bool (nat_lt x 256)) [
+  | inl small ↦
+      let others : list_all (λ y. nat_lt y 256) xs ≡ true = rw small at e in
+      bytes_cons x xs (grind (arith, nat_tests)) (bytes_tested xs others)
+  | inr large ↦ absurd (let bad = rw large at e in cc)
+]
+
+-- ---- an image
+
+map_are_bytes : (b n k : ℕ) → AreBytes (map_block b n k)
+unfolding map_block
+map_are_bytes b n k = elim (cases_Bool (nat_eq (k % b) 1)) [
+  | inl one ↦ rw one (bytes_map (λ i. map_byte n (8 * (b * (k / b) + i))) (range_with_len 0 b) (λ i. omega (arith, pow_pos (min 8 (n - 8 * (b * (k / b) + i))))))
+  | inr other ↦ rw other (bytes_replicate b 255 (omega arith))
+]
+
+block_is_bytes : (b n : ℕ) (text : List ℕ) (k : ℕ) → AreBytes text → AreBytes (image_block b n text k)
+unfolding image_block text_block
+block_is_bytes b n text k each = elim (cases_Bool (is_map_block b k)) [
+  | inl one ↦ rw one (map_are_bytes b n k)
+  | inr other ↦ rw other (bytes_take b (drop (length (data_blocks b k) * b) text) (bytes_drop (length (data_blocks b k) * b) text each))
+]
+
+laid_are_bytes : (b n : ℕ) (text : List ℕ) → AreBytes text → AreBytes (laid_out b n text)
+unfolding laid_out
+laid_are_bytes b n text each = bytes_flat_map (image_block b n text) (range_with_len 0 n) (λ k. block_is_bytes b n text k each)
+
+filled_are_bytes : (b : ℕ) (part : List ℕ) → AreBytes part → AreBytes (filled b part)
+unfolding filled
+filled_are_bytes b part each =
+    let fill = blocks_for b (length part) * b - length part in
+    bytes_append part (replicate fill 0) each (bytes_replicate fill 0 (omega arith))
+
+all_are_bytes : (b : ℕ) (ps : List (List ℕ)) → AllByRecursion AreBytes ps → AreBytes (flat_map (filled b) ps)
+all_are_bytes b [] each = bytes_nil
+all_are_bytes b (p ∷ ps) each = bytes_append (filled b p) (flat_map (filled b) ps) (filled_are_bytes b p each.0) (all_are_bytes b ps each.1)
+
+superblock_is_bytes : (b : ℕ) (sizes : List ℕ) → AreBytes (superblock_part b sizes)
+unfolding superblock_part
+superblock_is_bytes b sizes = bytes_append magic (words (superblock_numbers b sizes)) (bytes_tested magic refl) (words_are_bytes (superblock_numbers b sizes))
+
+block_map_is_bytes : (b : ℕ) (sizes : List ℕ) → AreBytes (block_map_part b sizes)
+unfolding block_map_part
+block_map_is_bytes b sizes = words_are_bytes (numbers b 2 (directory_count b sizes))
+
+directory_is_bytes : (b : ℕ) (sizes : List ℕ) → AreBytes (directory_part b sizes)
+unfolding directory_part
+directory_is_bytes b sizes = words_are_bytes (length sizes ∷ sizes ++ numbers b (2 + directory_count b sizes) (blocks_of_all b sizes))
+
+-- an image of texts of bytes is made of bytes
+pub image_is_bytes : (b : ℕ) (texts : List (List ℕ)) → AllByRecursion AreBytes texts → AreBytes (image b texts)
+unfolding image parts
+image_is_bytes b texts each =
+    let sizes = map length texts in
+    laid_are_bytes b (image_blocks b sizes) (flat_map (filled b) (parts b texts))
+    (all_are_bytes b (parts b texts) (superblock_is_bytes b sizes, (block_map_is_bytes b sizes, (directory_is_bytes b sizes, each))))
+
+-- ---- a stream
+
+gathered_are_bytes : (file : List ℕ) (b : ℕ) (blocks : List ℕ) (size : ℕ) → AreBytes file → AreBytes (gathered file b blocks size)
+unfolding gathered
+gathered_are_bytes file b blocks size each =
+    bytes_map (λ i. get_or file (get_or blocks (i / b) 0 * b + i % b) 0) (range_with_len 0 size) (λ i. each (get_or blocks (i / b) 0 * b + i % b))
+
+-- of a stream that there may be
+some_are_bytes : (file : List ℕ) (b : ℕ) (stream : Option Listed) (text : List ℕ) → AreBytes file → option_map (text_of file b) stream ≡ Some text → AreBytes text
+some_are_bytes file b None text each e = absurd cc
+some_are_bytes file b (Some stream) text each e =
+    let is : text_of file b stream ≡ text = cc in
+    rw (← is) (gathered_are_bytes file b stream.blocks (bytes_of stream.size) each)
+
+-- each stream of a file of bytes is made of bytes
+pub stream_is_bytes : (file : List ℕ) (layout : LayoutView) (s : ℕ) (text : List ℕ) → AreBytes file → stream_text file layout s ≡ Some text → AreBytes text
+stream_is_bytes file layout s text each e = some_are_bytes file layout.superblock.block_size (slice_get layout.streams s) text each e
