@@ -1,7 +1,7 @@
 //! Numbers of blocks, and the free block maps.
 
 use crate::{put, sample};
-use msf_blocks::{MsfFault, Superblock, free_bit, is_map_block, nth_block};
+use msf_blocks::{MsfFault, Superblock, free_bit, is_block_size, is_map_block, nth_block};
 use std::test::Fail;
 
 #[test]
@@ -14,6 +14,20 @@ fn data_blocks_of_4096(rt: HostRuntime) {
     assert_eq!(rt; nth_block(4096, 4095), 4099);
     assert!(rt; is_map_block(4096, 4097));
     assert!(rt; !is_map_block(4096, 4096));
+}
+
+#[test]
+#[tactic(auto, using(msf_blocks::proofs::SizeLaws::size_decides), unfolding(msf_blocks::specs::BlockNumber::nth_block))]
+fn data_blocks_of_512(rt: HostRuntime) -> Result<(), Fail> {
+    let block_size = 512;
+    if !is_block_size(block_size) {
+        return Err("no such size".into());
+    }
+    assert_eq!(rt; nth_block(block_size, 509), 511);
+    assert_eq!(rt; nth_block(block_size, 510), 512);
+    assert_eq!(rt; nth_block(block_size, 511), 515);
+    assert_eq!(rt; nth_block(block_size, 513), 517);
+    Ok(())
 }
 
 /// Whether a block is free in these bytes, or the fault of their superblock.

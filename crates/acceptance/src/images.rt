@@ -5,7 +5,7 @@ ghost use Rattle.std.specs.Prelude.{None};
 use crate::put;
 use linked_list_allocator::LocalHeap;
 use msf_blocks::{Out, Sink};
-use msf_streams::{WriteFault, image_len, write_image};
+use msf_streams::{WriteFault, image_len, write_image, write_parts};
 use pdb_info::{Settings, guid_of, info_bytes};
 use std::alloc::{Allocator, Global};
 use std::test::Fail;
@@ -80,14 +80,31 @@ impl Sink for Narrow {
     }
 }
 
+/// Settings with blocks of this size.
+fn settings_of(block_size: u32) -> Result<Settings, Fail> {
+    let guid = guid_of([
+        0x33, 0x22, 0x11, 0x00, 0x55, 0x44, 0x77, 0x66, 0x88, 0x99, 0xAA, 0xBB, 0xCC, 0xDD, 0xEE,
+        0xFF,
+    ]);
+    Ok(Settings::new(guid, 1, 1_073_741_824, block_size).ok_or("no settings")?)
+}
+
+/// How long the image is with this stream 2 and an info stream, in blocks of this size.
+fn len_of(block_size: u32, types: u32) -> Result<Option<u32>, Fail> {
+    let settings = settings_of(block_size)?;
+    Ok(image_len(&[0, 52, types, 0, 0], settings.block_size()))
+}
+
 /// Writes the image with these streams 1 and 2 and three empty ones.
 fn write_two<'a, W: Sink, A: Allocator + Copy>(
     alloc: A,
+    settings: &Settings,
     info: &'a [u8],
     types: &'a [u8],
     out: &mut W,
 ) -> Result<(), WriteFault> {
-    write_image(alloc, &[&[], info, types, &[], &[]], out)
+    let block_size = settings.block_size();
+    write_image(alloc, block_size, &[&[], info, types, &[], &[]], out)
 }
 
 /// Writes the file without types into a narrow sink.
@@ -97,11 +114,7 @@ fn write_narrow<A: Allocator + Copy>(
     step: usize,
     room: usize,
 ) -> Result<(Narrow, Option<WriteFault>), Fail> {
-    let guid = guid_of([
-        0x33, 0x22, 0x11, 0x00, 0x55, 0x44, 0x77, 0x66, 0x88, 0x99, 0xAA, 0xBB, 0xCC, 0xDD, 0xEE,
-        0xFF,
-    ]);
-    let settings = Settings::new(guid, 1, 1_073_741_824).ok_or("no settings")?;
+    let settings = settings_of(4096)?;
     let mut out = Narrow {
         taken: Vec::new(global),
         step,
@@ -110,7 +123,7 @@ fn write_narrow<A: Allocator + Copy>(
     };
     let info = info_bytes(&settings);
     let types = tpi_header_bytes(0, 0);
-    let fault = write_two(alloc, &info, &types, &mut out).err();
+    let fault = write_two(alloc, &settings, &info, &types, &mut out).err();
     Ok((out, fault))
 }
 
@@ -128,18 +141,173 @@ fn each_fault_has_its_text(rt: HostRuntime) -> Result<(), Fail> {
 }
 
 #[test]
-fn lengths_of_images(rt: HostRuntime) {
-    assert_eq!(rt; image_len(&[0, 52, 56, 0, 0]), Some(28672));
-    assert_eq!(rt; image_len(&[0, 52, 16740352, 0, 0]), Some(16777216));
-    assert_eq!(rt; image_len(&[0, 52, 16740353, 0, 0]), Some(16781312));
-    assert_eq!(rt; image_len(&[0, 52, 16744449, 0, 0]), Some(16793600));
-    assert_eq!(rt; image_len(&[1073741824; 5]), None);
+fn lengths_of_images(rt: HostRuntime) -> Result<(), Fail> {
+    for (block_size, types, want) in [
+        (4096, 56, 28_672),
+        (4096, 16_740_352, 16_777_216),
+        (4096, 16_740_353, 16_781_312),
+        (4096, 16_744_449, 16_793_600),
+        (512, 56, 3_584),
+        (512, 257_536, 262_144),
+        (512, 257_537, 262_656),
+        (512, 258_049, 264_192),
+        (512, 258_561, 265_216),
+        (512, 2_071_552, 2_097_664),
+        (32768, 56, 229_376),
+    ] {
+        assert_eq!(rt;
+            len_of(block_size, types)?,
+            Some(want),
+            "{types} at {block_size}"
+        );
+    }
+    let settings = settings_of(4096)?;
+    assert_eq!(rt; image_len(&[1_073_741_824; 5], settings.block_size()), None);
+    Ok(())
+}
+
+/// The image with an info stream and this stream 2, in blocks of this size.
+fn image_of(alloc: Global, block_size: u32, types: &[u8]) -> Result<Vec<u8>, Fail> {
+    let settings = settings_of(block_size)?;
+    let info = info_bytes(&settings);
+    let mut file = Vec::new(alloc);
+    write_two(alloc, &settings, &info, types, &mut Out::new(&mut file))?;
+    Ok(file)
+}
+
+#[test]
+fn maps_of_small_blocks(rt: HostRuntime) -> Result<(), Fail> {
+    let none = image_of(rt.alloc(), 512, &tpi_header_bytes(0, 0))?;
+    assert_eq!(rt; none.get(512..514), Some([0x80, 0xFF].as_slice()));
+    let types = vec![in rt.alloc(); 0u8; 2_071_552]?;
+    let file = image_of(rt.alloc(), 512, &types)?;
+    assert_eq!(rt; file.len(), 2_097_664);
+    // All blocks that the first map block speaks of are in use, and one of the second.
+    for (place, first, others) in [
+        (512, 0, 0),
+        (1_024, 0xFF, 0xFF),
+        (262_656, 0xFE, 0xFF),
+        (263_168, 0xFF, 0xFF),
+    ] {
+        let map: &[u8] = file
+            .get(place..)
+            .and_then(|rest| rest.get(..512))
+            .ok_or("no such block")?;
+        assert_eq!(rt; map.first(), Some(&first), "at {place}");
+        assert!(rt;
+            map.iter().skip(1).all(|byte| *byte == others),
+            "at {place}"
+        );
+    }
+    Ok(())
+}
+
+#[test]
+fn a_directory_that_one_block_cannot_list(rt: HostRuntime) -> Result<(), Fail> {
+    let types = vec![in rt.alloc(); 0u8; 8_385_025]?;
+    let settings = settings_of(512)?;
+    let mut file = Vec::new(rt.alloc());
+    let mut out = Out::new(&mut file);
+    let answer = write_two(
+        rt.alloc(),
+        &settings,
+        &info_bytes(&settings),
+        &types,
+        &mut out,
+    );
+    assert_eq!(rt; answer, Err(WriteFault::Image));
+    drop(out);
+    assert!(rt; file.is_empty());
+    Ok(())
+}
+
+/// Writes the image with this stream 1, and a stream 2 in three parts.
+fn write_three<'a, W: Sink>(
+    alloc: Global,
+    settings: &Settings,
+    info: &'a [u8],
+    first: &'a [u8],
+    second: &'a [u8],
+    third: &'a [u8],
+    out: &mut W,
+) -> Result<(), WriteFault> {
+    write_parts(
+        alloc,
+        settings.block_size(),
+        &[&[], &[info], &[first, second, third], &[], &[]],
+        out,
+    )
+}
+
+/// So many bytes, of which those that stand side by side differ.
+fn numbered(alloc: Global, len: usize) -> Result<Vec<u8>, Fail> {
+    let mut bytes = Vec::new(alloc);
+    for number in (0..=250u8).cycle().take(len) {
+        bytes.push(number)?;
+    }
+    Ok(bytes)
+}
+
+/// The image with an info stream, and a stream 2 in three parts.
+fn in_three(alloc: Global, first: &[u8], second: &[u8], third: &[u8]) -> Result<Vec<u8>, Fail> {
+    let settings = settings_of(4096)?;
+    let info = info_bytes(&settings);
+    let mut file = Vec::new(alloc);
+    let mut out = Out::new(&mut file);
+    write_three(alloc, &settings, &info, first, second, third, &mut out)?;
+    Ok(file)
+}
+
+#[test]
+fn parts_of_a_stream(rt: HostRuntime) -> Result<(), Fail> {
+    let types = numbered(rt.alloc(), 8193)?;
+    let whole = image_of(rt.alloc(), 4096, &types)?;
+    assert_eq!(rt; whole.len(), 36_864);
+    assert!(rt; in_three(rt.alloc(), &[], &types, &[])? == whole);
+    for cut in [1, 4000, 4096, 8192] {
+        let (head, tail) = types.split_at_checked(cut).ok_or("no such cut")?;
+        assert!(rt; in_three(rt.alloc(), head, tail, &[])? == whole, "at {cut}");
+        assert!(rt; in_three(rt.alloc(), head, &[], tail)? == whole, "at {cut}");
+        assert!(rt; in_three(rt.alloc(), &[], head, tail)? == whole, "at {cut}");
+    }
+    Ok(())
+}
+
+/// Writes the image with these parts of the streams 1 and 2.
+fn write_listed<'a>(
+    alloc: Global,
+    block_size: u32,
+    none: &'a [&'a [u8]],
+    info: &'a [&'a [u8]],
+    types: &'a [&'a [u8]],
+    out: &mut Out<&mut Vec<u8>>,
+) -> Result<(), Fail> {
+    let settings = settings_of(block_size)?;
+    let streams = [none, info, types, none, none];
+    Ok(write_parts(alloc, settings.block_size(), &streams, out)?)
+}
+
+#[test]
+fn parts_of_one_byte(rt: HostRuntime) -> Result<(), Fail> {
+    let types = numbered(rt.alloc(), 8193)?;
+    let mut parts: Vec<&[u8]> = Vec::new(rt.alloc());
+    for byte in types.chunks(1) {
+        parts.push(byte)?;
+        parts.push(&[])?;
+    }
+    let info = info_bytes(&settings_of(4096)?);
+    let mut file = Vec::new(rt.alloc());
+    let mut out = Out::new(&mut file);
+    write_listed(rt.alloc(), 4096, &[], &[&info], &parts, &mut out)?;
+    drop(out);
+    assert!(rt; file == image_of(rt.alloc(), 4096, &types)?);
+    Ok(())
 }
 
 #[test]
 fn the_file_without_types(rt: HostRuntime) -> Result<(), Fail> {
     let want = expected(rt.alloc())?;
-    for step in [1, 4095, LENGTH] {
+    for step in [1, 4095, 5000, LENGTH] {
         let (out, fault) = write_narrow(rt.alloc(), rt.alloc(), step, LENGTH)?;
         assert_eq!(rt; fault, None);
         assert_eq!(rt; out.taken.len(), LENGTH);
@@ -156,6 +324,20 @@ fn a_sink_that_breaks_has_the_first_bytes(rt: HostRuntime) -> Result<(), Fail> {
         assert_eq!(rt; fault, Some(WriteFault::Write), "room for {room}");
         assert_eq!(rt; out.taken.len(), room);
         assert!(rt; want.starts_with(&out.taken), "room for {room}");
+    }
+    Ok(())
+}
+
+#[test]
+fn a_narrow_sink_that_breaks_has_the_first_bytes(rt: HostRuntime) -> Result<(), Fail> {
+    let want = expected(rt.alloc())?;
+    for step in [1, 5000] {
+        for room in [0, 1, 4095, 4096, 4097, 28_671] {
+            let (out, fault) = write_narrow(rt.alloc(), rt.alloc(), step, room)?;
+            assert_eq!(rt; fault, Some(WriteFault::Write), "room for {room}");
+            assert_eq!(rt; out.taken.len(), room);
+            assert!(rt; want.starts_with(&out.taken), "room for {room}");
+        }
     }
     Ok(())
 }
@@ -186,7 +368,7 @@ fn long_image(alloc: Global) -> Result<Vec<u8>, Fail> {
     let types = vec![in alloc; 0xABu8; 16_744_449]?;
     let mut file = Vec::with_capacity(alloc, 16_793_600)?;
     let mut out = Out::new(&mut file);
-    write_two(alloc, &[0xCD; 52], &types, &mut out)?;
+    write_two(alloc, &settings_of(4096)?, &[0xCD; 52], &types, &mut out)?;
     drop(out);
     Ok(file)
 }

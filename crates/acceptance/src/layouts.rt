@@ -1,6 +1,6 @@
 //! The layout of the sample, and refused growth.
 
-use crate::sample;
+use crate::{put, sample};
 use linked_list_allocator::LocalHeap;
 use msf_blocks::{In, Layout, MsfFault, Out, Sink, Source, put_all};
 use std::alloc::Allocator;
@@ -36,6 +36,24 @@ fn the_layout_of_the_sample(rt: HostRuntime) -> Result<(), Fail> {
 /// The fault of a file, if it has one.
 fn fault_of<A: Allocator + Copy>(alloc: A, file: &[u8]) -> Option<MsfFault> {
     Layout::read(alloc, file).err()
+}
+
+#[test]
+fn other_block_sizes(rt: HostRuntime) -> Result<(), Fail> {
+    let large = MsfFault::FileSize {
+        need: 57344,
+        have: 3584,
+    };
+    for (block_size, want) in [
+        (8192u32, large),
+        (65536, MsfFault::BlockSize(65536)),
+        (0, MsfFault::BlockSize(0)),
+    ] {
+        let mut file = sample(rt.alloc())?;
+        put(&mut file, 32, &block_size.to_le_bytes());
+        assert_eq!(rt; fault_of(rt.alloc(), &file), Some(want));
+    }
+    Ok(())
 }
 
 #[test]

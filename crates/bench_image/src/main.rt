@@ -22,14 +22,22 @@ fn type_stream<R: AllocGlobal>(rt: &R, size: usize) -> Option<Vec<u8>> {
     Some(stream)
 }
 
-/// Writes the file whose size of stream 2 is the first word.
+/// Writes the file whose size of stream 2 is the first argument, in blocks of the second, as many
+/// times as the third says.
 fn write<R: Env + Print + AllocGlobal>(rt: &R) -> Option<()> {
-    let size = env::args(rt).ok()?.nth(1)?.parse::<u32>().ok()?;
+    let mut arguments = env::args(rt).ok()?.skip(1);
+    let size = arguments.next()?.parse::<u32>().ok()?;
+    let block_size = arguments.next()?.parse::<u32>().ok()?;
+    let times = arguments.next()?.parse::<u32>().ok()?;
     let stream = type_stream(rt, size as usize)?;
-    let settings = Settings::new(Uuid::from_bytes([0x11; 16]), 1, 0)?;
+    let settings = Settings::new(Uuid::from_bytes([0x11; 16]), 1, 0, block_size)?;
     let info = info_bytes(&settings);
     let streams: [&[u8]; 5] = [&[], &info, &stream, &[], &[]];
-    write_image(rt.alloc(), &streams, &mut Out::new(writer(rt))).ok()
+    let mut out = Out::new(writer(rt));
+    for _ in 0..times {
+        write_image(rt.alloc(), settings.block_size(), &streams, &mut out).ok()?;
+    }
+    Some(())
 }
 
 fn main(rt: HostRuntime) -> ExitCode {

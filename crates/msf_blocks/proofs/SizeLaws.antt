@@ -11,17 +11,20 @@ use Rattle.msf_blocks.specs.BlockNumber.{block_sizes, IsBlockSize, is_block_size
 -- what holds of each size that a block may have: it has room for a superblock, and is a multiple of four
 pub record SizeFacts (size : ℕ) : Type 0 where
   pub least : 512 ≤ size
-  pub most : size ≤ 4096
+  pub most : size ≤ 32768
   pub fours : size ≡ 4 * (size / 4)
 
 -- the only proof that goes through the sizes
 each_size : All SizeFacts block_sizes
 each_size =
-    All-cons SizeFacts 512 (1024 ∷ 2048 ∷ 4096 ∷ []) (record { least = omega arith; most = omega arith; fours = refl })
-    (All-cons SizeFacts 1024 (2048 ∷ 4096 ∷ []) (record { least = omega arith; most = omega arith; fours = refl })
-    (All-cons SizeFacts 2048 (4096 ∷ []) (record { least = omega arith; most = omega arith; fours = refl })
-    (All-cons SizeFacts 4096 [] (record { least = omega arith; most = omega arith; fours = refl })
-    (All-nil SizeFacts))))
+    All-cons SizeFacts 512 (1024 ∷ 2048 ∷ 4096 ∷ 8192 ∷ 16384 ∷ 32768 ∷ []) (record { least = omega arith; most = omega arith; fours = refl })
+    (All-cons SizeFacts 1024 (2048 ∷ 4096 ∷ 8192 ∷ 16384 ∷ 32768 ∷ []) (record { least = omega arith; most = omega arith; fours = refl })
+    (All-cons SizeFacts 2048 (4096 ∷ 8192 ∷ 16384 ∷ 32768 ∷ []) (record { least = omega arith; most = omega arith; fours = refl })
+    (All-cons SizeFacts 4096 (8192 ∷ 16384 ∷ 32768 ∷ []) (record { least = omega arith; most = omega arith; fours = refl })
+    (All-cons SizeFacts 8192 (16384 ∷ 32768 ∷ []) (record { least = omega arith; most = omega arith; fours = refl })
+    (All-cons SizeFacts 16384 (32768 ∷ []) (record { least = omega arith; most = omega arith; fours = refl })
+    (All-cons SizeFacts 32768 [] (record { least = omega arith; most = omega arith; fours = refl })
+    (All-nil SizeFacts)))))))
 
 pub size_facts : (size : ℕ) → IsBlockSize size → SizeFacts size
 unfolding IsBlockSize

@@ -5,7 +5,7 @@ use Rattle.std.specs.Set.{is_member}
 
 -- the sizes that a block may have, in bytes
 abbrev pub block_sizes : List ℕ
-block_sizes = 512 ∷ 1024 ∷ 2048 ∷ 4096 ∷ []
+block_sizes = 512 ∷ 1024 ∷ 2048 ∷ 4096 ∷ 8192 ∷ 16384 ∷ 32768 ∷ []
 
 -- a block may have this size
 unfoldable pub IsBlockSize : ℕ → Type 0

@@ -13,12 +13,14 @@ ghost use Rattle.std.specs.Prelude.{◌≡◌, ◌^◌, ◌<◌, length, map, fa
 ghost use Rattle.std.specs.List.{range_with_len};
 ghost use Rattle.msf_blocks.specs.BlockNumber.{IsBlockSize, blocks_for, is_block_size, is_ordinary, is_map_block, nth_block, data_blocks};
 
-/// Whether blocks may have this size, in bytes.
+/// Whether blocks may have this size, in bytes: 512, 1,024, 2,048, 4,096, 8,192, 16,384 or 32,768.
+///
+/// It does not allocate.
 #[tactic(auto, unfolding(crate::specs::BlockNumber::is_block_size))]
 pub fn is_block_size(size: u32) -> bool
     ensures { result ≡ is_block_size size }
 {
-    matches!(size, 512 | 1024 | 2048 | 4096)
+    matches!(size, 512 | 1024 | 2048 | 4096 | 8192 | 16384 | 32768)
 }
 
 /// How many blocks of a size hold so many bytes.

@@ -28,7 +28,7 @@ mod sink;
 mod source;
 mod superblock;
 
-pub use block_number::{is_map_block, nth_block};
+pub use block_number::{is_block_size, is_map_block, nth_block};
 pub use fault::MsfFault;
 pub use free_map::free_bit;
 pub use layout::Layout;

@@ -1,16 +1,17 @@
 -- What a sink took of a woven text, and what is left of it.
-use Rattle.std.proofs.Common.{◌≡◌, ℕ, ◌+◌, ◌-◌, ◌*◌, ◌/◌, ◌%◌, ◌<◌, ◌≤◌, ◌^◌, min, List, [], ◌∷◌, ◌++◌, Option, length, map, take, drop, get_or, refl, sym, ap, ◌∙◌, arith, append_assoc, inl, inr}
+use Rattle.std.proofs.Common.{◌≡◌, Bor, ℕ, ◌+◌, ◌-◌, ◌*◌, ◌/◌, ◌%◌, ◌<◌, ◌≤◌, ◌^◌, min, List, [], ◌∷◌, ◌++◌, Option, length, map, take, drop, get_or, refl, sym, ap, ◌∙◌, arith, append_assoc, inl, inr}
 use Rattle.std.specs.List.{flat_map}
+use Rattle.std.proofs.lemmas.Grind.{flat_map-append}
 use Rattle.std.specs.Prelude.{Result, Ok, Err, OnOk, OnErr}
 use Rattle.std.specs.Io.KnownBytes.{Appends}
 use Rattle.std.proofs.KnownBytes.{Appends-nil, Appends-trans}
 use Rattle.std.proofs.Math.Seq.{take-append-add}
 use Rattle.std.proofs.lemmas.Nat.{div-add-mod', mod_below, mul-le}
 use Rattle.std.proofs.lemmas.Bool.{cases_lt}
-use Rattle.std.proofs.lemmas.List.{append-nil, length-append, length-take, length-drop, take-append-drop, take_rest, take-append-le, drop_more, drop_all, length-map, get_or-map}
+use Rattle.std.proofs.lemmas.List.{append-nil, length-append, length-take, length-drop, take-append-drop, take_rest, take-append-le, drop_more, take_more, drop_all, length-map, get_or-map}
 use Rattle.msf_blocks.specs.BlockNumber.{IsBlockSize, blocks_for}
 use Rattle.msf_blocks.proofs.SizeLaws.{size_facts, some_bytes, big_enough, next_row, ceil_is}
-use Rattle.msf_streams.specs.Image.{filled, superblock_part, block_map_part, directory_part, parts, image, image_blocks, data_count}
+use Rattle.msf_streams.specs.Image.{joined, filled, superblock_part, block_map_part, directory_part, parts, image, image_blocks, data_count}
 use Rattle.msf_streams.specs.Woven.{maps_before, woven, room, AppendsPart, Halfway, IsFront}
 use Rattle.msf_streams.proofs.RangeLaws.{next_block, first_block}
 use Rattle.msf_streams.proofs.ImageLaws.{length_parts}
@@ -116,7 +117,7 @@ few_intervals b l p some long few =
     (omega (arith, rows, div-add-mod' (p - b) l), omega (arith, rows, places, div-add-mod' (p - b) l))
 
 -- what is wanting to whole blocks
-pub fill_count : (b len : ℕ) → IsBlockSize b → ((b - len % b) % b ≡ blocks_for b len * b - len) × ((b - len % b) % b ≤ 4096)
+pub fill_count : (b len : ℕ) → IsBlockSize b → ((b - len % b) % b ≡ blocks_for b len * b - len) × ((b - len % b) % b ≤ 32768)
 fill_count b len size =
     let facts = size_facts b size in
     let some = some_bytes b size in
@@ -142,6 +143,13 @@ fill_count b len size =
 pub filled_is : (b : ℕ) (part fill : List ℕ) (count : ℕ) → count ≡ blocks_for b (length part) * b - length part → fill ≡ replicate count 0 → filled b part ≡ part ++ fill
 unfolding filled
 filled_is b part fill count is e = rw (e, is) refl
+
+-- the zeros from the end of a part on
+pub filled_after : (b position end : ℕ) (part fill : List ℕ) (count : ℕ) → end ≡ position + length part → count ≡ blocks_for b (end - position) * b - (end - position) → fill ≡ replicate count 0
+    → filled b part ≡ part ++ fill
+filled_after b position end part fill count ends is e =
+    let len : end - position ≡ length part = omega (arith, ends) in
+    filled_is b part fill count (rw len at is) e
 
 pub filled_longer : (b : ℕ) (part : List ℕ) → length part ≤ length (filled b part)
 unfolding filled
@@ -170,45 +178,43 @@ part_taken old between new b n p part fill is before h =
 
 -- ---- one part after the other
 
--- the next of some parts, and those behind it
-pub part_here : {X : Type 0} (f : X → List ℕ) (b : ℕ) (xs : List X) (i : ℕ) (d : X) → i < length xs
-    → flat_map (filled b) (drop i (map f xs)) ≡ filled b (f (get_or xs i d)) ++ flat_map (filled b) (drop (i + 1) (map f xs))
-part_here f b xs i d lt = ap (flat_map (filled b)) (drop_more (map f xs) i (f d) (rw (length-map xs f) lt)) ∙ rw (get_or-map f xs i d (f d) lt) refl
+-- the next of some parts, and those after it
+part_here : {X : Type 0} (h : X → List ℕ) (xs : List X) (i : ℕ) (d : X) → i < length xs → flat_map h (drop i xs) ≡ h (get_or xs i d) ++ flat_map h (drop (i + 1) xs)
+part_here h xs i d lt = ap (flat_map h) (drop_more xs i d lt)
 
--- the place behind the next part is the one where what is left begins
-pub next_place : {X : Type 0} (f : X → List ℕ) (b : ℕ) (xs : List X) (i : ℕ) (d : X) (p end : ℕ) → i < length xs
-    → p + length (flat_map (filled b) (drop i (map f xs))) ≡ end → p + length (filled b (f (get_or xs i d))) + length (flat_map (filled b) (drop (i + 1) (map f xs))) ≡ end
-next_place f b xs i d p end lt e =
-    omega (arith, e, ap length (part_here f b xs i d lt), length-append (filled b (f (get_or xs i d))) (flat_map (filled b) (drop (i + 1) (map f xs))))
+-- the place after the next part is the one where what is left begins
+pub next_place : {X : Type 0} (h : X → List ℕ) (xs : List X) (i : ℕ) (d : X) (p end : ℕ) → i < length xs
+    → p + length (flat_map h (drop i xs)) ≡ end → p + length (h (get_or xs i d)) + length (flat_map h (drop (i + 1) xs)) ≡ end
+next_place h xs i d p end lt e = omega (arith, e, ap length (part_here h xs i d lt), length-append (h (get_or xs i d)) (flat_map h (drop (i + 1) xs)))
 
-pub next_fits : {X : Type 0} (f : X → List ℕ) (b : ℕ) (xs : List X) (i : ℕ) (d : X) (p end : ℕ) → i < length xs → p + length (flat_map (filled b) (drop i (map f xs))) ≡ end → end < 2 ^ 33
-    → p + length (filled b (f (get_or xs i d))) < 2 ^ 33
-next_fits f b xs i d p end lt e few = omega (arith, next_place f b xs i d p end lt e)
+pub next_fits : {X : Type 0} (h : X → List ℕ) (xs : List X) (i : ℕ) (d : X) (p end : ℕ) → i < length xs → p + length (flat_map h (drop i xs)) ≡ end → end < 2 ^ 33
+    → p + length (h (get_or xs i d)) < 2 ^ 33
+next_fits h xs i d p end lt e few = omega (arith, next_place h xs i d p end lt e)
 
--- behind the last part nothing is left
-pub none_left : {X : Type 0} (f : X → List ℕ) (b : ℕ) (xs : List X) (i : ℕ) → length xs ≤ i → length (flat_map (filled b) (drop i (map f xs))) ≡ 0
-none_left f b xs i le = let none : drop i (map f xs) ≡ [] = drop_all i (map f xs) (rw (length-map xs f) le) in rw none refl
+-- after the last part nothing is left
+pub none_left : {X : Type 0} (h : X → List ℕ) (xs : List X) (i : ℕ) → length xs ≤ i → length (flat_map h (drop i xs)) ≡ 0
+none_left h xs i le = rw (drop_all i xs le) refl
 
 -- nothing was taken yet
 pub at_start : (old : Option (List ℕ)) (b n p : ℕ) (text : List ℕ) → Halfway old old b n (woven b n p text) p text
 at_start old b n p text = record { taken = []; split = refl; appends = Appends-nil old }
 
--- the first of the parts that are left wasn't taken as a whole
-pub first_fails : (old between new : Option (List ℕ)) (b n p : ℕ) (all part : List ℕ) (parts : List (List ℕ)) → Halfway old between b n all p (flat_map (filled b) (part ∷ parts))
-    → AppendsPart between new (woven b n p (filled b part)) → AppendsPart old new all
-first_fails old between new b n p all part parts so_far h =
-    rw (so_far.split, woven_parts b n p (filled b part) (flat_map (filled b) parts))
-    (part_second old between new so_far.taken _ so_far.appends (part_first between new (woven b n p (filled b part)) _ h))
+-- the first of what is left wasn't taken as a whole
+pub first_fails : (old between new : Option (List ℕ)) (b n p : ℕ) (all first rest : List ℕ) → Halfway old between b n all p (first ++ rest)
+    → AppendsPart between new (woven b n p first) → AppendsPart old new all
+first_fails old between new b n p all first rest so_far h =
+    rw (so_far.split, woven_parts b n p first rest)
+    (part_second old between new so_far.taken _ so_far.appends (part_first between new (woven b n p first) _ h))
 
 -- it was
-pub first_taken : (old between new : Option (List ℕ)) (b n p end : ℕ) (all part : List ℕ) (parts : List (List ℕ)) → Halfway old between b n all p (flat_map (filled b) (part ∷ parts))
-    → Appends between new (woven b n p (filled b part)) → end ≡ p + length (filled b part) → Halfway old new b n all end (flat_map (filled b) parts)
-first_taken old between new b n p end all part parts so_far h is =
-    let first = woven b n p (filled b part) in
+pub first_taken : (old between new : Option (List ℕ)) (b n p end : ℕ) (all first rest : List ℕ) → Halfway old between b n all p (first ++ rest)
+    → Appends between new (woven b n p first) → end ≡ p + length first → Halfway old new b n all end rest
+first_taken old between new b n p end all first rest so_far h is =
+    let put = woven b n p first in
     record {
-      taken = so_far.taken ++ first;
-      split = so_far.split ∙ rw (is, woven_parts b n p (filled b part) (flat_map (filled b) parts)) (sym (append_assoc so_far.taken first _));
-      appends = Appends-trans old between new so_far.taken first so_far.appends h;
+      taken = so_far.taken ++ put;
+      split = so_far.split ∙ rw (is, woven_parts b n p first rest) (sym (append_assoc so_far.taken put _));
+      appends = Appends-trans old between new so_far.taken put so_far.appends h;
     }
 
 -- what is left wasn't taken as a whole
@@ -220,15 +226,17 @@ pub rest_taken : (old between new : Option (List ℕ)) (b n p : ℕ) (all left :
 rest_taken old between new b n p all left so_far h = rw so_far.split (Appends-trans old between new so_far.taken (woven b n p left) so_far.appends h)
 
 -- the next of some parts wasn't taken as a whole
-pub next_fails : {X : Type 0} (old between new : Option (List ℕ)) (f : X → List ℕ) (b n p : ℕ) (xs : List X) (i : ℕ) (d : X) (all : List ℕ) → i < length xs
-    → Halfway old between b n all p (flat_map (filled b) (drop i (map f xs))) → AppendsPart between new (woven b n p (filled b (f (get_or xs i d)))) → AppendsPart old new all
-next_fails old between new f b n p xs i d all lt so_far h = first_fails old between new b n p all (f (get_or xs i d)) (drop (i + 1) (map f xs)) (rw (part_here f b xs i d lt) at so_far) h
+pub next_fails : {X : Type 0} (old between new : Option (List ℕ)) (h : X → List ℕ) (b n p : ℕ) (xs : List X) (i : ℕ) (d : X) (all : List ℕ) → i < length xs
+    → Halfway old between b n all p (flat_map h (drop i xs)) → AppendsPart between new (woven b n p (h (get_or xs i d))) → AppendsPart old new all
+next_fails old between new h b n p xs i d all lt so_far part =
+    first_fails old between new b n p all (h (get_or xs i d)) (flat_map h (drop (i + 1) xs)) (rw (part_here h xs i d lt) at so_far) part
 
 -- it was
-pub next_taken : {X : Type 0} (old between new : Option (List ℕ)) (f : X → List ℕ) (b n p : ℕ) (xs : List X) (i : ℕ) (d : X) (all : List ℕ) → i < length xs
-    → Halfway old between b n all p (flat_map (filled b) (drop i (map f xs))) → Appends between new (woven b n p (filled b (f (get_or xs i d))))
-    → Halfway old new b n all (p + length (filled b (f (get_or xs i d)))) (flat_map (filled b) (drop (i + 1) (map f xs)))
-next_taken old between new f b n p xs i d all lt so_far h = first_taken old between new b n p (p + length (filled b (f (get_or xs i d)))) all (f (get_or xs i d)) (drop (i + 1) (map f xs)) (rw (part_here f b xs i d lt) at so_far) h refl
+pub next_taken : {X : Type 0} (old between new : Option (List ℕ)) (h : X → List ℕ) (b n p : ℕ) (xs : List X) (i : ℕ) (d : X) (all : List ℕ) → i < length xs
+    → Halfway old between b n all p (flat_map h (drop i xs)) → Appends between new (woven b n p (h (get_or xs i d)))
+    → Halfway old new b n all (p + length (h (get_or xs i d))) (flat_map h (drop (i + 1) xs))
+next_taken old between new h b n p xs i d all lt so_far put =
+    first_taken old between new b n p (p + length (h (get_or xs i d))) all (h (get_or xs i d)) (flat_map h (drop (i + 1) xs)) (rw (part_here h xs i d lt) at so_far) put refl
 
 -- none is left
 pub all_taken : (old now : Option (List ℕ)) (b n p : ℕ) (all left : List ℕ) → Halfway old now b n all p left → length left ≡ 0 → Appends old now all
@@ -268,3 +276,21 @@ few_bytes b n ts sb bm dir size front =
 pub before_front : (old : Option (List ℕ)) (b n : ℕ) (ts : List (List ℕ)) (sb bm dir : List ℕ) → IsBlockSize b → IsFront b n (map length ts) sb bm dir
     → Halfway old old b n (image b ts) 0 (flat_map (filled b) (sb ∷ bm ∷ dir ∷ ts))
 before_front old b n ts sb bm dir size front = rw (by_parts b n ts sb bm dir size front) (at_start old b n 0 (flat_map (filled b) (sb ∷ bm ∷ dir ∷ ts)))
+
+-- a text in one part is that part
+pub joined_one : (part : Bor (List ℕ)) → joined (part ∷ []) ≡ part.now
+joined_one part = append-nil part.now
+
+-- one part more
+joined_more : (ps : List (Bor (List ℕ))) (i : ℕ) (d : Bor (List ℕ)) → i < length ps → joined (take (i + 1) ps) ≡ joined (take i ps) ++ (get_or ps i d).now
+joined_more ps i d lt =
+    ap joined (take_more ps i d lt) ∙ flat_map-append (λ part. part.now) (take i ps) (get_or ps i d ∷ []) ∙ ap (λ (x : List ℕ). joined (take i ps) ++ x) (joined_one (get_or ps i d))
+
+pub length_more : (ps : List (Bor (List ℕ))) (i : ℕ) (d : Bor (List ℕ)) → i < length ps → length (joined (take (i + 1) ps)) ≡ length (joined (take i ps)) + length (get_or ps i d).now
+length_more ps i d lt = ap length (joined_more ps i d lt) ∙ length-append (joined (take i ps)) (get_or ps i d).now
+
+-- all parts are as long as some of them, or longer
+pub length_all : (ps : List (Bor (List ℕ))) (i : ℕ) → length (joined (take i ps)) ≤ length (joined ps)
+length_all ps i =
+    let split : joined ps ≡ joined (take i ps) ++ joined (drop i ps) = ap joined (sym (take-append-drop i ps)) ∙ flat_map-append (λ part. part.now) (take i ps) (drop i ps) in
+    omega (arith, ap length split, length-append (joined (take i ps)) (joined (drop i ps)))

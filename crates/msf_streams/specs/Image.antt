@@ -100,6 +100,14 @@ image block_size texts = laid_out block_size (image_blocks block_size (map lengt
 abbrev pub texts_of : List (Bor (List ℕ)) → List (List ℕ)
 texts_of streams = map (λ s. s.now) streams
 
+-- the text that is lent in parts, one after the other
+abbrev pub joined : List (Bor (List ℕ)) → List ℕ
+joined parts = flat_map (λ part. part.now) parts
+
+-- the texts that are lent to a writer, each in parts
+abbrev pub joined_of : List (Bor (List (Bor (List ℕ)))) → List (List ℕ)
+joined_of streams = map (λ parts. joined parts.now) streams
+
 -- streams of these sizes fit in a file: one block lists the blocks of the directory, and the file's length is a number of four bytes
 pub record Fits (block_size : ℕ) (sizes : List ℕ) : Type 0 where
   pub directory : directory_count block_size sizes ≤ block_size / 4

@@ -1,5 +1,5 @@
 -- What holds of every image, and of the streams of every file.
-use Rattle.std.specs.Prelude.{ℕ, ◌≡◌, ◌≤◌, List, Some, length, map}
+use Rattle.std.specs.Prelude.{ℕ, ◌≡◌, ◌+◌, ◌*◌, ◌≤◌, List, Some, length, map}
 use Rattle.std.specs.List.{AllByRecursion}
 use Rattle.byte_fields.specs.Bytes.{AreBytes}
 use Rattle.msf_blocks.specs.BlockNumber.{IsBlockSize}
@@ -11,9 +11,11 @@ use Rattle.msf_streams.specs.Stream.{stream_text}
 abbrev pub ImagesReadBack : Type 0
 ImagesReadBack = (block_size : ℕ) (texts : List (List ℕ)) → IsBlockSize block_size → Fits block_size (map length texts) → ReadsBack block_size texts
 
--- five streams that take at most 262,146 blocks of 4,096 bytes together fit in a file
+-- five streams fit in a file if one block can list the blocks of their directory, and they have at most 1 GiB and 128 KiB together, each filled to whole blocks
 abbrev pub FewBlocksFit : Type 0
-FewBlocksFit = (sizes : List ℕ) → length sizes ≡ 5 → blocks_of_all 4096 sizes ≤ 262146 → Fits 4096 sizes
+FewBlocksFit =
+    (block_size : ℕ) (sizes : List ℕ) → IsBlockSize block_size → length sizes ≡ 5 → 16 * (6 + blocks_of_all block_size sizes) ≤ block_size * block_size
+    → blocks_of_all block_size sizes * block_size ≤ 1073872896 → Fits block_size sizes
 
 -- the image of texts of bytes is made of bytes
 abbrev pub ImagesAreBytes : Type 0

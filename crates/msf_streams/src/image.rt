@@ -6,9 +6,6 @@ ghost use Rattle.msf_streams.specs.Image.{Fits, blocks_of_all, directory_count, 
 
 use msf_blocks::nth_block;
 
-/// The size of a block in the files that are written, in bytes.
-pub(crate) const BLOCK_SIZE: u32 = 4096;
-
 /// How many blocks the streams of these sizes take.
 #[tactic(auto, using(msf_blocks::proofs::SizeLaws::some_bytes, msf_blocks::proofs::SizeLaws::ceil_is, msf_blocks::proofs::SizeLaws::few_for))]
 pub(crate) fn stream_blocks(block_size: u32, sizes: &[u32; 5]) -> u32
@@ -58,23 +55,14 @@ pub(crate) fn image_blocks(block_size: u32, sizes: &[u32; 5]) -> Option<u32>
     Some(nth_block(block_size, 1 + directory + blocks) + 1)
 }
 
-/// How long the image is, in blocks of any size.
-pub(crate) fn image_len_by(block_size: u32, sizes: &[u32; 5]) -> Option<u32>
+/// How long the image is that holds streams of these sizes in blocks of this size, in bytes.
+///
+/// `None` where the directory needs more than `block_size / 4` blocks, which one block of the block
+/// map can't list, or where the file would pass 4,294,967,295 bytes. It does not allocate.
+pub fn image_len(sizes: &[u32; 5], block_size: u32) -> Option<u32>
     requires { IsBlockSize block_size }
     ensures some { IfSome result (λ n. Fits block_size sizes.now × (n ≡ image_length block_size sizes.now)) }
     ensures none { IfNone result (Fits block_size sizes.now → ⊥) }
 {
     image_blocks(block_size, sizes)?.checked_mul(block_size)
-}
-
-/// How long the image is that holds streams of these sizes, in bytes.
-///
-/// `None` where the directory needs more than 1,024 blocks, which one block of the block map
-/// can't list, or where the file would pass 4,294,967,295 bytes. It takes no memory.
-#[tactic(auto, using(msf_blocks::proofs::SizeLaws::size_4096))]
-pub fn image_len(sizes: &[u32; 5]) -> Option<u32>
-    ensures some { IfSome result (λ n. Fits 4096 sizes.now × (n ≡ image_length 4096 sizes.now)) }
-    ensures none { IfNone result (Fits 4096 sizes.now → ⊥) }
-{
-    image_len_by(BLOCK_SIZE, sizes)
 }

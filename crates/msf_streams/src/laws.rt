@@ -12,8 +12,8 @@ pub fn images_read_back()
     ensures { ImagesReadBack }
 {}
 
-/// Five streams fit in a file if they take at most 262,146 blocks of 4,096 bytes together, each
-/// stream filled to whole blocks.
+/// Five streams fit in a file if one block can list the blocks of their directory, and they have
+/// at most 1 GiB and 128 KiB together, each filled to whole blocks.
 pub fn few_blocks_fit()
     ensures { FewBlocksFit }
 {}

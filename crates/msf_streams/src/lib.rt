@@ -50,4 +50,4 @@ pub use fault::{StreamFault, WriteFault};
 pub use image::image_len;
 pub use lent::Pieces;
 pub use whole::gather;
-pub use write::write_image;
+pub use write::{write_image, write_parts};

@@ -9,7 +9,7 @@ ghost use Rattle.std.specs.List.{flat_map};
 ghost use lib.ListN.{replicate};
 ghost use Rattle.std.specs.Io.KnownBytes.{Appends};
 ghost use Rattle.msf_blocks.specs.BlockNumber.{IsBlockSize, blocks_for};
-ghost use Rattle.msf_streams.specs.Image.{filled, texts_of};
+ghost use Rattle.msf_streams.specs.Image.{filled, joined, joined_of};
 ghost use Rattle.msf_streams.specs.Woven.{stretch, maps_of, maps_before, woven, room, AppendsPart};
 
 use crate::map_block::fill_map;
@@ -142,11 +142,11 @@ fn put_bytes<W: Sink>(
 }
 
 /// As many zeros as the largest block has bytes.
-const ZEROS: [u8; 4096] = [0; 4096];
+const ZEROS: [u8; 32768] = [0; 32768];
 
 /// So many zeros.
 fn zeros(count: usize) -> &'static [u8]
-    requires { count ≤ 4096 }
+    requires { count ≤ 32768 }
     ensures { result.now ≡ replicate count 0 }
 {
     &ZEROS[..count]
@@ -158,14 +158,67 @@ fn fill_len(block_size: u32, len: usize) -> usize
     requires size { IsBlockSize block_size }
     requires few { len < 2 ^ 33 }
     ensures value { result ≡ blocks_for block_size len * block_size - len }
-    ensures few { result ≤ 4096 }
+    ensures few { result ≤ 32768 }
 {
     let size = block_size as usize;
     (size - len % size) % size
 }
 
+/// Puts bytes that are lent in parts and begin at a position, with the map blocks in front of
+/// them. It answers the position after them.
+fn put_joined<W: Sink>(
+    block_size: u32,
+    num_blocks: u32,
+    position: usize,
+    parts: &[&[u8]],
+    page: &mut [u8],
+    out: &mut W,
+) -> Result<usize, NotTaken>
+    requires size { IsBlockSize block_size }
+    requires long { length page.old ≡ block_size }
+    requires few { position + length (joined parts.now) < 2 ^ 33 }
+    ensures long { length page.new ≡ block_size }
+    ensures end { IfOk result (λ end. end ≡ position + length (joined parts.now)) }
+    ensures ok { OnOk result (Appends (W.taken out.old) (W.taken out.new) (woven block_size num_blocks position (joined parts.now))) }
+    ensures broken { OnErr result (W.is_broken out.new ≡ true) }
+    ensures prefix { OnErr result (AppendsPart (W.taken out.old) (W.taken out.new) (woven block_size num_blocks position (joined parts.now))) }
+{
+    let mut position = position;
+    for part in parts {
+        put_bytes(block_size, num_blocks, position, part, page, out)?;
+        position += part.len();
+    }
+    Ok(position)
+}
+
+/// Puts a stream that is lent in parts and begins at a position, filled with zeros to whole
+/// blocks. It answers the position after it.
+fn put_stream<W: Sink>(
+    block_size: u32,
+    num_blocks: u32,
+    position: usize,
+    parts: &[&[u8]],
+    page: &mut [u8],
+    out: &mut W,
+) -> Result<usize, NotTaken>
+    requires size { IsBlockSize block_size }
+    requires long { length page.old ≡ block_size }
+    requires few { position + length (filled block_size (joined parts.now)) < 2 ^ 33 }
+    ensures long { length page.new ≡ block_size }
+    ensures end { IfOk result (λ end. end ≡ position + length (filled block_size (joined parts.now))) }
+    ensures ok { OnOk result (Appends (W.taken out.old) (W.taken out.new) (woven block_size num_blocks position (filled block_size (joined parts.now)))) }
+    ensures broken { OnErr result (W.is_broken out.new ≡ true) }
+    ensures prefix { OnErr result (AppendsPart (W.taken out.old) (W.taken out.new) (woven block_size num_blocks position (filled block_size (joined parts.now)))) }
+{
+    let end = put_joined(block_size, num_blocks, position, parts, page, out)?;
+    let fill = zeros(fill_len(block_size, end - position));
+    put_bytes(block_size, num_blocks, end, fill, page, out)?;
+    Ok(end + fill.len())
+}
+
 /// Puts a part of the file that begins at a position, filled with zeros to whole blocks. It
-/// answers the position behind it.
+/// answers the position after it.
+#[tactic(auto, using(crate::proofs::PutLaws::joined_one))]
 pub(crate) fn put_part<W: Sink>(
     block_size: u32,
     num_blocks: u32,
@@ -183,32 +236,28 @@ pub(crate) fn put_part<W: Sink>(
     ensures broken { OnErr result (W.is_broken out.new ≡ true) }
     ensures prefix { OnErr result (AppendsPart (W.taken out.old) (W.taken out.new) (woven block_size num_blocks position (filled block_size part.now))) }
 {
-    put_bytes(block_size, num_blocks, position, part, page, out)?;
-    let end = position + part.len();
-    let fill = zeros(fill_len(block_size, part.len()));
-    put_bytes(block_size, num_blocks, end, fill, page, out)?;
-    Ok(end + fill.len())
+    put_stream(block_size, num_blocks, position, &[part], page, out)
 }
 
-/// Puts parts of the file, the first of which begins at a position, one after the other.
-pub(crate) fn put_parts<W: Sink>(
+/// Puts streams, the first of which begins at a position, one after the other.
+pub(crate) fn put_streams<W: Sink>(
     block_size: u32,
     num_blocks: u32,
     position: usize,
-    parts: &[&[u8]],
+    streams: &[&[&[u8]]],
     page: &mut [u8],
     out: &mut W,
 ) -> Result<(), NotTaken>
     requires size { IsBlockSize block_size }
     requires long { length page.old ≡ block_size }
-    requires few { position + length (flat_map (filled block_size) (texts_of parts.now)) < 2 ^ 33 }
-    ensures ok { OnOk result (Appends (W.taken out.old) (W.taken out.new) (woven block_size num_blocks position (flat_map (filled block_size) (texts_of parts.now)))) }
+    requires few { position + length (flat_map (filled block_size) (joined_of streams.now)) < 2 ^ 33 }
+    ensures ok { OnOk result (Appends (W.taken out.old) (W.taken out.new) (woven block_size num_blocks position (flat_map (filled block_size) (joined_of streams.now)))) }
     ensures broken { OnErr result (W.is_broken out.new ≡ true) }
-    ensures prefix { OnErr result (AppendsPart (W.taken out.old) (W.taken out.new) (woven block_size num_blocks position (flat_map (filled block_size) (texts_of parts.now)))) }
+    ensures prefix { OnErr result (AppendsPart (W.taken out.old) (W.taken out.new) (woven block_size num_blocks position (flat_map (filled block_size) (joined_of streams.now)))) }
 {
     let mut position = position;
-    for part in parts {
-        position = put_part(block_size, num_blocks, position, part, page, out)?;
+    for parts in streams {
+        position = put_stream(block_size, num_blocks, position, parts, page, out)?;
     }
     Ok(())
 }

@@ -8,3 +8,4 @@ pub mod PartsLaws
 pub mod ValueLaws
 pub mod FoundLaws
 pub mod WrittenLaws
+pub mod SettingsLaws

@@ -77,4 +77,4 @@ no_bytes i = omega arith
 pub merged_bytes : (settings : SettingsView) (records : List (List ℕ)) → AreSettings settings → AllByRecursion AreBytes records → AreBytes (merged_file settings records)
 unfolding merged_file
 merged_bytes settings records are each =
-    image_is_bytes 4096 (merged_texts settings records) (no_bytes, (info_bytes settings are, (types_bytes records each, (no_bytes, (no_bytes, tt)))))
+    image_is_bytes settings.block_size (merged_texts settings records) (no_bytes, (info_bytes settings are, (types_bytes records each, (no_bytes, (no_bytes, tt)))))

@@ -2,7 +2,7 @@
 use Rattle.std.proofs.Common.{◌≡◌, ◌↔◌, ℕ, subst, List, [], ◌∷◌, length, refl, sym, ap, ◌∙◌, arith, inl, inr}
 use Rattle.std.specs.Prelude.{Option, Result, Ok, Err, IfOk, IfErr}
 use Rattle.std.specs.List.{concat}
-use Rattle.pdb_info.specs.Settings.{SettingsView, AreSettings}
+use Rattle.pdb_info.specs.Settings.{SettingsView, AreSettings, record_limit}
 use Rattle.type_trees.specs.Tree.{Tree, IsType}
 use Rattle.type_trees.specs.Canon.{texts}
 use Rattle.type_trees.specs.Finish.{IsCanonOf}
@@ -11,7 +11,7 @@ use Rattle.type_trees.proofs.WeightLaws.{weight_of_texts}
 use Rattle.type_trees.proofs.CanonLaws.{one_canonical_list}
 use Rattle.pdb_merge.specs.Union.{HasType, FileHas, SameTypes, Weighs, Within}
 use Rattle.pdb_merge.specs.Laws.{MergedReadsBack, OneMergedFile, MergedHas, MergedFilesDiffer, MergedAgain, EarlierMerge}
-use Rattle.pdb_merge.proofs.UnionLaws.{types_of_first, types_of_both, within_more, within_same, one_accepted}
+use Rattle.pdb_merge.proofs.UnionLaws.{types_of_first, types_of_both, within_same, one_accepted}
 use Rattle.pdb_merge.proofs.ReadBackLaws.{IsBack, is_back}
 use Rattle.type_trees.proofs.CanonTableLaws.{canon_same}
 use Rattle.msf_streams.specs.Woven.{AppendsPart}
@@ -24,14 +24,14 @@ same_records P Q records found same (l, canonical_l, are_l, members_l) (m, canon
     let one : l ≡ m = one_canonical_list l m canonical_l canonical_m (λ t. (λ c. (members_m t).1 ((same t).0 ((members_l t).0 c)), λ c. (members_l t).1 ((same t).1 ((members_m t).0 c)))) in
     are_l ∙ ap texts one ∙ sym are_m
 
-same_settings : (settings others : SettingsView) (records : List (List ℕ)) → settings.age ≡ others.age → settings.guid ≡ others.guid → merged_file settings records ≡ merged_file others records
+same_settings : (settings others : SettingsView) (records : List (List ℕ)) → settings.age ≡ others.age → settings.guid ≡ others.guid → settings.block_size ≡ others.block_size → merged_file settings records ≡ merged_file others records
 unfolding merged_file
-same_settings settings others records age guid = rw (age, guid) refl
+same_settings settings others records age guid size = rw (age, guid, size) refl
 
 pub one_merged_file : OneMergedFile
-one_merged_file files others settings same x y age guid types (records, canon, is_x) (found, canon_y, is_y) =
+one_merged_file files others settings same x y age guid size types (records, canon, is_x) (found, canon_y, is_y) =
     let one = same_records (HasType files) (HasType others) records found types canon canon_y in
-    is_x ∙ ap (merged_file settings) one ∙ same_settings settings same found age guid ∙ sym is_y
+    is_x ∙ ap (merged_file settings) one ∙ same_settings settings same found age guid size ∙ sym is_y
 
 -- the file is accepted with its own records alone
 own_records : (P : Tree → Type 0) (file : List ℕ) (records others : List (List ℕ)) → IsBack P file records → IsAccepted file others → records ≡ others
@@ -53,11 +53,11 @@ types_of_one x t =
     (λ h. elim (first.0 h) [ inl here ↦ here | inr none ↦ absurd (omega (arith, none.1)) ], λ here. first.1 (inl here))
 
 -- the file of a canonical list of the types of files is just what is said of it
-pub is_file : (files : List (List ℕ)) (settings : SettingsView) (records : List (List ℕ)) → AreSettings settings → Within (HasType files) settings.limit
+pub is_file : (files : List (List ℕ)) (settings : SettingsView) (records : List (List ℕ)) → AreSettings settings → Within (HasType files) (record_limit settings)
     → IsCanonOf records (HasType files) → IsFileOf files settings (merged_file settings records) records
 is_file files settings records are within canon =
     let file = merged_file settings records in
-    let back = is_back files settings records are (within_more (HasType files) settings.limit 1073741824 are.limit_fits within) canon in
+    let back = is_back files settings records are within canon in
     let alone : SameTypes files (file ∷ []) = λ t. (
       λ h. (types_of_one file t).1 ((file_has (HasType files) file records back t).1 h),
       λ h. (file_has (HasType files) file records back t).0 ((types_of_one file t).0 h),
@@ -65,17 +65,17 @@ is_file files settings records are within canon =
     record {
       made = refl;
       holds = record { accepted = back.accepted; canon = canon; types = back.just; once = back.once };
-      same = λ others its other age guid types merged. sym (one_merged_file files others settings its file other (sym age) (sym guid) types (records, canon, refl) merged);
+      same = λ others its other age guid size types merged. sym (one_merged_file files others settings its file other (sym age) (sym guid) (sym size) types (records, canon, refl) merged);
       can = record {
         accepted = one_accepted file records back.accepted;
-        within = within_same (HasType files) (HasType (file ∷ [])) settings.limit alone within;
+        within = within_same (HasType files) (HasType (file ∷ [])) (record_limit settings) alone within;
       };
       again = (records, canon_same records (HasType files) (HasType (file ∷ [])) canon alone, refl);
     }
 
 -- ---- the laws
 
-of_merged : (files : List (List ℕ)) (settings : SettingsView) (x : List ℕ) → AreSettings settings → Within (HasType files) settings.limit
+of_merged : (files : List (List ℕ)) (settings : SettingsView) (x : List ℕ) → AreSettings settings → Within (HasType files) (record_limit settings)
     → (merged : Merged (HasType files) settings x) → IsFileOf files settings x merged.0
 of_merged files settings x are within (records, canon, is_x) = rw is_x (is_file files settings records are within canon)
 
@@ -87,7 +87,7 @@ merged_again settings are files x within merged = let is = of_merged files setti
 
 pub merged_has : (settings : SettingsView) → AreSettings settings → MergedHas settings
 merged_has settings are files x within (records, canon, is_x) t =
-    rw is_x (file_has (HasType files) (merged_file settings records) records (is_back files settings records are (within_more (HasType files) settings.limit 1073741824 are.limit_fits within) canon) t)
+    rw is_x (file_has (HasType files) (merged_file settings records) records (is_back files settings records are within canon) t)
 
 pub merged_files_differ : (settings other : SettingsView) → AreSettings settings → AreSettings other → MergedFilesDiffer settings other
 merged_files_differ settings other are are_o files others x within within_o merged merged_o t =
@@ -112,7 +112,7 @@ canon_weighs P records bytes (l, canonical, are, members) is =
     (l, record { distinct = canonical.distinct; members = members }, sym (is ∙ ap (λ (x : List (List ℕ)). length (concat x)) are ∙ weight_of_texts l canonical))
 
 pub wrote : {E : Type 0} (files : List (List ℕ)) (settings : SettingsView) (records : List (List ℕ)) (old new : Option (List ℕ)) (answer : Result Summary E)
-    → AreSettings settings → Within (HasType files) settings.limit → IsCanonOf records (HasType files)
+    → AreSettings settings → Within (HasType files) (record_limit settings) → IsCanonOf records (HasType files)
     → IfOk answer (WroteFile records settings old new) → IfOk answer (Wrote files settings old new)
 wrote files settings records old new (Ok summary) are within canon did = record {
   file = merged_file settings records;
@@ -126,7 +126,7 @@ wrote files settings records old new (Ok summary) are within canon did = record 
 wrote files settings records old new (Err fault) are within canon did = tt
 
 pub wrote_part : {A E : Type 0} (files : List (List ℕ)) (settings : SettingsView) (records : List (List ℕ)) (old new : Option (List ℕ)) (Broken : Type 0) (e : E) (answer : Result A E)
-    → AreSettings settings → Within (HasType files) settings.limit → IsCanonOf records (HasType files)
+    → AreSettings settings → Within (HasType files) (record_limit settings) → IsCanonOf records (HasType files)
     → IfErr answer (λ fault. fault ≡ e → Broken × AppendsPart old new (merged_file settings records))
     → IfErr answer (λ fault. fault ≡ e → Broken × WrotePart files settings old new)
 wrote_part files settings records old new Broken e (Ok done) are within canon part = tt

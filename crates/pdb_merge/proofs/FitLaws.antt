@@ -1,14 +1,12 @@
 -- How long the file of types is, and that it fits.
 use Rattle.std.proofs.Common.{◌≡◌, ℕ, ◌+◌, ◌<◌, ◌≤◌, ◌^◌, List, [], ◌∷◌, ◌++◌, length, map, refl, ap, ◌∙◌, arith}
 use Rattle.std.specs.Prelude.{All}
-use Rattle.std.specs.List.{concat, sum_by}
-use Rattle.std.proofs.lemmas.List.Sums.{sum_by-cons}
-use Rattle.msf_streams.proofs.FitLaws.{few_blocks_fit}
+use Rattle.std.specs.List.{concat}
+use Rattle.pdb_info.proofs.SettingsLaws.{records_fit}
 use Rattle.std.proofs.lemmas.List.{length-append}
 use Rattle.std.proofs.lemmas.List.Elements.{All-nil, All-cons, All-head, All-tail}
-use Rattle.msf_blocks.specs.BlockNumber.{blocks_for}
 use Rattle.msf_streams.specs.Image.{Fits, Writable}
-use Rattle.pdb_info.specs.Settings.{SettingsView, AreSettings}
+use Rattle.pdb_info.specs.Settings.{SettingsView, AreSettings, record_limit}
 use Rattle.pdb_info.specs.Written.{info_text}
 use Rattle.pdb_info.specs.Guid.{stored_guid}
 use Rattle.tpi_records.specs.Written.{header_text, header_numbers}
@@ -34,19 +32,6 @@ pub length-stream : (records : List (List ℕ)) → length (type_stream records)
 unfolding type_stream
 length-stream records = length-append (header_text (length records) (length (concat records))) (concat records) ∙ ap (λ n. n + length (concat records)) (length-header (length records) (length (concat records)))
 
--- how many blocks the streams take
-stream_blocks : (bytes : ℕ) → sum_by (blocks_for 4096) (0 ∷ 52 ∷ (56 + bytes) ∷ 0 ∷ 0 ∷ []) ≡ 1 + blocks_for 4096 (56 + bytes)
-stream_blocks bytes =
-    let f : ℕ → ℕ = blocks_for 4096 in
-    let none : sum_by f [] ≡ 0 = refl in
-    let small : f 52 ≡ 1 = refl in
-    omega (arith, sum_by-cons f 0 (52 ∷ (56 + bytes) ∷ 0 ∷ 0 ∷ []), sum_by-cons f 52 ((56 + bytes) ∷ 0 ∷ 0 ∷ []), sum_by-cons f (56 + bytes) (0 ∷ 0 ∷ []), sum_by-cons f 0 (0 ∷ []), sum_by-cons f 0 [], none, small)
-
-pub small_fits : (bytes : ℕ) → bytes ≤ 1073741824 → Fits 4096 (0 ∷ 52 ∷ (56 + bytes) ∷ 0 ∷ 0 ∷ [])
-small_fits bytes few =
-    let total : 1 + blocks_for 4096 (56 + bytes) ≤ 262146 = omega (arith, few) in
-    few_blocks_fit (0 ∷ 52 ∷ (56 + bytes) ∷ 0 ∷ 0 ∷ []) refl (rw (stream_blocks bytes) total)
-
 stream_short : (records : List (List ℕ)) → length (concat records) ≤ 1073741824 → length (type_stream records) < 2 ^ 32
 stream_short records few = omega (arith, length-stream records, few)
 
@@ -55,9 +40,9 @@ pub sizes_are : (settings : SettingsView) (records : List (List ℕ)) → AreSet
     → map length (merged_texts settings records) ≡ 0 ∷ 52 ∷ (56 + length (concat records)) ∷ 0 ∷ 0 ∷ []
 sizes_are settings records are = rw (length-info settings.age settings.guid are.guid_long, length-stream records) refl
 
-pub merged_fits : (settings : SettingsView) (records : List (List ℕ)) → AreSettings settings → length (concat records) ≤ 1073741824
-    → Fits 4096 (map length (merged_texts settings records))
-merged_fits settings records are few = rw (sizes_are settings records are) (small_fits (length (concat records)) few)
+pub merged_fits : (settings : SettingsView) (records : List (List ℕ)) → AreSettings settings → length (concat records) ≤ record_limit settings
+    → Fits settings.block_size (map length (merged_texts settings records))
+merged_fits settings records are few = rw (sizes_are settings records are) (records_fit settings are (length (concat records)) few)
 
 short_writable : (settings : SettingsView) (records : List (List ℕ)) → AreSettings settings → 56 + length (concat records) < 2 ^ 32 → All (λ text. length text < 2 ^ 32) (merged_texts settings records)
 short_writable settings records are few =
@@ -68,12 +53,12 @@ short_writable settings records are few =
     (All-cons P (info_text settings.age settings.guid) (type_stream records ∷ [] ∷ [] ∷ []) (omega (arith, length-info settings.age settings.guid are.guid_long)) (All-cons P (type_stream records) ([] ∷ [] ∷ []) short none))
 
 -- the texts can be written just where their sizes fit
-pub sizes_writable : (settings : SettingsView) (records : List (List ℕ)) → AreSettings settings → Fits 4096 (merged_sizes (length (concat records))) → 56 + length (concat records) < 2 ^ 32
-    → Writable 4096 (merged_texts settings records)
+pub sizes_writable : (settings : SettingsView) (records : List (List ℕ)) → AreSettings settings → Fits settings.block_size (merged_sizes (length (concat records))) → 56 + length (concat records) < 2 ^ 32
+    → Writable settings.block_size (merged_texts settings records)
 sizes_writable settings records are fits few = record { short = short_writable settings records are few; fits = rw (sizes_are settings records are) fits }
 
-pub writable_sizes : (settings : SettingsView) (records : List (List ℕ)) → AreSettings settings → Writable 4096 (merged_texts settings records)
-    → Fits 4096 (merged_sizes (length (concat records))) × (56 + length (concat records) < 2 ^ 32)
+pub writable_sizes : (settings : SettingsView) (records : List (List ℕ)) → AreSettings settings → Writable settings.block_size (merged_texts settings records)
+    → Fits settings.block_size (merged_sizes (length (concat records))) × (56 + length (concat records) < 2 ^ 32)
 writable_sizes settings records are w =
     let P : List ℕ → Type 0 = λ text. length text < 2 ^ 32 in
     let behind = All-tail P (info_text settings.age settings.guid) (type_stream records ∷ [] ∷ [] ∷ []) (All-tail P [] (info_text settings.age settings.guid ∷ type_stream records ∷ [] ∷ [] ∷ []) w.short) in
@@ -82,6 +67,6 @@ writable_sizes settings records are w =
     let fit = rw (sizes_are settings records are) at fits in
     (fit, omega (arith, length-stream records, short))
 
-pub merged_writable : (settings : SettingsView) (records : List (List ℕ)) → AreSettings settings → length (concat records) ≤ 1073741824
-    → Writable 4096 (merged_texts settings records)
-merged_writable settings records are few = sizes_writable settings records are (small_fits (length (concat records)) few) (omega (arith, few))
+pub merged_writable : (settings : SettingsView) (records : List (List ℕ)) → AreSettings settings → length (concat records) ≤ record_limit settings
+    → Writable settings.block_size (merged_texts settings records)
+merged_writable settings records are few = sizes_writable settings records are (records_fit settings are (length (concat records)) few) (omega (arith, few, are.limit_fits))

@@ -5,9 +5,8 @@ use Rattle.std.proofs.lemmas.Bool.{cases_order}
 use Rattle.std.proofs.lemmas.List.{get_or_default, append-nil, length-map}
 use Rattle.std.proofs.lemmas.List.Elements.{Contains-get_or}
 use Rattle.msf_streams.specs.Image.{ReadsBack, image_layout, image_length}
-use Rattle.msf_blocks.proofs.SizeLaws.{size_4096}
 use Rattle.msf_streams.proofs.BackLaws.{reads_back}
-use Rattle.pdb_info.specs.Settings.{SettingsView, AreSettings, limit_of_records}
+use Rattle.pdb_info.specs.Settings.{SettingsView, AreSettings, record_limit}
 use Rattle.pdb_info.specs.Written.{info_text}
 use Rattle.tpi_records.specs.Records.{IsRecord, HasRecords}
 use Rattle.tpi_records.specs.Written.{header_text}
@@ -28,14 +27,14 @@ use Rattle.byte_fields.specs.Bytes.{AreBytes}
 use Rattle.pdb_merge.proofs.BytesLaws.{canon_bytes, merged_bytes}
 use Rattle.pdb_merge.proofs.FitLaws.{length-info, merged_fits, sizes_are}
 
-pub merged_back : (settings : SettingsView) (records : List (List ℕ)) → AreSettings settings → length (concat records) ≤ 1073741824
-    → ReadsBack 4096 (merged_texts settings records)
-merged_back settings records are few = reads_back 4096 (merged_texts settings records) size_4096 (merged_fits settings records are few)
+pub merged_back : (settings : SettingsView) (records : List (List ℕ)) → AreSettings settings → length (concat records) ≤ record_limit settings
+    → ReadsBack settings.block_size (merged_texts settings records)
+merged_back settings records are few = reads_back settings.block_size (merged_texts settings records) are.size_fits (merged_fits settings records are few)
 
-pub merged_length : (settings : SettingsView) (records : List (List ℕ)) → AreSettings settings → length (concat records) ≤ 1073741824
-    → length (merged_file settings records) ≡ image_length 4096 (0 ∷ 52 ∷ (56 + length (concat records)) ∷ 0 ∷ 0 ∷ [])
+pub merged_length : (settings : SettingsView) (records : List (List ℕ)) → AreSettings settings → length (concat records) ≤ record_limit settings
+    → length (merged_file settings records) ≡ image_length settings.block_size (0 ∷ 52 ∷ (56 + length (concat records)) ∷ 0 ∷ 0 ∷ [])
 unfolding merged_file
-merged_length settings records are few = (merged_back settings records are few).long ∙ ap (image_length 4096) (sizes_are settings records are)
+merged_length settings records are few = (merged_back settings records are few).long ∙ ap (image_length settings.block_size) (sizes_are settings records are)
 
 -- records that are a table are a stream of types
 pub stream_holds : (records : List (List ℕ)) → AllByRecursion IsRecord records → length (concat records) ≤ 1073741824 → HasRecords (type_stream records) records
@@ -46,7 +45,7 @@ stream_holds records each few =
     let same = rw (append-nil (concat records)) at has in same
 
 -- the file is accepted with these records
-accepted_back : (settings : SettingsView) (records : List (List ℕ)) → AreSettings settings → length (concat records) ≤ 1073741824
+accepted_back : (settings : SettingsView) (records : List (List ℕ)) → AreSettings settings → length (concat records) ≤ record_limit settings
     → AllByRecursion IsRecord records → AllByRecursion AreBytes records → AreTypes records → IsAccepted (merged_file settings records) records
 unfolding merged_file
 accepted_back settings records are few each bytes types =
@@ -56,12 +55,12 @@ accepted_back settings records are few each bytes types =
       bytes = merged_bytes settings records are bytes;
       stream = type_stream records;
       has_stream = record {
-        layout = image_layout 4096 (map length (merged_texts settings records));
+        layout = image_layout settings.block_size (map length (merged_texts settings records));
         has_layout = back.layout;
         has_info = (info, back.streams 1, omega (arith, length-info settings.age settings.guid are.guid_long));
         is_stream = back.streams 2;
       };
-      has_records = stream_holds records each few;
+      has_records = stream_holds records each (omega (arith, few, are.limit_fits));
       types = types;
     }
 
@@ -123,9 +122,9 @@ pub record IsBack (P : Tree → Type 0) (file : List ℕ) (records : List (List 
   pub just : (t : Tree) → IsType records t ↔ P t
   pub once : StandOnce records
 
-pub is_back : (files : List (List ℕ)) (settings : SettingsView) (records : List (List ℕ)) → AreSettings settings → Within (HasType files) limit_of_records → IsCanonOf records (HasType files)
+pub is_back : (files : List (List ℕ)) (settings : SettingsView) (records : List (List ℕ)) → AreSettings settings → Within (HasType files) (record_limit settings) → IsCanonOf records (HasType files)
     → IsBack (HasType files) (merged_file settings records) records
 is_back files settings records are within canon =
     let back = canon_types (HasType files) records canon in
-    let few = canon_within (HasType files) records 1073741824 canon within in
+    let few = canon_within (HasType files) records (record_limit settings) canon within in
     record { accepted = accepted_back settings records are few back.types.framed (canon_bytes files records canon) back.types; just = back.just; once = back.once }

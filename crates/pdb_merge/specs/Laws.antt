@@ -1,6 +1,6 @@
 -- What holds of accepted files, and of the files that are written for their types.
 use Rattle.std.specs.Prelude.{ℕ, ◌≡◌, ◌≢◌, ◌⊎◌, ◌↔◌, List, [], ◌∷◌, ◌++◌}
-use Rattle.pdb_info.specs.Settings.{SettingsView}
+use Rattle.pdb_info.specs.Settings.{SettingsView, record_limit}
 use Rattle.type_trees.specs.Tree.{Tree}
 use Rattle.pdb_merge.specs.Accepted.{IsAccepted}
 use Rattle.pdb_merge.specs.Union.{FileHas, HasTypeBelow, HasType, SameFiles, SameTypes, Weighs, Within, CanMerge, Stops}
@@ -17,37 +17,37 @@ OneListEach = (file : List ℕ) (some others : List (List ℕ)) → IsAccepted f
 -- a file that is written for the types of files is accepted, and has just these types
 abbrev pub MergedReadsBack : SettingsView → Type 0
 MergedReadsBack settings =
-    (files : List (List ℕ)) (x : List ℕ) → Within (HasType files) settings.limit → Merged (HasType files) settings x
+    (files : List (List ℕ)) (x : List ℕ) → Within (HasType files) (record_limit settings) → Merged (HasType files) settings x
     → (records : List (List ℕ)) × HoldsJust (HasType files) x records
 
 -- the types of a file that is written for files are theirs
 abbrev pub MergedHas : SettingsView → Type 0
 MergedHas settings =
-    (files : List (List ℕ)) (x : List ℕ) → Within (HasType files) settings.limit → Merged (HasType files) settings x
+    (files : List (List ℕ)) (x : List ℕ) → Within (HasType files) (record_limit settings) → Merged (HasType files) settings x
     → (t : Tree) → FileHas x t ↔ HasType files t
 
 -- lists of files for which one file is written have the same types, whatever the settings are
 abbrev pub MergedFilesDiffer : SettingsView → SettingsView → Type 0
 MergedFilesDiffer settings other =
-    (files others : List (List ℕ)) (x : List ℕ) → Within (HasType files) settings.limit → Within (HasType others) other.limit
+    (files others : List (List ℕ)) (x : List ℕ) → Within (HasType files) (record_limit settings) → Within (HasType others) (record_limit other)
     → Merged (HasType files) settings x → Merged (HasType others) other x → SameTypes files others
 
 -- a file that is written for files can be merged alone, and is written again
 abbrev pub MergedAgain : SettingsView → Type 0
 MergedAgain settings =
-    (files : List (List ℕ)) (x : List ℕ) → Within (HasType files) settings.limit → Merged (HasType files) settings x
-    → CanMerge (x ∷ []) settings.limit × Merged (HasType (x ∷ [])) settings x
+    (files : List (List ℕ)) (x : List ℕ) → Within (HasType files) (record_limit settings) → Merged (HasType files) settings x
+    → CanMerge (x ∷ []) (record_limit settings) × Merged (HasType (x ∷ [])) settings x
 
 -- a file that is written for files, in their place, changes no types
 abbrev pub EarlierMerge : SettingsView → Type 0
 EarlierMerge settings =
-    (files others : List (List ℕ)) (x : List ℕ) → Within (HasType files) settings.limit → Merged (HasType files) settings x
+    (files others : List (List ℕ)) (x : List ℕ) → Within (HasType files) (record_limit settings) → Merged (HasType files) settings x
     → SameTypes (x ∷ others) (files ++ others)
 
 -- for lists of files with the same types one file is written, whatever the limits are
 abbrev pub OneMergedFile : Type 0
 OneMergedFile =
-    (files others : List (List ℕ)) (settings its : SettingsView) (x y : List ℕ) → settings.age ≡ its.age → settings.guid ≡ its.guid
+    (files others : List (List ℕ)) (settings its : SettingsView) (x y : List ℕ) → settings.age ≡ its.age → settings.guid ≡ its.guid → settings.block_size ≡ its.block_size
     → SameTypes files others → Merged (HasType files) settings x → Merged (HasType others) its y → x ≡ y
 
 -- ---- lists of files

@@ -4,7 +4,7 @@ use Rattle.std.specs.List.{concat}
 use Rattle.std.specs.Io.KnownBytes.{Appends}
 use Rattle.msf_streams.specs.Image.{image}
 use Rattle.msf_streams.specs.Woven.{AppendsPart}
-use Rattle.pdb_info.specs.Settings.{SettingsView}
+use Rattle.pdb_info.specs.Settings.{SettingsView, record_limit}
 use Rattle.pdb_info.specs.Written.{info_text}
 use Rattle.tpi_records.specs.Written.{header_text}
 use Rattle.type_trees.specs.Tree.{Tree, Stands, IsType}
@@ -19,6 +19,10 @@ use Rattle.pdb_merge.specs.declared.summary.Summary.{Summary}
 unfoldable pub type_stream : List (List ℕ) → List ℕ
 type_stream records = header_text (length records) (length (concat records)) ++ concat records
 
+-- the texts of a file with this info stream, and a stream of types of this header and these records
+abbrev pub parts_texts : List ℕ → List ℕ → List ℕ → List (List ℕ)
+parts_texts info header records = [] ∷ info ∷ (header ++ records) ∷ [] ∷ [] ∷ []
+
 -- the texts of a file with these settings and these records: an empty one, the info stream, the records, and two empty ones
 abbrev pub merged_texts : SettingsView → List (List ℕ) → List (List ℕ)
 merged_texts settings records = [] ∷ info_text settings.age settings.guid ∷ type_stream records ∷ [] ∷ [] ∷ []
@@ -29,7 +33,7 @@ merged_sizes bytes = 0 ∷ 52 ∷ (56 + bytes) ∷ 0 ∷ 0 ∷ []
 
 -- the file with these settings and these records
 unfoldable pub merged_file : SettingsView → List (List ℕ) → List ℕ
-merged_file settings records = image 4096 (merged_texts settings records)
+merged_file settings records = image settings.block_size (merged_texts settings records)
 
 -- x is the file with these settings of the canonical list of the types with P
 abbrev pub Merged : (Tree → Type 0) → SettingsView → List ℕ → Type 0
@@ -48,10 +52,10 @@ pub record HoldsJust (P : Tree → Type 0) (file : List ℕ) (records : List (Li
   pub types : (t : Tree) → IsType records t ↔ P t
   pub once : StandOnce records
 
--- every list of files with the same types has this file, under every settings with the same age and GUID
+-- every list of files with the same types has this file, under every settings with the same age, GUID and block size
 abbrev pub IsSameFor : List (List ℕ) → SettingsView → List ℕ → Type 0
 IsSameFor files settings file =
-    (others : List (List ℕ)) (its : SettingsView) (other : List ℕ) → its.age ≡ settings.age → its.guid ≡ settings.guid
+    (others : List (List ℕ)) (its : SettingsView) (other : List ℕ) → its.age ≡ settings.age → its.guid ≡ settings.guid → its.block_size ≡ settings.block_size
     → SameTypes files others → Merged (HasType others) its other → other ≡ file
 
 -- this is the file of the types of some files, with these records
@@ -63,7 +67,7 @@ pub record IsFileOf (files : List (List ℕ)) (settings : SettingsView) (file : 
   -- every other list of files with the same types has the same file
   pub same : IsSameFor files settings file
   -- it can be merged alone, and has itself as its file
-  pub can : CanMerge (file ∷ []) settings.limit
+  pub can : CanMerge (file ∷ []) (record_limit settings)
   pub again : Merged (HasType (file ∷ [])) settings file
 
 -- ---- what a sink took

@@ -3,6 +3,7 @@
 ghost use Rattle.std.specs.Prelude.{◌≡◌, ◌≢◌, ◌<◌, [], ℕ, List, length, get_or, IfOk, IfErr};
 ghost use Rattle.msf_streams.specs.Image.{texts_of};
 ghost use Rattle.type_trees.specs.Finish.{IsCanonOf};
+ghost use Rattle.pdb_info.specs.Settings.{record_limit};
 ghost use Rattle.pdb_merge.specs.Fault.{of_add};
 ghost use Rattle.pdb_merge.specs.Union.{HasType, SameFiles, CanMerge, Stops};
 ghost use Rattle.pdb_merge.specs.Merging.{HasTaken};
@@ -87,12 +88,12 @@ pub fn merge_files<S: BuildHasher + Drop, A: Allocator + Copy>(
     hasher: S,
 ) -> Result<Canon<A>, MergeFault<A>>
     ensures value { IfOk result (λ canon. IsCanonOf canon (HasType (texts_of files.now))) }
-    ensures can { IfOk result (λ _. CanMerge (texts_of files.now) settings.now.limit) }
+    ensures can { IfOk result (λ _. CanMerge (texts_of files.now) (record_limit settings.now)) }
     // Files that can be merged are refused only where memory is.
-    ensures found { CanMerge (texts_of files.now) settings.now.limit → IfErr result (λ fault. fault ≡ MergeFault.Memory) }
-    ensures first { IfErr result (Stops (texts_of files.now) settings.now.limit) }
+    ensures found { CanMerge (texts_of files.now) (record_limit settings.now) → IfErr result (λ fault. fault ≡ MergeFault.Memory) }
+    ensures first { IfErr result (Stops (texts_of files.now) (record_limit settings.now)) }
     // What is refused is refused in any order.
-    ensures any_order { IfErr result (λ fault. fault ≢ MergeFault.Memory → (others : List (List ℕ)) → SameFiles (texts_of files.now) others → CanMerge others settings.now.limit → ⊥) }
+    ensures any_order { IfErr result (λ fault. fault ≢ MergeFault.Memory → (others : List (List ℕ)) → SameFiles (texts_of files.now) others → CanMerge others (record_limit settings.now) → ⊥) }
 {
-    list_all(alloc, files, settings.limit(), hasher)
+    list_all(alloc, files, settings.record_limit(), hasher)
 }

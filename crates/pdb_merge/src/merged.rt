@@ -4,6 +4,7 @@ ghost use Rattle.std.specs.Prelude.{◌≡◌, ◌≢◌, ◌⊎◌, ◌≤◌, 
 ghost use Rattle.std.specs.List.{concat};
 ghost use Rattle.msf_streams.specs.Image.{texts_of};
 ghost use Rattle.msf_streams.specs.Woven.{AppendsPart};
+ghost use Rattle.pdb_info.specs.Settings.{record_limit};
 ghost use Rattle.pdb_merge.specs.Merged.{merged_file, WroteFile, Wrote, WrotePart};
 ghost use Rattle.pdb_merge.specs.Union.{SameFiles, CanMerge, Stops};
 ghost use Rattle.pdb_merge.specs.declared.fault.MergeFault.{MergeFault};
@@ -38,7 +39,7 @@ fn write_canon<W: Sink, A: Allocator + Copy>(
     settings: &Settings,
     out: &mut W,
 ) -> Result<Summary, OutFault<A>>
-    requires { length (concat canon.now) ≤ 1073741824 }
+    requires { length (concat canon.now) ≤ record_limit settings.now }
     ensures value { IfOk result (WroteFile canon.now settings.now (W.taken out.old) (W.taken out.new)) }
     ensures fault { IfErr result (λ fault. (fault ≡ OutFault.Memory) ⊎ (fault ≡ OutFault.Write)) }
     ensures write { IfErr result (λ fault. fault ≡ OutFault.Write → (W.is_broken out.new ≡ true)
@@ -52,7 +53,7 @@ fn write_canon<W: Sink, A: Allocator + Copy>(
     }
     let count = canon.len();
     let bytes = canon.bytes_len();
-    let length = merged_len(bytes);
+    let length = merged_len(settings, bytes);
     Ok(Summary {
         types: count as u32,
         bytes,
@@ -74,13 +75,13 @@ pub fn merge_to<W: Sink, S: BuildHasher + Drop, A: Allocator + Copy>(
     hasher: S,
 ) -> Result<Summary, OutFault<A>>
     ensures value { IfOk result (Wrote (texts_of files.now) settings.now (W.taken out.old) (W.taken out.new)) }
-    ensures can { IfOk result (λ _. CanMerge (texts_of files.now) settings.now.limit) }
+    ensures can { IfOk result (λ _. CanMerge (texts_of files.now) (record_limit settings.now)) }
     // Files that can be merged are refused only where memory is, or by the sink.
-    ensures found { CanMerge (texts_of files.now) settings.now.limit → IfErr result (λ fault. (fault ≡ OutFault.Merge MergeFault.Memory) ⊎ (fault ≡ OutFault.Memory) ⊎ (fault ≡ OutFault.Write)) }
-    ensures first { IfErr result (λ fault. (inner : MergeFault A) → fault ≡ OutFault.Merge inner → Stops (texts_of files.now) settings.now.limit inner) }
+    ensures found { CanMerge (texts_of files.now) (record_limit settings.now) → IfErr result (λ fault. (fault ≡ OutFault.Merge MergeFault.Memory) ⊎ (fault ≡ OutFault.Memory) ⊎ (fault ≡ OutFault.Write)) }
+    ensures first { IfErr result (λ fault. (inner : MergeFault A) → fault ≡ OutFault.Merge inner → Stops (texts_of files.now) (record_limit settings.now) inner) }
     // Files that are refused are refused in any order.
     ensures any_order { IfErr result (λ fault. (inner : MergeFault A) → fault ≡ OutFault.Merge inner → inner ≢ MergeFault.Memory
-        → (others : List (List ℕ)) → SameFiles (texts_of files.now) others → CanMerge others settings.now.limit → ⊥) }
+        → (others : List (List ℕ)) → SameFiles (texts_of files.now) others → CanMerge others (record_limit settings.now) → ⊥) }
     ensures write { IfErr result (λ fault. fault ≡ OutFault.Write → (W.is_broken out.new ≡ true)
         × WrotePart (texts_of files.now) settings.now (W.taken out.old) (W.taken out.new)) }
     ensures untouched { IfErr result (λ fault. fault ≢ OutFault.Write → out.new ≡ out.old) }

@@ -3,6 +3,7 @@
 
 mod forward;
 mod merging;
+mod sizes;
 
 use crate::{Buffer, MergeFault, PdbFault, read_types};
 use acceptance::{put, sample};

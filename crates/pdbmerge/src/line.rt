@@ -48,6 +48,9 @@ const STATUSES: &str =
 /// The limit of `merge` where its words give none, in bytes.
 const LIMIT: u32 = 1_073_741_824;
 
+/// The size of a block where the words of `merge` give none, in bytes.
+const BLOCK_SIZE: u32 = 4096;
+
 /// A command, with its words as values.
 #[derive(Debug, Drop)]
 pub enum Line {
@@ -78,7 +81,7 @@ pub enum Line {
     Streams {
         file: String,
     },
-    /// `merge --guid G --age N [--limit L] OUT IN...`
+    /// `merge --guid G --age N [--limit L] [--block-size B] OUT IN...`
     Merge {
         settings: Settings,
         out: String,
@@ -179,6 +182,12 @@ fn merging<'a>(alloc: Global) -> Result<Command<'a>, AllocError> {
         "L",
         "How many bytes the types may have together, up to 1073741824, which is the default",
     );
+    let block_size = option(
+        alloc,
+        "block-size",
+        "B",
+        "How many bytes a block of the file has: 512, 1024, 2048, 4096 (the default), 8192, 16384 or 32768",
+    );
     let out = Arg::new(alloc, "OUT")
         .help("The PDB file to write")
         .required(true)
@@ -195,6 +204,7 @@ fn merging<'a>(alloc: Global) -> Result<Command<'a>, AllocError> {
         .arg(guid.required(true))?
         .arg(age.required(true))?
         .arg(limit)?
+        .arg(block_size)?
         .arg(out)?
         .arg(inputs)
 }
@@ -243,17 +253,23 @@ fn number_of(words: &ArgMatches<'_>, name: &str) -> Result<u32, LineFault> {
     word.parse().map_err(|_| LineFault::Word)
 }
 
+/// The number that stands under a name, or another where there is none.
+fn number_or(words: &ArgMatches<'_>, name: &str, default: u32) -> Result<u32, LineFault> {
+    if words.contains_id(name) {
+        number_of(words, name)
+    } else {
+        Ok(default)
+    }
+}
+
 /// The settings of the file that is written.
 fn settings_of(words: &ArgMatches<'_>) -> Result<Settings, LineFault> {
     let guid = words.get_str("guid").ok_or(LineFault::Word)?;
     let guid = Uuid::parse_str(guid).map_err(|_| LineFault::Word)?;
     let age = number_of(words, "age")?;
-    let limit = if words.contains_id("limit") {
-        number_of(words, "limit")?
-    } else {
-        LIMIT
-    };
-    Settings::new(guid, age, limit).ok_or(LineFault::Word)
+    let limit = number_or(words, "limit", LIMIT)?;
+    let block_size = number_or(words, "block-size", BLOCK_SIZE)?;
+    Settings::new(guid, age, limit, block_size).ok_or(LineFault::Word)
 }
 
 /// The files that are merged.

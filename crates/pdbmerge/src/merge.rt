@@ -4,6 +4,7 @@ ghost use Rattle.std.specs.Prelude.{◌≡◌, ◌≢◌, ◌⊎◌, ◌++◌, t
 ghost use Rattle.std.specs.Io.KnownBytes.{Appends};
 ghost use Rattle.msf_streams.specs.Image.{texts_of};
 ghost use Rattle.msf_streams.specs.Woven.{AppendsPart};
+ghost use Rattle.pdb_info.specs.Settings.{record_limit};
 ghost use Rattle.pdb_merge.specs.Merged.{WrotePart};
 ghost use Rattle.pdb_merge.specs.Union.{SameFiles, CanMerge};
 ghost use Rattle.pdb_merge.specs.declared.fault.MergeFault.{MergeFault};
@@ -61,13 +62,13 @@ pub fn run_merge<W: Sink, V: Sink, S: BuildHasher + Drop, A: Allocator + Copy>(
     hasher: S,
 ) -> Result<(), RunFault<A>>
     ensures value { OnOk result (WroteAndReported (texts_of files.now) settings.now (W.taken out.old) (W.taken out.new) (V.taken report.old) (V.taken report.new)) }
-    ensures can { OnOk result (CanMerge (texts_of files.now) settings.now.limit) }
+    ensures can { OnOk result (CanMerge (texts_of files.now) (record_limit settings.now)) }
     // Files that can be merged are refused only where memory is, or by a sink.
-    ensures found { CanMerge (texts_of files.now) settings.now.limit → IfErr result (λ fault. (fault ≡ RunFault.Memory) ⊎ (fault ≡ RunFault.Write)) }
-    ensures first { IfErr result (IsNotMerged (texts_of files.now) settings.now.limit) }
+    ensures found { CanMerge (texts_of files.now) (record_limit settings.now) → IfErr result (λ fault. (fault ≡ RunFault.Memory) ⊎ (fault ≡ RunFault.Write)) }
+    ensures first { IfErr result (IsNotMerged (texts_of files.now) (record_limit settings.now)) }
     // Files that are refused are refused in any order.
     ensures any_order { IfErr result (λ fault. (inner : MergeFault A) → fault ≡ RunFault.Merge inner
-        → (others : List (List ℕ)) → SameFiles (texts_of files.now) others → CanMerge others settings.now.limit → ⊥) }
+        → (others : List (List ℕ)) → SameFiles (texts_of files.now) others → CanMerge others (record_limit settings.now) → ⊥) }
     ensures write { result ≡ Err RunFault.Write → ((W.is_broken out.new ≡ true) × WrotePart (texts_of files.now) settings.now (W.taken out.old) (W.taken out.new) × (report.new ≡ report.old))
         ⊎ ((V.is_broken report.new ≡ true) × WroteAndBrokeOff (texts_of files.now) settings.now (W.taken out.old) (W.taken out.new) (V.taken report.old) (V.taken report.new)) }
     // Without memory, nothing was written, or the whole file and no report.

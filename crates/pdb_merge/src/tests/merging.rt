@@ -22,7 +22,7 @@ use type_trees::Canon;
 pub(super) const LIMIT: u32 = 1_073_741_824;
 
 /// The GUID 00112233-4455-6677-8899-aabbccddeeff, as it is stored.
-const GUID: [u8; 16] = [
+pub(super) const GUID: [u8; 16] = [
     0x33, 0x22, 0x11, 0x00, 0x55, 0x44, 0x77, 0x66, 0x88, 0x99, 0xAA, 0xBB, 0xCC, 0xDD, 0xEE, 0xFF,
 ];
 
@@ -33,7 +33,7 @@ pub(super) const P: &[u8] = b"\x0a\0\x02\x10\x74\0\0\0\x0c\0\x01\0";
 pub(super) const M: &[u8] = b"\x0a\0\x01\x10\x74\0\0\0\x01\0\xf2\xf1";
 
 /// A volatile int.
-const V: &[u8] = b"\x0a\0\x01\x10\x74\0\0\0\x02\0\xf2\xf1";
+pub(super) const V: &[u8] = b"\x0a\0\x01\x10\x74\0\0\0\x02\0\xf2\xf1";
 
 /// Pointers to the first five records.
 pub(super) const Q0: &[u8] = b"\x0a\0\x02\x10\0\x10\0\0\x0c\0\x01\0";
@@ -96,7 +96,7 @@ const ROWS: [Row; 16] = [
 
 /// Settings with this limit.
 pub(super) fn settings(limit: u32) -> Result<Settings, Fail> {
-    Ok(Settings::new(guid_of(GUID), 1, limit).ok_or("no settings")?)
+    Ok(Settings::new(guid_of(GUID), 1, limit, 4096).ok_or("no settings")?)
 }
 
 /// A hasher of a fixed seed.
@@ -114,13 +114,20 @@ fn joined(alloc: Global, records: &[&[u8]]) -> Result<Vec<u8>, Fail> {
 }
 
 /// Writes a file with these streams 1 and 2.
+#[tactic(auto, using(msf_blocks::proofs::SizeLaws::size_4096))]
 fn write_two<'a>(
     alloc: Global,
     info: &'a [u8],
     types: &'a [u8],
     file: &mut Vec<u8>,
 ) -> Result<(), WriteFault> {
-    write_image(alloc, &[&[], info, types, &[], &[]], &mut Out::new(file))
+    let block_size = 4096;
+    write_image(
+        alloc,
+        block_size,
+        &[&[], info, types, &[], &[]],
+        &mut Out::new(file),
+    )
 }
 
 /// A file with these records.
@@ -130,7 +137,7 @@ pub(super) fn file_of(alloc: Global, records: &[&[u8]]) -> Result<Vec<u8>, Fail>
 
 /// A file with the bytes of this many records.
 pub(super) fn file_with(alloc: Global, count: usize, bytes: &[u8]) -> Result<Vec<u8>, Fail> {
-    if count > 20_000 || bytes.len() > 300_000 {
+    if count > 20_000 || bytes.len() > 10_000_000 {
         return Err("too many records for a test".into());
     }
     let mut types = Vec::new(alloc);

@@ -88,6 +88,36 @@ fn lines(rt: HostRuntime) -> Result<(), Fail> {
             .as_slice(),
             "2",
         ),
+        (
+            [
+                "merge",
+                "--guid",
+                GUID,
+                "--age",
+                "1",
+                "--block-size",
+                "8192",
+                "o.pdb",
+                "i",
+            ]
+            .as_slice(),
+            "o.pdb",
+        ),
+        (
+            [
+                "merge",
+                "--guid",
+                GUID,
+                "--age",
+                "1",
+                "--block-size",
+                "4095",
+                "o",
+                "i",
+            ]
+            .as_slice(),
+            "2",
+        ),
         (["merge", "--guid", GUID, "--age", "1", "o"].as_slice(), "2"),
         (["merge", "--guid", GUID, "o", "i"].as_slice(), "2"),
         (["merge", "--age", "1", "o", "i"].as_slice(), "2"),

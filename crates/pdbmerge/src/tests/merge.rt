@@ -27,7 +27,7 @@ fn ran<A: Allocator + Copy>(
     files: &[&[u8]],
     limit: u32,
 ) -> Result<Answer<A>, Fail> {
-    let settings = Settings::new(guid_of([7; 16]), 1, limit).ok_or("no settings")?;
+    let settings = Settings::new(guid_of([7; 16]), 1, limit, 4096).ok_or("no settings")?;
     let hasher: BuildHasherDefault<FoldHasher> = BuildHasherDefault::new();
     let mut file = Vec::new(global);
     let mut report = Vec::new(global);
@@ -93,7 +93,7 @@ fn faults_name_their_file(rt: HostRuntime) -> Result<(), Fail> {
 #[test]
 fn a_report_that_is_not_taken(rt: HostRuntime) -> Result<(), Fail> {
     let sample = sample(rt.alloc())?;
-    let settings = Settings::new(guid_of([7; 16]), 1, 24).ok_or("no settings")?;
+    let settings = Settings::new(guid_of([7; 16]), 1, 24, 4096).ok_or("no settings")?;
     let hasher: BuildHasherDefault<FoldHasher> = BuildHasherDefault::new();
     let (_, want, _) = ran(rt.alloc(), rt.alloc(), &[&sample], 24)?;
     for room in 0..REPORT.len() {

@@ -507,18 +507,25 @@ fn a_chain_of_three_records(rt: HostRuntime) -> Result<(), Fail> {
 }
 
 /// Writes a file with these streams 1 and 2.
+#[tactic(auto, using(msf_blocks::proofs::SizeLaws::size_4096))]
 fn write_two<'a>(
     alloc: Global,
     info: &'a [u8],
     types: &'a [u8],
     file: &mut Vec<u8>,
 ) -> Result<(), WriteFault> {
-    write_image(alloc, &[&[], info, types, &[], &[]], &mut Out::new(file))
+    let block_size = 4096;
+    write_image(
+        alloc,
+        block_size,
+        &[&[], info, types, &[], &[]],
+        &mut Out::new(file),
+    )
 }
 
 /// A file that is written with the records of the sample.
 fn written(alloc: Global) -> Result<Vec<u8>, Fail> {
-    let settings = Settings::new(guid_of([0x11; 16]), 1, 24).ok_or("no settings")?;
+    let settings = Settings::new(guid_of([0x11; 16]), 1, 24, 4096).ok_or("no settings")?;
     let mut types = Vec::new(alloc);
     types.extend_from_slice(&tpi_header_bytes(2, 24))?;
     types.extend_from_slice(b"\x0a\0\x02\x10\x74\0\0\0\x0c\0\x01\0")?;

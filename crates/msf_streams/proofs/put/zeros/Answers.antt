@@ -2,4 +2,4 @@ use Rattle.std.proofs.lemmas.List.{take-replicate}
 use Rattle.msf_streams.proofs.put.zeros.Goals as goal
 
 pub returns : goal.returns
-returns c = take-replicate c.args.count 4096 0 c.requires
+returns c = take-replicate c.args.count 32768 0 c.requires

@@ -1,9 +1,10 @@
 use Rattle.std.proofs.Common.{◌≡◌, ◌<◌, ◌^◌, length, map, take}
 use Rattle.std.specs.Prelude.{All}
+use Rattle.msf_streams.specs.Image.{joined}
 use Rattle.msf_streams.proofs.write.sizes_of.Given as goal
 
 abbrev pub invariant-loop-i : goal.invariant-loop-i
 invariant-loop-i l =
     (length l.sizes ≡ 5)
-    × (take l.i l.sizes ≡ map (λ s. length s.now) (take l.i l.streams))
-    × All (λ s. length s.now < 2 ^ 32) (take l.i l.streams)
+    × (take l.i l.sizes ≡ map (λ s. length (joined s.now)) (take l.i l.streams))
+    × All (λ s. length (joined s.now) < 2 ^ 32) (take l.i l.streams)

@@ -2,7 +2,7 @@ use Rattle.std.proofs.Common.{◌≡◌, ◌∙◌, sym, true}
 use Rattle.std.proofs.lemmas.Result.{err_from_is_err_and}
 use Rattle.msf_streams.specs.Image.{texts_of}
 use Rattle.pdb_merge.specs.Union.{HasType}
-use Rattle.pdb_merge.proofs.UnionLaws.{within_more}
+use Rattle.pdb_info.specs.Settings.{record_limit}
 use Rattle.pdb_merge.proofs.ReadBackLaws.{canon_within}
 use Rattle.pdb_merge.proofs.FileLaws.{wrote, wrote_part}
 use Rattle.pdb_merge.specs.declared.fault.MergeFault.{MergeFault}
@@ -16,8 +16,7 @@ merge_injective a b same = cc
 pub write_canon-requires : goal.write_canon-requires
 write_canon-requires g c =
     let P = HasType (texts_of c.args.files.now) in
-    let within = within_more P c.args.settings.now.limit 1073741824 c.guid.ensures.settings.limit_fits c.in_ok-canon.ensures.can.within in
-    canon_within P c.in_ok-canon.canon 1073741824 c.in_ok-canon.ensures.value within
+    canon_within P c.in_ok-canon.canon (record_limit c.args.settings.now) c.in_ok-canon.ensures.value c.in_ok-canon.ensures.can.within
 
 pub returns-clause-value : goal.returns-clause-value
 returns-clause-value g c =

@@ -16,5 +16,5 @@ returns-clause-value g c =
       taken = c.in_default.ensures.value;
       types = c.len-count.ensures.value;
       bytes = c.bytes_len-bytes.ensures;
-      long = c.merged_len-length.ensures ∙ ap (λ (n : ℕ). image_length 4096 (0 ∷ 52 ∷ (56 + n) ∷ 0 ∷ 0 ∷ [])) c.bytes_len-bytes.ensures ∙ sym (merged_length c.args.settings.now c.args.canon.now c.guid.ensures.settings c.requires);
+      long = c.merged_len-length.ensures ∙ ap (λ (n : ℕ). image_length c.args.settings.now.block_size (0 ∷ 52 ∷ (56 + n) ∷ 0 ∷ 0 ∷ [])) c.bytes_len-bytes.ensures ∙ sym (merged_length c.args.settings.now c.args.canon.now c.guid.ensures.settings c.requires);
     }

@@ -1,0 +1,7 @@
+use Rattle.std.proofs.Common.{◌≡◌, subst}
+use Rattle.pdb_info.specs.Settings.{SettingsView, AreSettings, RecordsFit}
+use Rattle.pdb_info.proofs.SettingsLaws.{records_fit}
+use Rattle.pdb_info.proofs.settings.Settings.record_limit.Goals as goal
+
+pub returns-clause-fits : goal.returns-clause-fits
+returns-clause-fits c = rw (← c.self.view_is) (records_fit _ c.self.invariant)

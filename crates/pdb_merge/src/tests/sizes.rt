@@ -1,0 +1,100 @@
+//! Merging into blocks of each size.
+
+use super::merging::{GUID, LIMIT, M, P, Q0, Q1, V, file_of, file_with, hasher};
+use crate::{Buffer, MergeFault, OutFault, Summary, merge_to, read_types};
+use msf_blocks::Out;
+use pdb_info::{Settings, guid_of};
+use std::alloc::Global;
+use std::test::Fail;
+
+/// The sizes that a block may have, in bytes.
+const SIZES: [u32; 7] = [512, 1024, 2048, 4096, 8192, 16384, 32768];
+
+/// Merges files into blocks of this size, and says what was answered and written.
+fn merged_at(
+    alloc: Global,
+    files: &[&[u8]],
+    block_size: u32,
+) -> Result<(Result<Summary, OutFault>, Vec<u8>), Fail> {
+    let settings = Settings::new(guid_of(GUID), 1, LIMIT, block_size).ok_or("no settings")?;
+    let mut file = Vec::new(alloc);
+    let mut out = Out::new(&mut file);
+    let answer = merge_to(alloc, files, &settings, &mut out, hasher());
+    Ok((answer, file))
+}
+
+#[test]
+fn each_size_has_one_file(rt: HostRuntime) -> Result<(), Fail> {
+    let pointer = file_of(rt.alloc(), &[P])?;
+    let modifier = file_of(rt.alloc(), &[M])?;
+    let others = file_of(rt.alloc(), &[V, M, Q0, Q1])?;
+    for block_size in SIZES {
+        let (answer, want) = merged_at(rt.alloc(), &[&others, &modifier, &pointer], block_size)?;
+        let said = Summary {
+            types: 5,
+            bytes: 60,
+            length: block_size.saturating_mul(7),
+        };
+        assert_eq!(rt; answer, Ok(said));
+        assert_eq!(rt; want.len(), said.length as usize);
+        assert_eq!(rt; want.get(32..36), Some(block_size.to_le_bytes().as_slice()));
+        let twice: [&[u8]; 4] = [&pointer, &pointer, &others, &modifier];
+        let (_, file) = merged_at(rt.alloc(), &twice, block_size)?;
+        assert!(rt; file == want, "with one file twice at {block_size}");
+        for inner in SIZES {
+            let (_, first) = merged_at(rt.alloc(), &[&pointer, &modifier], inner)?;
+            let (_, file) = merged_at(rt.alloc(), &[&first, &others], block_size)?;
+            assert!(rt; file == want, "{inner} merged at {block_size}");
+            let (_, whole) = merged_at(rt.alloc(), &[&others, &pointer], inner)?;
+            let (_, file) = merged_at(rt.alloc(), &[&whole], block_size)?;
+            assert!(rt; file == want, "{inner} written at {block_size}");
+        }
+    }
+    Ok(())
+}
+
+/// Appends the shape of a virtual function table, a record of this many bytes in all.
+fn push_shape(records: &mut Vec<u8>, len: u32, number: u8) -> Result<(), Fail> {
+    let rest = u16::try_from(len.saturating_sub(2))?;
+    records.extend_from_slice(&rest.to_le_bytes())?;
+    records.extend_from_slice(&[0x0A, 0, number])?;
+    let end = records.len().saturating_add(len.saturating_sub(5) as usize);
+    records.resize(end, 0)?;
+    Ok(())
+}
+
+/// A file with 127 records of 65,536 bytes, each with bytes of its own, and one of this many.
+fn large_file(alloc: Global, last: u32) -> Result<Vec<u8>, Fail> {
+    let mut records = Vec::new(alloc);
+    for number in 0..127 {
+        push_shape(&mut records, 65_536, number)?;
+    }
+    push_shape(&mut records, last, 127)?;
+    file_with(alloc, 128, &records)
+}
+
+#[test]
+fn the_most_that_blocks_of_512_bytes_can_hold(rt: HostRuntime) -> Result<(), Fail> {
+    let most = large_file(rt.alloc(), 61_896)?;
+    let (answer, file) = merged_at(rt.alloc(), &[&most], 512)?;
+    let said = Summary {
+        types: 128,
+        bytes: 8_384_968,
+        length: 8_485_888,
+    };
+    assert_eq!(rt; answer, Ok(said));
+    assert_eq!(rt; file.len(), 8_485_888);
+    let mut buffer = Buffer::new(rt.alloc());
+    let types = read_types(rt.alloc(), &file, &mut buffer)?;
+    assert_eq!(rt; types.len(), 128);
+    drop(types);
+    let more = large_file(rt.alloc(), 61_900)?;
+    let (answer, file) = merged_at(rt.alloc(), &[&more], 512)?;
+    let large = MergeFault::TooLarge {
+        file: 0,
+        bytes: 8_384_972,
+    };
+    assert_eq!(rt; answer, Err(OutFault::Merge(large)));
+    assert!(rt; file.is_empty());
+    Ok(())
+}
