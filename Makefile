@@ -25,11 +25,13 @@ demo:
 	cmp build/one.pdb build/other.pdb
 	@echo 'The order of the files makes no difference: the same bytes.'
 
-# The gate: every proof from nothing, every must-fail edit, every test; then the program as a process.
+# The gate: every proof from nothing, every must-fail edit, every test; then the program as a
+# process, and on the shipped files.
 test:
 	$(RT) ci
 	$(MAKE) $(PROGRAM)
 	tests/program $(PROGRAM)
+	tests/examples $(PROGRAM)
 
 install: $(PROGRAM)
 	install -D $(PROGRAM) $(DESTDIR)$(PREFIX)/bin/pdbmerge

@@ -60,17 +60,3 @@ def pdb(stream, order=lambda blocks: blocks, info=b''):
             part = text[k * BLOCK:(k + 1) * BLOCK]
             file[n * BLOCK:n * BLOCK + len(part)] = part
     return bytes(file)
-
-
-def best_of(runs, out, times=5):
-    """The best seconds of each command, run in turn; a command may end with any status."""
-    import subprocess
-    import time
-    best = {}
-    for _ in range(times):
-        for name, words in runs.items():
-            with open(out, 'wb') as f:
-                begin = time.perf_counter()
-                subprocess.run(words, stdout=f, stderr=subprocess.DEVNULL)
-                best[name] = min(best.get(name, 1e9), time.perf_counter() - begin)
-    return best

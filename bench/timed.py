@@ -1,15 +1,44 @@
-"""One run of a program, timed and measured."""
-import os, subprocess, sys, time
+"""What the benchmarks share: compiling a program in plain Rust, and timing programs."""
+import collections, contextlib, os, shutil, subprocess, sys, time
+
+# Seconds, processor seconds, the greatest resident memory in bytes, and the text that was printed.
+Run = collections.namedtuple('Run', 'seconds processor memory text')
 
 
-def run(words):
-    """The seconds of one run, its processor seconds, its greatest resident memory in bytes, and what
-    it printed."""
-    begin = time.perf_counter()
-    child = subprocess.Popen(words, stdout=subprocess.PIPE)
-    text = child.stdout.read().decode()
-    _, status, usage = os.wait4(child.pid, 0)
-    child.returncode = os.waitstatus_to_exitcode(status)
-    if child.returncode != 0:
-        sys.exit(f'{words[0]}: status {child.returncode}')
-    return time.perf_counter() - begin, usage.ru_utime + usage.ru_stime, usage.ru_maxrss * 1024, text
+def compiled(folder, source):
+    """The program of a source of bench/, compiled with `rustc -O` into a folder; None without rustc."""
+    if not shutil.which('rustc'):
+        return None
+    program = os.path.join(folder, os.path.splitext(source)[0])
+    path = os.path.join(os.path.dirname(os.path.abspath(__file__)), source)
+    subprocess.run(['rustc', '--edition', '2021', '-O', '-o', program, path], check=True)
+    return program
+
+
+def run(words, out=None, status=0):
+    """One run, which has to end with this status. Where `out` names a file, standard output goes
+    there, and the text is empty."""
+    with open(out, 'wb') if out else contextlib.nullcontext(subprocess.PIPE) as to:
+        begin = time.perf_counter()
+        child = subprocess.Popen(words, stdout=to, stderr=subprocess.DEVNULL if status else None)
+        text = '' if out else child.stdout.read().decode()
+        _, ended, usage = os.wait4(child.pid, 0)
+        seconds = time.perf_counter() - begin
+    child.returncode = os.waitstatus_to_exitcode(ended)
+    if child.returncode != status:
+        sys.exit(f'{" ".join(words)}: status {child.returncode}, not {status}')
+    return Run(seconds, usage.ru_utime + usage.ru_stime, usage.ru_maxrss * 1024, text)
+
+
+def best_of(runs, out=None, times=5, status=0):
+    """For each name the best of some runs: the least seconds and processor seconds, the greatest
+    memory, the last text. Each command is run once in a turn, so that none has a quieter machine."""
+    best = {}
+    for _ in range(times):
+        for name, words in runs.items():
+            now = run(words, out, status)
+            old = best.get(name, now)
+            best[name] = Run(
+                min(old.seconds, now.seconds), min(old.processor, now.processor), max(old.memory, now.memory), now.text
+            )
+    return best
