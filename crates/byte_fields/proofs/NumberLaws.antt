@@ -1,4 +1,4 @@
--- Numbers in parts of a text, and texts that are made of numbers.
+-- Numbers in parts of a list of bytes, and bytes that are made of numbers.
 use Rattle.std.proofs.Common.{◌≡◌, ℕ, zero, suc, ◌+◌, ◌*◌, ◌<◌, ◌≤◌, ◌^◌, List, [], ◌∷◌, ◌++◌, length, map, take, drop, get_or, refl, sym, ap, ◌∙◌, arith, append_assoc, inl, inr}
 use Rattle.std.proofs.lemmas.List.{get_or-drop, get_or-take, get_or_past, get_or_append_left, length-append, length-take, length-drop, drop-drop, drop_at, take-append-drop, take-take, drop-take}
 use Rattle.std.proofs.lemmas.Bool.{cases_lt}
@@ -9,27 +9,27 @@ use Rattle.byteorder.specs.Endian.{little_number}
 use Rattle.byteorder.specs.Numbers.{little_from-take}
 use Rattle.byte_fields.specs.Number.{number_at, four_bytes, words, word}
 
--- ---- a number in a part of a text
+-- ---- a number in a part of the bytes
 
--- the first number of what stands from an offset on
+-- the number at an offset is the first number of the bytes from this offset on
 pub number_at-drop : (count : ℕ) (bytes : List ℕ) (offset : ℕ) → number_at count (drop offset bytes) 0 ≡ number_at count bytes offset
 unfolding number_at
 number_at-drop count bytes offset = refl
 
--- a number in a text that is cut off behind it
+-- a number in bytes that are cut off after it
 pub number_at-take : (count : ℕ) (bytes : List ℕ) (offset len : ℕ) → count ≤ len → number_at count (take len (drop offset bytes)) 0 ≡ number_at count bytes offset
 unfolding number_at
 number_at-take count bytes offset len long = little_from-take 0 count len (drop offset bytes) (omega arith)
 
--- what stands behind a number doesn't change it
+-- bytes after a number do not change it
 pub number_at-append : (count : ℕ) (front back : List ℕ) → count ≤ length front → number_at count (front ++ back) 0 ≡ number_at count front 0
 unfolding number_at
 number_at-append count front back long =
     sym (little_from-take 0 count (length front) (front ++ back) (omega arith)) ∙ ap (λ (xs : List ℕ). little_number count xs) (take-append_seam front back)
 
--- ---- texts that are made of numbers of four bytes
+-- ---- bytes that are made of four-byte numbers
 
--- the bytes of a number are those that it was read from
+-- the bytes of a number are the bytes that it was read from
 pub four_bytes-number_at : (bytes : List ℕ) (offset : ℕ) → ((i : ℕ) → get_or bytes i 0 < 256) → offset + 4 ≤ length bytes → four_bytes (number_at 4 bytes offset) ≡ take 4 (drop offset bytes)
 unfolding number_at four_bytes
 four_bytes-number_at bytes offset each long =
@@ -49,7 +49,7 @@ take-plus text m n =
     let a : take m (take (m + n) text) ≡ take m text = take-take m (m + n) text (omega arith) in
     sym (take-append-drop m (take (m + n) text)) ∙ rw (a, drop-take m n text) refl
 
--- the numbers of a text from the start-th on, spelled again
+-- numbers that are read from some bytes, and written again, are the same bytes
 pub words-word : (text : List ℕ) (start count : ℕ) → ((i : ℕ) → get_or text i 0 < 256) → 4 * (start + count) ≤ length text → words (map (word text) (range_with_len start count)) ≡ take (4 * count) (drop (4 * start) text)
 unfolding word
 words-word text start zero bytes long = refl
@@ -72,7 +72,7 @@ first_number : (n : ℕ) (rest : List ℕ) → n < 2 ^ 32 → little_number 4 (f
 unfolding four_bytes
 first_number n rest small = omega arith
 
--- a number that was spelled is read again
+-- a number that was written reads back
 pub word-words : (numbers rest : List ℕ) (k : ℕ) → k < length numbers → get_or numbers k 0 < 2 ^ 32 → word (words numbers ++ rest) k ≡ get_or numbers k 0
 unfolding word number_at
 word-words [] rest k lt small = absurd (omega arith)
@@ -83,7 +83,7 @@ word-words (n ∷ numbers) rest (suc k) lt small =
     sym (drop-drop (4 * k) 4 (four_bytes n ++ (words numbers ++ rest))) ∙ ap (drop (4 * k)) (drop_at (four_bytes n) (words numbers ++ rest) 4 (length-four_bytes n)) in
     rw (append_assoc (four_bytes n) (words numbers) rest, e, cut) (word-words numbers rest k (omega arith) small)
 
--- a number of four bytes is below 2 ^ 32
+-- a number that is read from four bytes is below 2 ^ 32
 pub number_at-small : (bytes : List ℕ) (offset : ℕ) → ((i : ℕ) → get_or bytes i 0 < 256) → number_at 4 bytes offset < 2 ^ 32
 unfolding number_at
 number_at-small bytes offset each =

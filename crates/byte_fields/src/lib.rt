@@ -1,12 +1,13 @@
-//! The words that the readers of several formats share.
+//! Little-endian fields, and the meaning of "the first check that fails", for every format crate.
 //!
-//! - [`u16_at`] and [`u32_at`] read a little-endian number at an offset. Its value is `number_at`
-//!   of `specs/Number`, which also says how numbers are spelled as bytes.
-//! - `specs/Check` says what "the first check that fails" means: a reader's contract names its
-//!   checks as a list, in the order in which they are made, and its fault is that of the first
-//!   one that fails. Want of memory is answered only where none of them does.
+//! - [`u16_at`] and [`u32_at`] read a little-endian number at an offset in bytes. The value is
+//!   `number_at` of `specs/Number`, which also says how numbers are written as bytes.
+//! - `specs/Check` says what "the first check that fails" means. The contract of a reader lists its
+//!   checks in the order in which they are made, and the reader returns the fault of the first
+//!   check that fails. It returns out of memory only where no check fails.
+//! - `specs/Bytes` says when a list of numbers is made of bytes.
 //!
-//! The lemmas on both stand in `proofs/`, and serve every crate above.
+//! The lemmas about all three are in `proofs/`, and every crate above uses them.
 #![tactic(auto)]
 
 mod number;

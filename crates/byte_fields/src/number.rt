@@ -5,7 +5,7 @@ ghost use Rattle.byte_fields.specs.Number.{number_at};
 
 use byteorder::{ByteOrder, LittleEndian};
 
-/// The number in the two bytes from `offset` on, the lowest byte first.
+/// The number in the two bytes at `offset`, with the lowest byte first.
 #[tactic(auto, unfolding(crate::specs::Number::number_at))]
 pub fn u16_at(bytes: &[u8], offset: usize) -> u16
     requires { offset + 2 ≤ length bytes.now }
@@ -14,7 +14,7 @@ pub fn u16_at(bytes: &[u8], offset: usize) -> u16
     LittleEndian::read_u16(&bytes[offset..])
 }
 
-/// The number in the four bytes from `offset` on, the lowest byte first.
+/// The number in the four bytes at `offset`, with the lowest byte first.
 #[tactic(auto, unfolding(crate::specs::Number::number_at))]
 pub fn u32_at(bytes: &[u8], offset: usize) -> u32
     requires { offset + 4 ≤ length bytes.now }

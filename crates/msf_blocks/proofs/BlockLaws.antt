@@ -18,7 +18,7 @@ nth_first b q j big e =
     let m : j % (b - 2) ≡ 0 = rw e (let z : q * (b - 2) ≡ q * (b - 2) + 0 = omega arith in rw z (mod-mul-add q (b - 2) 0 (omega arith))) in
     rw (d, m) (omega arith)
 
--- the data blocks behind the two map blocks of an interval
+-- the data blocks after the two map blocks of an interval
 pub nth_other : (b q r j : ℕ) → 3 < b → 0 < r → r < b - 2 → j ≡ q * (b - 2) + r → nth_block b j ≡ q * b + r + 2
 unfolding nth_block
 nth_other b q r j big pos lt e =
@@ -26,15 +26,15 @@ nth_other b q r j big pos lt e =
     let m : j % (b - 2) ≡ r = rw e (mod-mul-add q (b - 2) r lt) in
     rw (d, m) (grind (arith, nat_tests))
 
--- a data block, by its place in its interval
+-- a data block, by its position in its interval
 data_at : (b q p : ℕ) → p < b → (p ≡ 0) ⊎ (2 < p) → is_map_block b (q * b + p) ≡ false
 data_at b q p lt h = rw (mod-mul-add q b p lt) (grind (arith, nat_tests))
 
--- a map block, by its place in its interval
+-- a map block, by its position in its interval
 pub map_at : (b q p : ℕ) → p < b → (p ≡ 1) ⊎ (p ≡ 2) → is_map_block b (q * b + p) ≡ true
 map_at b q p lt h = rw (mod-mul-add q b p lt) (grind (arith, nat_tests))
 
--- the interval of the j-th data block, and its place among the interval's data blocks
+-- the interval of the j-th data block, and its position among the data blocks of this interval
 split_at : (b j : ℕ) → 3 < b → (j ≡ j / (b - 2) * (b - 2) + j % (b - 2)) × (j % (b - 2) < b - 2)
 split_at b j big = (omega (arith, div-add-mod' j (b - 2)), mod_below j (b - 2) (omega arith))
 
@@ -53,7 +53,7 @@ nth_is_data b j big =
           rw e (data_at b q 0 (omega arith) (inl refl))
     ]
 
--- from one data block to the next it is one step, or three over two map blocks
+-- the next data block is the next block, or the third block after, where two map blocks are between them
 abbrev pub Next : ℕ → ℕ → ℕ → Type 0
 Next b a c = (c ≡ a + 1) ⊎ ((c ≡ a + 3) × (is_map_block b (a + 1) ≡ true) × (is_map_block b (a + 2) ≡ true))
 
@@ -80,18 +80,18 @@ next_nth b j big =
           rw e (inr (omega (arith, f), map_at b q 1 (omega arith) (inl refl), map_at b q 2 (omega arith) (inr refl)))
     ]
 
--- one number more
+-- one more number
 pub range_more : (n : ℕ) → range_with_len 0 (n + 1) ≡ range_with_len 0 n ++ n ∷ []
 range_more n = sym (map-id (range_with_len 0 (n + 1))) ∙ map-range_with_len_more (λ x. x) 0 n n (omega arith) ∙ rw (map-id (range_with_len 0 n)) refl
 
--- a data block is one more
+-- a data block adds itself to the list
 pub data_more : (b n : ℕ) → is_map_block b n ≡ false → data_blocks b (n + 1) ≡ data_blocks b n ++ n ∷ []
 unfolding data_blocks
 data_more b n e =
     let f = λ (k : ℕ). not (is_map_block b k) in
     ap (filter f) (range_more n) ∙ filter-append f (range_with_len 0 n) (n ∷ []) ∙ rw e refl
 
--- a map block is none
+-- a map block adds nothing to the list
 pub data_same : (b n : ℕ) → is_map_block b n ≡ true → data_blocks b (n + 1) ≡ data_blocks b n
 unfolding data_blocks
 data_same b n e =
@@ -112,7 +112,7 @@ below_more b j big before =
           rw e (data_same b (a + 1 + 1) (rw two at over.2) ∙ data_same b (a + 1) over.1 ∙ here)
     ]
 
--- the data blocks below the j-th are the j before it
+-- the data blocks below the j-th are the first j data blocks
 pub data_below : (b j : ℕ) → 3 < b → data_blocks b (nth_block b j) ≡ map (nth_block b) (range_with_len 0 j)
 unfolding data_blocks
 data_below b zero big =
@@ -122,11 +122,11 @@ data_below b (suc j) big =
     let one : j + 1 ≡ suc j = omega arith in
     subst (λ (m : ℕ). data_blocks b (nth_block b m) ≡ map (nth_block b) (range_with_len 0 m)) one (below_more b j big (data_below b j big))
 
--- they are j
+-- there are j of them
 pub rank_is : (b j : ℕ) → 3 < b → length (data_blocks b (nth_block b j)) ≡ j
 rank_is b j big = ap length (data_below b j big) ∙ length-map-range_with_len (nth_block b) 0 j
 
--- ---- data blocks rise
+-- ---- the numbers of data blocks rise
 
 nth_next : (b j : ℕ) → 3 < b → nth_block b j < nth_block b (j + 1)
 nth_next b j big = elim (next_nth b j big) [ inl one ↦ omega (arith, one) | inr over ↦ omega (arith, over.0) ]
@@ -139,15 +139,15 @@ nth_rises b i (suc k) big = let e : i + suc k ≡ i + k + 1 = omega arith in rw 
 pub nth_monotone : (b i j : ℕ) → 3 < b → i < j → nth_block b i < nth_block b j
 nth_monotone b i j big lt = let e : j ≡ i + (j - i) = omega arith in rw e (omega (arith, nth_rises b i (j - i) big))
 
--- the first one is the superblock's
+-- the first data block is block 0, which has the superblock
 pub nth_zero : (b : ℕ) → 3 < b → nth_block b 0 ≡ 0
 nth_zero b big = nth_first b 0 0 big (omega arith) ∙ omega arith
 
--- at least as many blocks as data blocks stand in front of one
+-- at least j blocks come before the j-th data block
 pub nth_ge : (b j : ℕ) → 3 < b → j ≤ nth_block b j
 nth_ge b j big = let e : j ≡ 0 + j = omega arith in rw e (omega (arith, nth_rises b 0 j big))
 
--- at most two map blocks stand in front of each data block
+-- the number of the j-th data block is at most three times j
 pub nth_few : (b j : ℕ) → 3 < b → nth_block b j ≤ 3 * j
 nth_few b zero big = omega (arith, nth_zero b big)
 nth_few b (suc j) big =
@@ -157,7 +157,7 @@ nth_few b (suc j) big =
       | inr over ↦ rw one (omega (arith, over.0, nth_few b j big))
     ]
 
--- no other block than a map block is left out
+-- each block that is not a map block is the j-th data block for some j
 pub nth_onto : (b k : ℕ) → 3 < b → is_map_block b k ≡ false → (j : ℕ) × (nth_block b j ≡ k)
 nth_onto b k big e =
     let q = k / b in

@@ -1,4 +1,4 @@
--- The numbers of the stream directory, and where they lie in the file.
+-- The numbers of the stream directory, and their offsets in the file.
 use Rattle.std.proofs.Common.{map, add-one, [], ◌∷◌, ◌++◌, ◌≡◌, ℕ, zero, suc, ◌+◌, ◌-◌, ◌*◌, ◌/◌, ◌%◌, ◌<◌, ◌≤◌, true, List, length, get_or, refl, ap, ◌∙◌, arith}
 use Rattle.std.specs.List.{range_with_len}
 use Rattle.std.proofs.lemmas.List.{get_or-drop}
@@ -13,14 +13,14 @@ use Rattle.msf_blocks.specs.Directory.{map_number, directory_text, directory_blo
 use Rattle.msf_blocks.specs.declared.fault.MsfFault.TheVariants.{DirectoryBlock}
 use Rattle.msf_blocks.proofs.SizeLaws.{size_facts, some_bytes, place_below}
 
--- ---- where a number lies
+-- ---- where a number is
 
 -- the directory is as long as the superblock says
 pub text_length : (file : List ℕ) (fields : Fields) → length (directory_text file fields) ≡ fields.directory_bytes
 unfolding directory_text
 text_length file fields = length-map-range_with_len _ 0 fields.directory_bytes
 
--- a number of the directory: its four bytes stand side by side in one block, which the block map names
+-- the four bytes of a number of the directory are next to each other in one block
 record LiesInBlock (b d j : ℕ) : Type 0 where
   same_block : (i : ℕ) → i < 4 → ((4 * j + i) / b ≡ 4 * j / b) × ((4 * j + i) % b ≡ 4 * j % b + i)
   below : 4 * j / b < blocks_for b d
@@ -70,11 +70,11 @@ word_is file fields j size room =
     let b3 = byte_at file fields j 3 size (omega arith) fits in
     simp get_or-drop (rw (b0, b1, b2, b3) refl)
 
--- the block map names a block for it
+-- the block map has the number of the block of each number of the directory
 pub word_block : (file : List ℕ) (fields : Fields) (j : ℕ) → IsBlockSize fields.block_size → 4 * j + 4 ≤ length (directory_text file fields) → 4 * j / fields.block_size < directory_blocks fields
 word_block file fields j size room = (lies_in_block fields.block_size fields.directory_bytes j size (omega (arith, text_length file fields))).below
 
--- the blocks that the block map names are ordinary ones
+-- the blocks that the block map lists are ordinary
 pub map_is_ordinary : (file : List ℕ) (fields : Fields) (k : ℕ) → IsReadable file fields → k < directory_blocks fields → IsOrdinary fields.num_blocks (map_number file fields k)
 unfolding directory_block_checks
 map_is_ordinary file fields k readable lt =
@@ -82,7 +82,7 @@ map_is_ordinary file fields k readable lt =
     let e : is_ordinary fields.num_blocks block ≡ true = check_held (is_ordinary fields.num_blocks block) (DirectoryBlock k block) (checks_below-each (directory_block_check file fields) (directory_blocks fields) k readable.blocks lt) in
     (grind (arith, nat_tests), grind (arith, nat_tests))
 
--- the number's four bytes lie in the file
+-- the four bytes of the number are in the file
 pub word_fits : (file : List ℕ) (fields : Fields) (j : ℕ) → IsBlockSize fields.block_size → IsReadable file fields → 4 * j + 4 ≤ length (directory_text file fields)
     → word_offset file fields j + 4 ≤ length file
 word_fits file fields j size readable room =
@@ -91,24 +91,24 @@ word_fits file fields j size readable room =
     let m : (map_number file fields (4 * j / fields.block_size) + 1) * fields.block_size ≤ fields.num_blocks * fields.block_size = mul-le _ _ _ _ (omega (arith, o.1)) (omega arith) in
     omega (arith, b.inside, m, readable.whole)
 
--- ---- where the lists of the streams stand
+-- ---- where the lists of the streams are
 
 list_start-add : (b : ℕ) (text : List ℕ) (t k : ℕ) → list_start b text t ≤ list_start b text (k + t)
 unfolding list_start
 list_start-add b text t zero = let e : 0 + t ≡ t = omega arith in rw e (omega arith)
 list_start-add b text t (suc k) = let e : suc k + t ≡ suc (k + t) = omega arith in rw e (omega (arith, list_start-add b text t k))
 
--- the first list stands behind the count and the sizes
+-- the first list comes after the number of streams and the sizes
 pub list_start_zero : (b : ℕ) (text : List ℕ) → list_start b text 0 ≡ 1 + word text 0
 unfolding list_start
 list_start_zero b text = refl
 
--- the next list stands behind this one
+-- the next list comes after this one
 pub list_start_more : (b : ℕ) (text : List ℕ) (t : ℕ) → list_start b text (t + 1) ≡ list_start b text t + stream_blocks b text t
 unfolding list_start
 list_start_more b text t = rw add-one refl
 
--- every list stands behind the count and the sizes
+-- every list comes after the number of streams and the sizes
 pub list_start_first : (b : ℕ) (text : List ℕ) (n : ℕ) → 1 + word text 0 ≤ list_start b text n
 list_start_first b text n =
     let f : n ≡ n + 0 = omega arith in
@@ -123,6 +123,6 @@ list_start_upto b text t n lt =
 
 -- ---- lists that are made by an index
 
--- one more
+-- one more entry
 pub map_range_more : {X : Type 0} (f : ℕ → X) (n : ℕ) → map f (range_with_len 0 (n + 1)) ≡ map f (range_with_len 0 n) ++ f n ∷ []
 map_range_more f n = map-range_with_len_more f 0 n n (omega arith)

@@ -24,16 +24,16 @@ use Rattle.msf_blocks.proofs.SuperblockLaws.{starts_with_magic}
 use Rattle.msf_blocks.proofs.DirectoryLaws.{text_length, list_start_zero, list_start_more}
 use Rattle.msf_blocks.proofs.LayoutLaws.{stream_answer}
 
--- what stands for a stream where a list has none
+-- a placeholder for a position where a list has no stream
 no_stream : Listed
 no_stream = record { size = 0; blocks = [] }
 
--- a superblock's fields are the numbers that stand in the file
+-- the fields of a superblock are the numbers at their offsets in the file
 pub fields_are : (file : List ℕ) (fields : Fields) → IsSuperblock file fields → fields ≡ fields_of file
 fields_are file fields s =
     rw (s.block_size_is, s.free_map_block_is, s.num_blocks_is, s.directory_bytes_is, s.unknown_is, s.block_map_addr_is) refl
 
--- a text with a list of streams
+-- the contents of a directory with a list of streams
 record IsText (fields : Fields) (text : List ℕ) (streams : List Listed) : Type 0 where
   lists : ListsStreams fields text streams
   short : length text < 2 ^ 32
@@ -45,14 +45,14 @@ section_len fields text streams h =
     ap length h.parts ∙ length-append (words numbers) h.rest
     ∙ rw (length-words numbers) (omega (arith, length-append (map (λ (s : Listed). s.size) streams) (flat_map (λ s. s.blocks) streams), length-map streams (λ (s : Listed). s.size)))
 
--- the count stands first
+-- the number of streams comes first
 count_is : (fields : Fields) (text : List ℕ) (streams : List Listed) → IsText fields text streams → word text 0 ≡ length streams
 count_is fields text streams h =
     let numbers = length streams ∷ map (λ s. s.size) streams ++ flat_map (λ s. s.blocks) streams in
     ap (λ (t : List ℕ). word t 0) h.lists.parts
     ∙ word-words numbers h.lists.rest 0 (omega arith) (omega (arith, h.short, section_len fields text streams h.lists))
 
--- then the sizes
+-- the sizes come next
 size_is : (fields : Fields) (text : List ℕ) (streams : List Listed) (t : ℕ) → IsText fields text streams → t < length streams → word text (1 + t) ≡ (get_or streams t no_stream).size
 size_is fields text streams t h lt =
     let sizes = map (λ (s : Listed). s.size) streams in
@@ -66,7 +66,7 @@ size_is fields text streams t h lt =
     ap (λ (x : List ℕ). word x (1 + t)) h.lists.parts
     ∙ word-words numbers h.lists.rest (1 + t) (omega (arith, length-append sizes blocks, counted)) (rw here small) ∙ here
 
--- then the lists: the k-th number of that of the t-th stream
+-- the lists come next: the k-th number of the list of the t-th stream
 list_is : (fields : Fields) (text : List ℕ) (streams : List Listed) (t k : ℕ) → IsText fields text streams → t < length streams → k < length (get_or streams t no_stream).blocks
     → word text (1 + length streams + length (flat_map (λ s. s.blocks) (take t streams)) + k) ≡ get_or (get_or streams t no_stream).blocks k 0
 list_is fields text streams t k h lt below =
@@ -92,7 +92,7 @@ unfolding stream_blocks
 blocks_is fields text streams t h lt =
     rw (size_is fields text streams t h lt) (sym (All-get_or (IsListed fields) streams t no_stream lt h.lists.each).count)
 
--- a list begins behind the count, the sizes and the lists before it
+-- a list begins after the number of streams, the sizes and the lists before it
 start_is : (fields : Fields) (text : List ℕ) (streams : List Listed) (t : ℕ) → IsText fields text streams → t ≤ length streams
     → list_start fields.block_size text t ≡ 1 + length streams + length (flat_map (λ s. s.blocks) (take t streams))
 start_is fields text streams zero h le = omega (arith, list_start_zero fields.block_size text, count_is fields text streams h)

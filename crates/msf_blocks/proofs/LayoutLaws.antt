@@ -1,4 +1,4 @@
--- The checks of a layout, one part after the other, and what they say of the streams.
+-- The checks of a layout, one part after the other, and what they say about the streams.
 use Rattle.std.proofs.Common.{◌≡◌, ℕ, ◌+◌, List, [], ◌∷◌, ◌++◌, Some, None, map, refl, sym, ap, ◌∙◌}
 use Rattle.std.specs.List.{range_with_len}
 use Rattle.std.proofs.lemmas.List.{map-append}
@@ -20,13 +20,13 @@ checks_are : (file : List ℕ) (fields : Fields) → fields ≡ fields_of file
 unfolding layout_checks
 checks_are file fields e = rw e refl
 
--- a fault of the superblock is the layout's
+-- a fault of the superblock is the fault of the layout
 pub superblock_fault : (file : List ℕ) (fault : MsfFault) → first_failing (superblock_checks file) ≡ Some fault → first_failing (layout_checks file) ≡ Some fault
 superblock_fault file fault e =
     let fields = fields_of file in
     ap first_failing (checks_are file fields refl) ∙ first_failing-append_some (superblock_checks file) _ fault e
 
--- behind a superblock without a fault, one of the block map is the layout's
+-- after a superblock without a fault, a fault of the block map is the fault of the layout
 pub block_fault : (file : List ℕ) (fields : Fields) (fault : MsfFault) → fields ≡ fields_of file → first_failing (superblock_checks file) ≡ None → first_failing (directory_block_checks file fields) ≡ Some fault → first_failing (layout_checks file) ≡ Some fault
 block_fault file fields fault is a e =
     ap first_failing (checks_are file fields is) ∙ first_failing-append_none (superblock_checks file) _ a ∙ first_failing-append_some (directory_block_checks file fields) _ fault e
@@ -36,14 +36,14 @@ after_blocks : (file : List ℕ) (fields : Fields) → fields ≡ fields_of file
 after_blocks file fields is a b =
     ap first_failing (checks_are file fields is) ∙ first_failing-append_none (superblock_checks file) _ a ∙ first_failing-append_none (directory_block_checks file fields) _ b
 
--- behind these, a fault of the directory's length is the layout's
+-- after these, a fault of the length of the directory is the fault of the layout
 pub length_fault : (file : List ℕ) (fields : Fields) (text : List ℕ) (fault : MsfFault) → fields ≡ fields_of file → text ≡ directory_text file fields → first_failing (superblock_checks file) ≡ None → first_failing (directory_block_checks file fields) ≡ None
     → first_failing (length_checks fields.block_size text) ≡ Some fault → first_failing (layout_checks file) ≡ Some fault
 length_fault file fields text fault is text_is a b e =
     let here : first_failing (length_checks fields.block_size (directory_text file fields)) ≡ Some fault = rw (← text_is) e in
     after_blocks file fields is a b ∙ first_failing-append_some (length_checks fields.block_size (directory_text file fields)) _ fault here
 
--- behind these, the layout is what its streams are
+-- after these, the first fault of the layout is the first fault of its streams
 pub stream_answer : (file : List ℕ) (fields : Fields) (text : List ℕ) (n : ℕ) → fields ≡ fields_of file → text ≡ directory_text file fields → first_failing (superblock_checks file) ≡ None → first_failing (directory_block_checks file fields) ≡ None
     → first_failing (length_checks fields.block_size text) ≡ None → n ≡ word text 0
     → first_failing (layout_checks file) ≡ first_failing (checks_below n (stream_checks fields text))
@@ -53,19 +53,19 @@ stream_answer file fields text n is text_is a b l e =
 
 -- ---- the streams that are listed
 
--- a stream that was read is the one that is listed
+-- a stream that was read is the stream that is listed
 pub stream_is : {A : Type 0} (b : ℕ) (text : List ℕ) (t start count : ℕ) (s : Stream A) → s.size ≡ word text (1 + t) → start ≡ list_start b text t → count ≡ stream_blocks b text t
     → s.blocks.items ≡ map (λ k. word text (start + k)) (range_with_len 0 count) → listed_of s ≡ listed_at b text t
 unfolding listed_at
 stream_is b text t start count s size at long items = rw (size, items, at, long) refl
 
--- one more
+-- one more stream
 pub listed_more : {A : Type 0} (b : ℕ) (text : List ℕ) (t : ℕ) (xs : List (Stream A)) (s : Stream A) → map listed_of xs ≡ listed_below b text t → listed_of s ≡ listed_at b text t
     → map listed_of (xs ++ s ∷ []) ≡ listed_below b text (t + 1)
 listed_more b text t xs s before here =
     map-append listed_of xs (s ∷ []) ∙ rw (before, here) (sym (map_range_more (listed_at b text) t))
 
--- where all checks hold, those of the directory's blocks do, and those of the streams
+-- if all checks hold, then the checks of the blocks of the directory hold, and so do those of the streams
 pub layout_parts : (file : List ℕ) (fields : Fields) → fields ≡ fields_of file → first_failing (layout_checks file) ≡ None
     → (first_failing (directory_block_checks file fields) ≡ None) × (first_failing (checks_below (word (directory_text file fields) 0) (stream_checks fields (directory_text file fields))) ≡ None)
 layout_parts file fields is held =

@@ -1,4 +1,4 @@
--- The directory as a text that lists streams: what is read from it is what it lists, and what lists streams is never refused.
+-- The streams that are read from a directory are the streams that it lists.
 use Rattle.std.proofs.Common.{◌≡◌, ℕ, zero, suc, ◌+◌, ◌*◌, ◌/◌, ◌%◌, ◌<◌, ◌≤◌, true, List, [], ◌∷◌, ◌++◌, None, length, map, take, drop, get_or, refl, sym, ap, ◌∙◌, subst, arith, inl, inr}
 use Rattle.std.specs.List.{range_with_len, flat_map}
 use Rattle.std.proofs.lemmas.Bool.{cases_lt}
@@ -20,7 +20,7 @@ use Rattle.msf_blocks.specs.declared.fault.MsfFault.TheVariants.{StreamBlock}
 use Rattle.msf_blocks.proofs.DirectoryLaws.{map_range_more, map_is_ordinary, list_start_zero, list_start_more}
 use Rattle.msf_blocks.proofs.LayoutLaws.{layout_parts}
 
--- ---- what is read is what the text lists
+-- ---- what is read is what the directory lists
 
 range_split : {X : Type 0} (f : ℕ → X) (a m n : ℕ) → map f (range_with_len a (m + n)) ≡ map f (range_with_len a m) ++ map f (range_with_len (a + m) n)
 range_split {X = X} f a zero n = let e : 0 + n ≡ n = omega arith in let g : a + 0 ≡ a = omega arith in rw (e, g) refl
@@ -38,7 +38,7 @@ unfolding listed_at
 sizes_from b text a zero = refl
 sizes_from b text a (suc n) = let e : 1 + (a + 1) ≡ 1 + a + 1 = omega arith in ap (λ (xs : List ℕ). word text (1 + a) ∷ xs) (sizes_from b text (a + 1) n ∙ rw e refl)
 
--- the lists of the first n streams are the numbers behind the sizes, up to where the next list begins
+-- the lists of the first n streams are the numbers after the sizes, up to the position where the next list begins
 lists_are : (b : ℕ) (text : List ℕ) (n : ℕ) → (extra : ℕ) × (list_start b text n ≡ (1 + word text 0) + extra) × (flat_map (λ s. s.blocks) (listed_below b text n) ≡ map (word text) (range_with_len (1 + word text 0) extra))
 unfolding listed_at
 lists_are b text zero = (0, omega (arith, list_start_zero b text), refl)
@@ -57,7 +57,7 @@ lists_are b text (suc n) =
       subst (λ (m : ℕ). flat_map (λ s. s.blocks) (listed_below b text m) ≡ map (word text) (range_with_len (1 + word text 0) (before.0 + c))) (sym one) both,
     )
 
--- the text is the words of what was read, and any rest
+-- the directory is the numbers of what was read, then any rest
 listing : (b : ℕ) (text : List ℕ) → AreBytes text → 4 * list_start b text (word text 0) ≤ length text
     → let streams = listed_below b text (word text 0) in
     (rest : List ℕ) × (text ≡ words (length streams ∷ map (λ s. s.size) streams ++ flat_map (λ s. s.blocks) streams) ++ rest)
@@ -73,7 +73,7 @@ listing b text bytes long =
     let front : words all ≡ take (4 * (1 + (n + lists.0))) text = ap words numbers ∙ words-word text 0 (1 + (n + lists.0)) bytes (omega (arith, lists.1)) in
     (drop (4 * (1 + (n + lists.0))) text, sym (rw counted (ap (λ (xs : List ℕ). xs ++ drop (4 * (1 + (n + lists.0))) text) front ∙ take-append-drop (4 * (1 + (n + lists.0))) text)))
 
--- a stream whose checks hold
+-- a stream whose checks hold is listed with the blocks that it needs
 listed_holds : (fields : Fields) (text : List ℕ) (t : ℕ) → AreBytes text → first_failing (stream_checks fields text t) ≡ None → IsListed fields (listed_at fields.block_size text t)
 unfolding stream_checks stream_blocks listed_at word
 listed_holds fields text t bytes held =
@@ -118,7 +118,7 @@ text_bytes file fields each i =
       | inr le ↦ rw (get_or_past (map byte (range_with_len 0 fields.directory_bytes)) i 0 (omega (arith, length-map-range_with_len byte 0 fields.directory_bytes))) (omega arith)
     ]
 
--- what was read of a file whose checks hold is its layout
+-- what is read from a file whose checks hold is its layout
 pub layout_is : (file : List ℕ) (fields : Fields) (text : List ℕ) (n : ℕ) (streams : List Listed) → AreBytes file → IsSuperblock file fields → fields ≡ fields_of file → text ≡ directory_text file fields
     → n ≡ word text 0 → 4 * list_start fields.block_size text n ≤ length text → first_failing (layout_checks file) ≡ None → streams ≡ listed_below fields.block_size text n
     → HasLayout file (record { superblock = fields; streams = streams })
@@ -136,7 +136,7 @@ layout_is file fields text n streams bytes super is text_is count room held read
       lists = rw (read, count) (lists_what_is_read fields text small (rw (← count) room) streams_hold);
     }
 
--- and what holds of every layout holds of it
+-- what holds of every layout holds of the layout of a file
 pub layout_fits : (file : List ℕ) (fields : Fields) (text : List ℕ) (n : ℕ) (streams : List Listed) → AreBytes file → HasLayout file (record { superblock = fields; streams = streams })
     → text ≡ directory_text file fields → n ≡ word text 0 → streams ≡ listed_below fields.block_size text n → IsLayout (record { superblock = fields; streams = streams })
 unfolding word

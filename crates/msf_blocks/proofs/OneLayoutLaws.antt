@@ -1,4 +1,4 @@
--- A file has one layout alone.
+-- A file has at most one layout.
 use Rattle.std.proofs.Common.{◌≡◌, ℕ, ◌+◌, ◌*◌, ◌<◌, ◌^◌, List, [], ◌∷◌, ◌++◌, length, map, drop, get_or, refl, sym, ap, ◌∙◌, arith, append_assoc}
 use Rattle.std.specs.List.{flat_map, AllByRecursion, All}
 use Rattle.std.proofs.lemmas.Grind.{flat_map-append}
@@ -18,7 +18,7 @@ use Rattle.msf_blocks.proofs.DirectoryLaws.{text_length}
 abbrev IsSmall : ℕ → Type 0
 IsSmall n = n < 2 ^ 32
 
--- two numbers that are spelled at the front of one text are one, and so is what follows them
+-- two numbers at the front of the same bytes are the same, and so are the bytes after them
 first_same : (m n : ℕ) (xs ys : List ℕ) → IsSmall m → IsSmall n → words (m ∷ []) ++ xs ≡ words (n ∷ []) ++ ys → (m ≡ n) × (xs ≡ ys)
 first_same m n xs ys small_m small_n e =
     let same : m ≡ n = sym (word-words (m ∷ []) xs 0 (omega arith) small_m) ∙ ap (λ (t : List ℕ). word t 0) e ∙ word-words (n ∷ []) ys 0 (omega arith) small_n in
@@ -28,7 +28,7 @@ first_same m n xs ys small_m small_n e =
 words_first : (n : ℕ) (ns xs : List ℕ) → words (n ∷ ns) ++ xs ≡ words (n ∷ []) ++ (words ns ++ xs)
 words_first n ns xs = ap (λ (t : List ℕ). t ++ xs) (flat_map-append four_bytes (n ∷ []) ns) ∙ append_assoc (words (n ∷ [])) (words ns) xs
 
--- as many numbers at the front of one text are the same numbers
+-- two lists of numbers of the same length at the front of the same bytes are the same
 pub numbers_same : (ms ns xs ys : List ℕ) → length ms ≡ length ns → AllByRecursion IsSmall ms → AllByRecursion IsSmall ns → words ms ++ xs ≡ words ns ++ ys → (ms ≡ ns) × (xs ≡ ys)
 numbers_same [] [] xs ys many small_m small_n e = (refl, e)
 numbers_same [] (n ∷ ns) xs ys many small_m small_n e = absurd (omega (arith, many))
@@ -57,7 +57,7 @@ lists_first stream streams xs =
     let blocks = flat_map (λ (s : Listed). s.blocks) streams in
     ap (λ (t : List ℕ). t ++ xs) (flat_map-append four_bytes stream.blocks blocks) ∙ append_assoc (words stream.blocks) (words blocks) xs
 
--- streams of the same sizes whose lists stand at the front of one text are the same
+-- streams of the same sizes, whose lists are at the front of the same bytes, are the same
 pub lists_same : (fields : Fields) (ss ts : List Listed) (xs ys : List ℕ) → fields.num_blocks < 2 ^ 32 → All (IsListed fields) ss → All (IsListed fields) ts → map (λ s. s.size) ss ≡ map (λ s. s.size) ts
     → lists_of ss ++ xs ≡ lists_of ts ++ ys → ss ≡ ts
 lists_same fields [] [] xs ys few each_s each_t sizes e = refl
@@ -75,7 +75,7 @@ lists_same fields (s ∷ ss) (t ∷ ts) xs ys few each_s each_t sizes e =
     let head : s ≡ t = rw (size, same.0) refl in
     rw (head, rest) refl
 
--- the count and the sizes in front of the lists
+-- a directory is the number of streams, the sizes and the lists
 text_parts : (streams : List Listed) (xs : List ℕ)
     → words (length streams ∷ map (λ s. s.size) streams ++ flat_map (λ s. s.blocks) streams) ++ xs ≡ words (length streams ∷ []) ++ (words (map (λ s. s.size) streams) ++ (lists_of streams ++ xs))
 text_parts streams xs =
@@ -84,14 +84,14 @@ text_parts streams xs =
     words_first (length streams) (sizes ++ blocks) xs
     ∙ ap (λ (t : List ℕ). words (length streams ∷ []) ++ t) (ap (λ (t : List ℕ). t ++ xs) (flat_map-append four_bytes sizes blocks) ∙ append_assoc (words sizes) (words blocks) xs)
 
--- a text has room for the count of its streams
+-- the number of streams of a directory fits in four bytes
 count_small : (fields : Fields) (text : List ℕ) (streams : List Listed) → length text < 2 ^ 32 → ListsStreams fields text streams → IsSmall (length streams)
 count_small fields text streams short h =
     let numbers = length streams ∷ map (λ s. s.size) streams ++ flat_map (λ s. s.blocks) streams in
     let long : length text ≡ 4 * length numbers + length h.rest = ap length h.parts ∙ length-append (words numbers) h.rest ∙ rw (length-words numbers) refl in
     omega (arith, long, short, length-append (map (λ (s : Listed). s.size) streams) (flat_map (λ (s : Listed). s.blocks) streams), length-map streams (λ (s : Listed). s.size))
 
--- a text lists one list of streams alone
+-- a directory lists at most one list of streams
 pub streams_same : (fields : Fields) (text : List ℕ) (ss ts : List Listed) → fields.num_blocks < 2 ^ 32 → length text < 2 ^ 32 → ListsStreams fields text ss → ListsStreams fields text ts → ss ≡ ts
 streams_same fields text ss ts few short lists_s lists_t =
     let sizes_s = map (λ (s : Listed). s.size) ss in
@@ -102,7 +102,7 @@ streams_same fields text ss ts few short lists_s lists_t =
     let sizes = numbers_same sizes_s sizes_t (lists_of ss ++ lists_s.rest) (lists_of ts ++ lists_t.rest) many (sizes_small fields ss lists_s.each) (sizes_small fields ts lists_t.each) first.1 in
     lists_same fields ss ts lists_s.rest lists_t.rest few lists_s.each lists_t.each sizes.0 sizes.1
 
--- a file has one layout alone, where the numbers of one of them are of four bytes
+-- a file has at most one layout, if the numbers of one layout fit in four bytes
 pub one_layout_short : (file : List ℕ) (some other : LayoutView) → some.superblock.num_blocks < 2 ^ 32 → some.superblock.directory_bytes < 2 ^ 32 → HasLayout file some → HasLayout file other → some ≡ other
 one_layout_short file some other few bytes has_s has_o =
     let fields : some.superblock ≡ other.superblock = fields_are file some.superblock has_s.superblock ∙ sym (fields_are file other.superblock has_o.superblock) in
@@ -112,7 +112,7 @@ one_layout_short file some other few bytes has_s has_o =
     let streams = streams_same some.superblock has_s.text some.streams other.streams few short has_s.lists lists in
     rw (fields, streams) refl
 
--- a file of bytes has one layout alone
+-- a file of bytes has at most one layout
 pub one_layout : (file : List ℕ) (some other : LayoutView) → AreBytes file → HasLayout file some → HasLayout file other → some ≡ other
 one_layout file some other bytes has_s has_o =
     one_layout_short file some other (rw (← has_s.superblock.num_blocks_is) (number_at-small file 40 bytes)) (rw (← has_s.superblock.directory_bytes_is) (number_at-small file 44 bytes)) has_s has_o

@@ -1,15 +1,15 @@
--- Known bytes that are taken step by step.
+-- Bytes that a sink takes step by step.
 use Rattle.std.proofs.Common.{◌≡◌, ℕ, ◌-◌, ◌<◌, List, [], ◌++◌, length, take, drop, Option, refl, sym, ap, ◌∙◌, append_assoc, arith}
 use Rattle.std.proofs.KnownBytes.{Appends-trans}
 use Rattle.std.proofs.lemmas.List.{append-nil, take_at, take_rest, take-append-drop, length-append}
 use Rattle.std.specs.Io.KnownBytes.{Appends}
 
--- what was taken, and what is left of the bytes after n more
+-- n more bytes: what was taken, and what is left
 pub taken_more : (bytes rest taken : List ℕ) (n : ℕ) → bytes ≡ taken ++ rest → bytes ≡ (taken ++ take n rest) ++ take (length rest - n) (drop n rest)
 taken_more bytes rest taken n e =
     e ∙ ap (λ (s : List ℕ). taken ++ s) (sym (take-append-drop n rest)) ∙ sym (append_assoc taken (take n rest) (drop n rest)) ∙ rw take_rest refl
 
--- where no more is taken, what was taken is a proper prefix
+-- if no more is taken, what was taken is a proper prefix
 pub prefix_is : (old between new : Option (List ℕ)) (bytes rest taken : List ℕ) (count : ℕ) → bytes ≡ taken ++ rest → 0 < length rest → count ≡ 0 → Appends old between taken → Appends between new (take count rest)
     → (n : ℕ) × (n < length bytes) × Appends old new (take n bytes)
 prefix_is old between new bytes rest taken count e more none before last =

@@ -1,4 +1,4 @@
--- No check of a layout has want of memory as its fault.
+-- No check of a layout has out of memory as its fault.
 use Rattle.std.proofs.Common.{◌≡◌, Bool, true, false, cond, ℕ, zero, suc, List, [], ◌∷◌, ◌++◌, Option, Some, refl}
 use Rattle.byte_fields.specs.Check.{Check, first_failing, checks_below}
 use Rattle.msf_blocks.specs.Superblock.{Fields, fields_of, superblock_checks}
@@ -8,57 +8,57 @@ use Rattle.byte_fields.specs.Number.{word}
 use Rattle.msf_blocks.specs.declared.fault.MsfFault.{MsfFault}
 use Rattle.msf_blocks.specs.declared.fault.MsfFault.TheVariants.{Memory}
 
--- the test of a fault
+-- whether a fault is out of memory
 abbrev is_want : MsfFault → Bool
 is_want Memory = true
 is_want _ = false
 
--- checks of other faults
+-- each of these checks has another fault than out of memory
 abbrev Others : List (Check MsfFault) → Type 0
 Others [] = Unit {0}
 Others (c ∷ cs) = (is_want c.fault ≡ false) × Others cs
 
--- the fault of one check, or of those behind it
+-- the first fault is that of one check, or of those after it
 one_fails : (b : Bool) (f e : MsfFault) (r : Option MsfFault) → is_want f ≡ false → (r ≡ Some e → is_want e ≡ false) → cond b r (Some f) ≡ Some e → is_want e ≡ false
 one_fails true f e r here later is = later is
 one_fails false f e r here later is = let same : f ≡ e = cc in rw (← same) here
 
--- so no fault of theirs is want of memory
+-- so their first fault is not out of memory
 fails_other : (cs : List (Check MsfFault)) (e : MsfFault) → Others cs → first_failing cs ≡ Some e → is_want e ≡ false
 fails_other [] e others is = absurd cc
 fails_other (c ∷ cs) e others is = one_fails c.holds c.fault e (first_failing cs) others.0 (λ later. fails_other cs e others.1 later) is
 
--- one list behind another
+-- one list after another
 others_append : (xs ys : List (Check MsfFault)) → Others xs → Others ys → Others (xs ++ ys)
 others_append [] ys first second = second
 others_append (x ∷ xs) ys first second = (first.0, others_append xs ys first.1 second)
 
--- one list for each number
+-- one list of checks for each number
 others_below : (n : ℕ) (checks : ℕ → List (Check MsfFault)) → ((k : ℕ) → Others (checks k)) → Others (checks_below n checks)
 others_below zero checks each = tt
 others_below (suc n) checks each = others_append (checks_below n checks) (checks n) (others_below n checks each) (each n)
 
--- the checks of the superblock
+-- the checks of the superblock have other faults
 superblock_others : (file : List ℕ) → Others (superblock_checks file)
 unfolding superblock_checks
 superblock_others file = (refl, (refl, (refl, (refl, (refl, (refl, (refl, tt)))))))
 
--- of the directory's blocks
+-- so do the checks of the blocks of the directory
 block_others : (file : List ℕ) (fields : Fields) → Others (directory_block_checks file fields)
 unfolding directory_block_checks
 block_others file fields = others_below (directory_blocks fields) (directory_block_check file fields) (λ k. (refl, tt))
 
--- of its length
+-- so do the checks of its length
 length_others : (block_size : ℕ) (text : List ℕ) → Others (length_checks block_size text)
 unfolding length_checks
 length_others block_size text = (refl, (refl, (refl, tt)))
 
--- of a stream
+-- so do the checks of a stream
 stream_others : (fields : Fields) (text : List ℕ) (t : ℕ) → Others (stream_checks fields text t)
 unfolding stream_checks
 stream_others fields text t = others_below (stream_blocks fields.block_size text t) (stream_block_check fields text t) (λ k. (refl, tt))
 
--- the first fault of a layout is not want of memory
+-- the first fault of a layout is not out of memory
 pub layout_wants_none : (file : List ℕ) → first_failing (layout_checks file) ≡ Some Memory → ⊥
 unfolding layout_checks
 layout_wants_none file is =

@@ -12,16 +12,16 @@ use Rattle.msf_blocks.specs.declared.fault.MsfFault.TheVariants.{DirectoryBlock,
 abbrev pub directory_blocks : Fields → ℕ
 directory_blocks fields = blocks_for fields.block_size fields.directory_bytes
 
--- the number at a position of the block map: that of the directory's block at this position
+-- the number at a position of the block map: the block of the directory with this position
 unfoldable pub map_number : List ℕ → Fields → ℕ → ℕ
 map_number file fields k = number_at 4 file (fields.block_map_addr * fields.block_size + 4 * k)
 
--- the text of the directory: its byte i stands in the block that the block map has at i / block size
+-- the contents of the directory: byte i is in the block whose number is at position i / block_size of the block map
 unfoldable pub directory_text : List ℕ → Fields → List ℕ
 directory_text file fields =
     map (λ i. slice_index file (map_number file fields (i / fields.block_size) * fields.block_size + i % fields.block_size)) (range_with_len 0 fields.directory_bytes)
 
--- this text is the directory of the file, and its blocks are ordinary ones
+-- these are the contents of the directory of the file, and its blocks are ordinary
 pub record IsDirectory (file : List ℕ) (fields : Fields) (text : List ℕ) : Type 0 where
   pub ordinary : (k : ℕ) → k < directory_blocks fields → IsOrdinary fields.num_blocks (map_number file fields k)
   pub text_is : text ≡ directory_text file fields
@@ -31,17 +31,17 @@ pub record Listed : Type 0 where
   pub size : ℕ
   pub blocks : List ℕ
 
--- how many bytes a stream of this listed size has: a nil stream has none
+-- how many bytes a stream of this listed size has; a nil stream has 0
 abbrev pub bytes_of : ℕ → ℕ
 bytes_of size = if size == 0xFFFFFFFF then 0 else size
 
--- the stream has as many blocks as its bytes need, and they are ordinary ones
+-- the stream has as many blocks as its bytes need, and all of them are ordinary
 pub record IsListed (fields : Fields) (stream : Listed) : Type 0 where
   pub short : stream.size < 2 ^ 32
   pub count : length stream.blocks ≡ blocks_for fields.block_size (bytes_of stream.size)
   pub ordinary : All (IsOrdinary fields.num_blocks) stream.blocks
 
--- the directory is the number of streams, their sizes, their lists of blocks in turn, and any rest
+-- the directory is the number of streams, then their sizes, then their lists of blocks in turn, then any rest
 pub record ListsStreams (fields : Fields) (text : List ℕ) (streams : List Listed) : Type 0 where
   pub rest : List ℕ
   pub parts : text ≡ words (length streams ∷ map (λ s. s.size) streams ++ flat_map (λ s. s.blocks) streams) ++ rest
@@ -49,25 +49,25 @@ pub record ListsStreams (fields : Fields) (text : List ℕ) (streams : List List
 
 -- ---- the checks
 
--- the check of the directory's k-th block
+-- the check of block k of the directory
 abbrev pub directory_block_check : List ℕ → Fields → ℕ → List (Check MsfFault)
 directory_block_check file fields k =
     record { holds = is_ordinary fields.num_blocks (map_number file fields k); fault = DirectoryBlock k (map_number file fields k) } ∷ []
 
--- the checks of the directory's blocks, in order
+-- the checks of the blocks of the directory, in order
 unfoldable pub directory_block_checks : List ℕ → Fields → List (Check MsfFault)
 directory_block_checks file fields = checks_below (directory_blocks fields) (directory_block_check file fields)
 
--- how many blocks the t-th stream has, by the size that is listed
+-- how many blocks stream t has, computed from its listed size
 unfoldable pub stream_blocks : ℕ → List ℕ → ℕ → ℕ
 stream_blocks block_size text t = blocks_for block_size (bytes_of (word text (1 + t)))
 
--- how many numbers stand before the list of the t-th stream: the count, the sizes, and the lists of the streams before it
+-- the position where the list of stream t begins: after the number of streams, the sizes, and the lists of the streams before it
 unfoldable pub list_start : ℕ → List ℕ → ℕ → ℕ
 list_start block_size text zero = 1 + word text 0
 list_start block_size text (suc t) = list_start block_size text t + stream_blocks block_size text t
 
--- the checks of the directory's length: it has room for the count, for the sizes, and for the lists
+-- the checks of the length of the directory: it is long enough for the number of streams, for the sizes, and for the lists
 unfoldable pub length_checks : ℕ → List ℕ → List (Check MsfFault)
 length_checks block_size text =
     record { holds = nat_le 4 (length text); fault = DirectoryShort 4 (length text) }
@@ -75,35 +75,35 @@ length_checks block_size text =
     ∷ record { holds = nat_le (4 * list_start block_size text (word text 0)) (length text); fault = DirectoryShort (4 * list_start block_size text (word text 0)) (length text) }
     ∷ []
 
--- the check of the k-th block of the t-th stream
+-- the check of block k of stream t
 abbrev pub stream_block_check : Fields → List ℕ → ℕ → ℕ → List (Check MsfFault)
 stream_block_check fields text t k =
     let block = word text (list_start fields.block_size text t + k) in
     record { holds = is_ordinary fields.num_blocks block; fault = StreamBlock t k block } ∷ []
 
--- the checks of the blocks of the t-th stream, in order
+-- the checks of the blocks of stream t, in order
 unfoldable pub stream_checks : Fields → List ℕ → ℕ → List (Check MsfFault)
 stream_checks fields text t = checks_below (stream_blocks fields.block_size text t) (stream_block_check fields text t)
 
--- ---- the directory while it is read
+-- ---- the directory during reading
 
--- a directory whose blocks were checked is seen as its superblock and its text
+-- contracts see a directory whose blocks were checked as its superblock and its contents
 pub record DirectoryView : Type 0 where
   pub superblock : Fields
   pub text : List ℕ
 
--- the blocks of the directory lie in the file
+-- the blocks of the directory are in the file
 pub record IsReadable (file : List ℕ) (fields : Fields) : Type 0 where
   pub whole : fields.num_blocks * fields.block_size ≤ length file
   pub blocks : first_failing (directory_block_checks file fields) ≡ None
 
--- the t-th stream, by where its numbers stand
+-- stream t, read at the positions of its numbers
 unfoldable pub listed_at : ℕ → List ℕ → ℕ → Listed
 listed_at block_size text t = record {
   size = word text (1 + t);
   blocks = map (λ k. word text (list_start block_size text t + k)) (range_with_len 0 (stream_blocks block_size text t));
 }
 
--- the first streams, by where their numbers stand
+-- the first streams, read at the positions of their numbers
 abbrev pub listed_below : ℕ → List ℕ → ℕ → List Listed
 listed_below block_size text count = map (listed_at block_size text) (range_with_len 0 count)

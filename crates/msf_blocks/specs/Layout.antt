@@ -6,12 +6,12 @@ use Rattle.msf_blocks.specs.Superblock.{Fields, IsSuperblock, fields_of, superbl
 use Rattle.msf_blocks.specs.Directory.{Listed, IsListed, IsDirectory, ListsStreams, directory_text, directory_block_checks, length_checks, stream_checks}
 use Rattle.msf_blocks.specs.declared.fault.MsfFault.{MsfFault}
 
--- a layout is seen as the superblock's values and the list of streams
+-- contracts see a layout as the values of the superblock and the list of streams
 pub record LayoutView : Type 0 where
   pub superblock : Fields
   pub streams : List Listed
 
--- the file has this layout: it begins with the superblock, whose directory lists the streams
+-- the file has this layout: it begins with the superblock, and its directory lists the streams
 pub record HasLayout (file : List ℕ) (layout : LayoutView) : Type 0 where
   pub superblock : IsSuperblock file layout.superblock
   pub text : List ℕ
@@ -23,16 +23,16 @@ pub record IsLayout (layout : LayoutView) : Type 0 where
   pub few : length layout.streams < 2 ^ 32
   pub each : All (IsListed layout.superblock) layout.streams
 
--- the number at a position of the stream's list, if it is a stream
+-- the block at a position of the list of a stream, if there is one
 abbrev pub block_in : Option Listed → ℕ → Option ℕ
 block_in None k = None
 block_in (Some stream) k = slice_get stream.blocks k
 
--- the number at position k of the list of the s-th stream
+-- the block at position k of the list of stream s, if there is one
 abbrev pub block_of : List Listed → ℕ → ℕ → Option ℕ
 block_of streams s k = block_in (slice_get streams s) k
 
--- the checks of a layout: of the superblock, of the directory's blocks, of its length, of each stream's blocks
+-- the checks of a layout: of the superblock, of the blocks of the directory, of its length, and of the blocks of each stream
 unfoldable pub layout_checks : List ℕ → List (Check MsfFault)
 layout_checks file =
     let fields = fields_of file in

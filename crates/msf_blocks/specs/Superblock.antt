@@ -11,7 +11,7 @@ use Rattle.msf_blocks.specs.declared.fault.MsfFault.TheVariants.{Short, Magic, B
 abbrev pub magic : List ℕ
 magic = codes "Microsoft C/C++ MSF 7.00" ++ 0x0D ∷ 0x0A ∷ 0x1A ∷ 0x44 ∷ 0x53 ∷ 0 ∷ 0 ∷ 0 ∷ []
 
--- the fields of a superblock: a size and a length in bytes, block numbers, and a count of blocks
+-- the fields of a superblock: block_size and directory_bytes are in bytes, free_map_block and block_map_addr are block numbers, num_blocks counts blocks
 pub record Fields : Type 0 where
   pub block_size : ℕ
   pub free_map_block : ℕ
@@ -20,7 +20,7 @@ pub record Fields : Type 0 where
   pub unknown : ℕ
   pub block_map_addr : ℕ
 
--- what the fields of a superblock meet whatever the length of the file
+-- what holds of the fields of a superblock, whatever the length of the file is
 pub record IsFit (fields : Fields) : Type 0 where
   pub block_size_fits : IsBlockSize fields.block_size
   pub free_map_block_fits : (fields.free_map_block ≡ 1) ⊎ (fields.free_map_block ≡ 2)
@@ -28,7 +28,7 @@ pub record IsFit (fields : Fields) : Type 0 where
   pub directory_fits : blocks_for fields.block_size fields.directory_bytes ≤ fields.block_size / 4
   pub block_map_fits : IsOrdinary fields.num_blocks fields.block_map_addr
 
--- the file begins with a superblock of these fields, and holds the blocks that it announces
+-- the file begins with a superblock with these fields, and has the blocks that it announces
 pub record IsSuperblock (file : List ℕ) (fields : Fields) : Type 0 where
   pub long : 56 ≤ length file
   pub magical : take 32 file ≡ magic
@@ -41,7 +41,7 @@ pub record IsSuperblock (file : List ℕ) (fields : Fields) : Type 0 where
   pub whole : fields.num_blocks * fields.block_size ≤ length file
   pub fit : IsFit fields
 
--- the numbers that stand where a superblock has its fields
+-- the numbers at the offsets of the fields of a superblock
 abbrev pub fields_of : List ℕ → Fields
 fields_of file = record {
   block_size = number_at 4 file 32;

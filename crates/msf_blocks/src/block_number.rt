@@ -1,7 +1,8 @@
 //! Sizes and numbers of blocks, and the blocks of the two free block maps.
 //!
-//! A container is cut into intervals of as many blocks as a block has bytes. The second and the
-//! third block of each interval belong to the free block maps; all others may hold data:
+//! A container is cut into intervals. An interval has as many blocks as a block has bytes. The
+//! second and the third block of each interval belong to the free block maps, and all other blocks
+//! may hold data:
 //!
 //! ```text
 //! block   0     1      2      3   ..  B-1    B    B+1    B+2   B+3  ..
@@ -15,7 +16,7 @@ ghost use Rattle.msf_blocks.specs.BlockNumber.{IsBlockSize, blocks_for, is_block
 
 /// Whether blocks may have this size, in bytes: 512, 1,024, 2,048, 4,096, 8,192, 16,384 or 32,768.
 ///
-/// It does not allocate.
+/// This does not allocate. ("The MSF File Format", "The Superblock".)
 #[tactic(auto, unfolding(crate::specs::BlockNumber::is_block_size))]
 pub fn is_block_size(size: u32) -> bool
     ensures { result ≡ is_block_size size }
@@ -23,7 +24,7 @@ pub fn is_block_size(size: u32) -> bool
     matches!(size, 512 | 1024 | 2048 | 4096 | 8192 | 16384 | 32768)
 }
 
-/// How many blocks of a size hold so many bytes.
+/// How many blocks of `block_size` bytes hold `bytes` bytes.
 #[tactic(auto, using(crate::proofs::SizeLaws::size_facts, crate::proofs::SizeLaws::ceil_is))]
 pub fn blocks_for(block_size: u32, bytes: u32) -> u32
     requires { IsBlockSize block_size }
@@ -32,16 +33,17 @@ pub fn blocks_for(block_size: u32, bytes: u32) -> u32
     bytes.div_ceil(block_size)
 }
 
-/// Whether a block may hold the bytes of a stream, in a file of so many blocks.
+/// Whether a block may hold the bytes of a stream, in a file of `num_blocks` blocks.
 pub fn is_ordinary(num_blocks: u32, block: u32) -> bool
     ensures { result ≡ is_ordinary num_blocks block }
 {
     0 < block && block < num_blocks
 }
 
-/// Whether a block belongs to one of the two free block maps.
+/// Whether block `n` belongs to one of the two free block maps.
 ///
-/// `block_size` is in bytes. It takes no memory. ("The MSF File Format", "The Free Block Map".)
+/// `block_size` is in bytes, and `n` counts from 0. This does not allocate. ("The MSF File Format",
+/// "The Free Block Map".)
 #[tactic(auto, using(crate::proofs::SizeLaws::size_facts))]
 pub fn is_map_block(block_size: u32, n: u32) -> bool
     requires { IsBlockSize block_size }
@@ -50,14 +52,14 @@ pub fn is_map_block(block_size: u32, n: u32) -> bool
     matches!(n % block_size, 1 | 2)
 }
 
-/// The `j`-th block by the formula alone.
+/// The number of the `j`-th block that is not a map block, by the formula.
 #[tactic(auto, using(crate::proofs::SizeLaws::size_facts), unfolding(crate::specs::BlockNumber::nth_block))]
 fn nth_by_formula(block_size: u32, j: u32) -> u32
     requires size { IsBlockSize block_size }
     requires fits { nth_block block_size j < 2 ^ 32 }
     ensures { result ≡ nth_block block_size j }
 {
-    // Of each interval, all blocks but two hold data.
+    // All but two blocks of each interval hold data.
     let data = block_size - 2;
     let first = j / data * block_size;
     match j % data {
@@ -66,10 +68,10 @@ fn nth_by_formula(block_size: u32, j: u32) -> u32
     }
 }
 
-/// The `j`-th block that isn't a map block, from 0.
+/// The number of the `j`-th block that is not a map block, from 0.
 ///
-/// It is no map block, and just `j` of the blocks below it aren't. `block_size` is in bytes. It
-/// takes no memory. ("The MSF File Format", "The Free Block Map".)
+/// Exactly `j` of the blocks before it are not map blocks. `block_size` is in bytes. This does not
+/// allocate. ("The MSF File Format", "The Free Block Map".)
 pub fn nth_block(block_size: u32, j: u32) -> u32
     requires size { IsBlockSize block_size }
     requires fits { nth_block block_size j < 2 ^ 32 }

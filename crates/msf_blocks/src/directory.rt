@@ -1,4 +1,4 @@
-//! The stream directory, read through the block map.
+//! Reads the stream directory through the block map.
 
 ghost use Rattle.std.specs.Prelude.{IfOk, map, ◌^◌, ◌≡◌, ◌+◌, ◌*◌, ◌<◌, ◌≤◌, length};
 ghost use Rattle.std.specs.List.{range_with_len};
@@ -16,15 +16,16 @@ use std::marker::Model;
 /// The size that marks a nil stream.
 const NIL: u32 = u32::MAX;
 
-/// How many bytes a stream of this listed size has: a nil stream has none.
+/// How many bytes a stream of this listed size has. A nil stream has 0 bytes.
 pub fn bytes_of(size: u32) -> u32
     ensures { result ≡ bytes_of size }
 {
     if size == NIL { 0 } else { size }
 }
 
-/// A stream directory whose blocks lie in the file. Contracts see it as the superblock's values
-/// and the directory's text, though nothing here ever forms that text.
+/// A stream directory whose blocks are in the file. Contracts see it as the values of the
+/// superblock and the contents of the directory. The code never copies these contents into one
+/// buffer.
 #[derive(Drop)]
 pub struct Directory<'a> {
     file: &'a [u8],
@@ -49,7 +50,7 @@ fn map_number(file: &[u8], superblock: &Superblock, position: u32) -> u32
     ensures { result ≡ map_number file.now superblock.now position }
 {
     let start = superblock.block_map_addr() as usize * superblock.block_size() as usize;
-    // The proof learns here that the block map has room for every position.
+    // This call tells the proof that the block map has room for every position.
     let _ = superblock.directory_bytes();
     u32_at(file, start + 4 * position as usize)
 }
@@ -70,7 +71,8 @@ fn check_block_map(file: &[u8], superblock: &Superblock) -> Result<(), MsfFault>
 }
 
 impl<'a> Directory<'a> {
-    /// Finds the directory of a file that begins with this superblock, and checks its blocks.
+    /// Finds the directory of a file that begins with this superblock, and checks the numbers of
+    /// the directory's blocks.
     pub fn find(file: &'a [u8], superblock: Superblock) -> Result<Directory<'a>, MsfFault>
         requires { superblock.num_blocks * superblock.block_size ≤ length file.now }
         ensures superblock { IfOk result (λ d. d.superblock ≡ superblock) }
@@ -90,7 +92,7 @@ impl<'a> Directory<'a> {
         self.superblock
     }
 
-    /// The number at a position of the directory, which is made of four-byte numbers.
+    /// The number at a position of the directory. The directory is a list of four-byte numbers.
     #[tactic(auto, using(crate::proofs::DirectoryLaws::text_length, crate::proofs::DirectoryLaws::word_is, crate::proofs::DirectoryLaws::word_block, crate::proofs::DirectoryLaws::word_fits, crate::proofs::SizeLaws::size_facts))]
     pub fn word(&self, position: u32) -> u32
         requires { 4 * position + 4 ≤ length self.now.text }
@@ -101,11 +103,11 @@ impl<'a> Directory<'a> {
         let offset = 4 * position;
         let block = map_number(self.file, &self.superblock, offset / block_size);
         let start = block as usize * block_size as usize;
-        // A block holds whole numbers, so that none crosses the end of one.
+        // The size of a block is a multiple of four, so no number crosses the end of a block.
         u32_at(self.file, start + (offset % block_size) as usize)
     }
 
-    /// The listed size of a stream.
+    /// The listed size of a stream in bytes: 0xFFFFFFFF for a nil stream.
     pub fn size(&self, stream: u32) -> u32
         requires { 4 * (1 + stream) + 4 ≤ length self.now.text }
         ensures { result ≡ word self.now.text (1 + stream) }
@@ -124,7 +126,7 @@ impl<'a> Directory<'a> {
         blocks_for(self.superblock().block_size(), bytes_of(self.size(stream)))
     }
 
-    /// How many numbers there are up to the end of the last list, by the sizes of the streams.
+    /// The position after the last list of blocks, computed from the sizes of the streams.
     #[tactic(auto, unfolding(crate::specs::Directory::list_start))]
     fn lists_end(&self, streams: u32) -> u64
         requires streams { streams ≡ word self.now.text 0 }
@@ -139,8 +141,8 @@ impl<'a> Directory<'a> {
         words
     }
 
-    /// Checks that the directory has room for all that it lists, and answers how many streams it
-    /// lists.
+    /// Checks that the directory is long enough for everything that it lists, and returns how many
+    /// streams it lists.
     #[tactic(auto, unfolding(crate::specs::Directory::length_checks))]
     pub fn check_length(&self) -> Result<u32, MsfFault>
         ensures streams { IfOk result (λ n. n ≡ word self.now.text 0) }
@@ -156,7 +158,7 @@ impl<'a> Directory<'a> {
         if have < need {
             return Err(MsfFault::DirectoryShort { need, have });
         }
-        // In 64 bits: the sizes of hostile streams may add up to more than 32.
+        // The sum needs 64 bits: the sizes in a hostile file may add up to more than 2^32.
         let need = 4 * self.lists_end(streams);
         if have < need {
             return Err(MsfFault::DirectoryShort { need, have });
@@ -164,7 +166,8 @@ impl<'a> Directory<'a> {
         Ok(streams)
     }
 
-    /// Checks the blocks of a stream, whose list of so many numbers begins at position `start`.
+    /// Checks the block numbers of a stream. Its list has `count` numbers and begins at position
+    /// `start`.
     #[tactic(auto, unfolding(crate::specs::Directory::stream_checks))]
     fn check_stream(&self, stream: u32, start: u32, count: u32) -> Result<(), MsfFault>
         requires start { start ≡ list_start self.now.superblock.block_size self.now.text stream }
@@ -182,7 +185,7 @@ impl<'a> Directory<'a> {
         Ok(())
     }
 
-    /// Checks the blocks of all streams, of which there are so many.
+    /// Checks the block numbers of all streams. `streams` says how many streams there are.
     #[tactic(auto, unfolding(crate::specs::Directory::list_start))]
     pub fn check_streams(&self, streams: u32) -> Result<(), MsfFault>
         requires streams { streams ≡ word self.now.text 0 }
@@ -199,8 +202,8 @@ impl<'a> Directory<'a> {
         Ok(())
     }
 
-    /// The numbers of the directory from a position on, so many of them. It reserves just their
-    /// room.
+    /// The `count` numbers of the directory from position `start` on. This allocates four bytes for
+    /// each number, all at once.
     #[tactic(auto, using(crate::proofs::DirectoryLaws::map_range_more))]
     pub fn numbers<A: Allocator>(
         &self,

@@ -6,41 +6,43 @@ ghost use Rattle.msf_blocks.specs.declared.fault.MsfFault.TheVariants.{Memory};
 use std::alloc::{AllocError, AllocFailed};
 use thiserror::Error;
 
-/// The first fault of a container, in the order in which its fields are checked.
+/// The first fault of a container. The checks are made in the order of the variants.
 #[derive(Clone, Copy, Debug, PartialEq, Eq, Error)]
 pub enum MsfFault {
     /// The file has fewer than the 56 bytes of a superblock.
     #[error("1 Short")]
     Short,
-    /// The file doesn't begin with the magic of an MSF 7.00 container.
+    /// The file does not begin with the magic of an MSF 7.00 container.
     #[error("2 Magic")]
     Magic,
-    /// A block size, in bytes, that blocks don't have.
+    /// The block size is this number of bytes, which is not one of the seven sizes.
     #[error("3 BlockSize {0}")]
     BlockSize(u32),
-    /// The free block map in force begins neither at block 1 nor at block 2.
+    /// The first block of the free block map in force is this one, and not block 1 or block 2.
     #[error("4 FreeMapBlock {0}")]
     FreeMapBlock(u32),
-    /// The blocks that are announced pass the end of the file. Both are in bytes.
+    /// The announced blocks have `need` bytes together, and the file has only `have` bytes.
     #[error("5 FileSize need {need} have {have}")]
     FileSize { need: u64, have: u64 },
-    /// A length of the directory, in bytes, that is no multiple of four, or whose blocks one
-    /// block can't list.
+    /// The length of the directory is this number of bytes, which is not a multiple of four or
+    /// needs more blocks than one block can list.
     #[error("6 DirectorySize {0}")]
     DirectorySize(u32),
-    /// The block map would be in block 0, or in a block that the file doesn't have.
+    /// The block map would be this block, which is block 0 or past the last block of the file.
     #[error("7 BlockMapAddr {0}")]
     BlockMapAddr(u32),
-    /// The block map has, at position `at`, a number `n` of no block that may hold data.
+    /// The number at position `at` of the block map is `n`, which is block 0 or past the last
+    /// block.
     #[error("8 DirectoryBlock at {at} n {n}")]
     DirectoryBlock { at: u32, n: u32 },
-    /// The directory has fewer bytes than it needs for what it lists.
+    /// The directory needs `need` bytes for what it lists, and has only `have` bytes.
     #[error("9 DirectoryShort need {need} have {have}")]
     DirectoryShort { need: u64, have: u64 },
-    /// The list of a stream has, at position `at`, a number `n` of no block that may hold data.
+    /// The number at position `at` of the list of stream `stream` is `n`, which is block 0 or past
+    /// the last block.
     #[error("10 StreamBlock stream {stream} at {at} n {n}")]
     StreamBlock { stream: u32, at: u32, n: u32 },
-    /// A growth was refused.
+    /// Out of memory for the lists of block numbers. All checks passed.
     #[error("33 Memory")]
     Memory,
 }

@@ -1,11 +1,11 @@
-//! The free block map that is in force.
+//! Reads the free block map in force.
 
 ghost use Rattle.std.specs.Prelude.{◌≡◌, ◌⊎◌, ◌<◌, ◌≤◌, ◌*◌, ◌/◌, ◌%◌, ◌^◌, ◌↔◌, length, IsTrue, IfSome, IfNone};
 ghost use Rattle.msf_blocks.specs.FreeMap.{is_free, map_block_of};
 
 use crate::superblock::Superblock;
 
-/// Whether a bit of a byte is 1, counted from the lowest.
+/// Whether bit `bit` of a byte is 1. Bit 0 is the lowest bit.
 fn is_set(byte: u8, bit: u32) -> bool
     requires { bit < 8 }
     ensures { IsTrue result ↔ (byte / 2 ^ bit % 2 ≡ 1) }
@@ -13,10 +13,10 @@ fn is_set(byte: u8, bit: u32) -> bool
     (byte >> bit) % 2 == 1
 }
 
-/// Whether block `n` is free, by the map that the superblock names.
+/// Whether block `n` is free, by the free block map in force, which the superblock names.
 ///
-/// `None` where the file has no such block, or where the map block that speaks of it isn't in
-/// the file. It takes no memory. ("The MSF File Format", "The Free Block Map".)
+/// `None` where the file has no block `n`, or where the map block with its bit is past the end of
+/// the file. This does not allocate. ("The MSF File Format", "The Free Block Map".)
 #[tactic(auto, using(crate::proofs::SizeLaws::size_facts))]
 pub fn free_bit(file: &[u8], superblock: &Superblock, n: u32) -> Option<bool>
     requires { superblock.now.num_blocks * superblock.now.block_size ≤ length file.now }

@@ -14,18 +14,19 @@ use crate::superblock::Superblock;
 use std::alloc::{Allocator, Global};
 use std::marker::Model;
 
-/// A stream: its listed size, and the numbers of its blocks.
+/// A stream: its listed size in bytes, and the numbers of its blocks.
 #[derive(Drop)]
 struct Stream<A: Allocator> {
     size: u32,
     blocks: Vec<u32, A>,
 }
 
-/// Where the streams of a container are: its superblock, and for each stream a size and a list
-/// of block numbers, as the stream directory has them.
+/// Where the streams of a container are: its superblock, and for each stream its size in bytes and
+/// the numbers of its blocks, as the stream directory lists them.
 ///
-/// Returned by [`Layout::read`]. Each number in it is above 0 and below the number of blocks, and
-/// each stream has as many as its bytes need. ("The MSF File Format", "The Stream Directory".)
+/// Made by [`Layout::read`]. Each block number in it is above 0 and below the number of blocks of
+/// the file. Each stream has as many blocks as its bytes need. ("The MSF File Format", "The Stream
+/// Directory".)
 #[derive(Drop)]
 pub struct Layout<A: Allocator = Global> {
     superblock: Superblock,
@@ -44,8 +45,8 @@ impl<A: Allocator> Model for Layout<A> {
     ghost invariant = { λ l. IsLayout (record { superblock = l.superblock; streams = map listed_of l.streams.items }) };
 }
 
-/// Checks the layout of a file, and answers its directory and how many streams that lists. It
-/// takes no memory.
+/// Checks the layout of a file, and returns the directory and how many streams it lists. This does
+/// not allocate.
 #[tactic(auto, using(crate::proofs::LayoutLaws::superblock_fault, crate::proofs::LayoutLaws::block_fault, crate::proofs::LayoutLaws::length_fault, crate::proofs::LayoutLaws::stream_answer))]
 fn check(file: &[u8]) -> Result<(Directory<'_>, u32), MsfFault>
     ensures found { IfOk result (λ r. IsSuperblock file.now r.0.superblock) }
@@ -90,12 +91,19 @@ fn listed<A: Allocator + Copy>(
 impl<A: Allocator + Copy> Layout<A> {
     /// Reads the layout of a container from the bytes of its file.
     ///
-    /// The faults come in this order: those of [`Superblock::read`]; a number in the block map of
-    /// a block that can't hold the directory; a directory too short for the number of streams, for
-    /// their sizes, or for their lists; a number in a list of a block that can't hold a stream, in
-    /// the order of the directory. Bytes of the directory after the last list are ignored. All
-    /// checks come before the first growth, so that want of memory hides no fault. It reserves
-    /// room for the numbers that the directory lists, and nothing else.
+    /// The faults, in the order in which they are checked:
+    ///
+    /// 1. The faults of [`Superblock::read`].
+    /// 2. `DirectoryBlock`: a number in the block map is block 0, or past the last block.
+    /// 3. `DirectoryShort`: the directory is too short for the number of streams, for their sizes,
+    ///    or for their lists of blocks.
+    /// 4. `StreamBlock`: a number in the list of a stream is block 0, or past the last block. The
+    ///    lists are checked in the order of the directory.
+    /// 5. `Memory`: out of memory for the lists. Nothing is allocated before all checks passed.
+    ///
+    /// Bytes of the directory after the last list are ignored. This allocates room for the streams
+    /// and the block numbers that the directory lists, and nothing else. ("The MSF File Format",
+    /// "The Stream Directory".)
     pub fn read(alloc: A, file: &[u8]) -> Result<Layout<A>, MsfFault>
         ensures value { IfOk result (HasLayout file.now) }
         ensures found { (layout : LayoutView) → HasLayout file.now layout → IfErr result (λ fault. fault ≡ MsfFault.Memory) }
@@ -127,8 +135,8 @@ impl<A: Allocator> Layout<A> {
         self.streams.len() as u32
     }
 
-    /// How long the `s`-th stream is, in bytes: 0 for a nil stream, `None` where `s` isn't a
-    /// stream.
+    /// The length of the `s`-th stream in bytes, from 0. A nil stream has length 0. `None` where
+    /// `s` is not a stream.
     pub fn size(&self, s: u32) -> Option<u32>
         ensures { result ≡ option_map (λ l. bytes_of l.size) (slice_get self.now.streams s) }
     {
@@ -136,8 +144,8 @@ impl<A: Allocator> Layout<A> {
         Some(bytes_of(stream.size))
     }
 
-    /// The number of the `k`-th block of the `s`-th stream, both from 0. `None` where `s` isn't
-    /// a stream, or has no such block.
+    /// The number of the `k`-th block of the `s`-th stream. Both count from 0. `None` where `s` is
+    /// not a stream, or where the stream has no such block.
     pub fn block(&self, s: u32, k: u32) -> Option<u32>
         ensures { result ≡ block_of self.now.streams s k }
     {

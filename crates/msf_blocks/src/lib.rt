@@ -1,21 +1,22 @@
-//! The blocks of an MSF container: its superblock, its stream directory, and where bytes come
-//! from and go.
+//! The blocks of an MSF container: its superblock, its stream directory and its free block maps.
 //!
-//! A container is a file that is cut into blocks. The superblock at its front names the block
-//! map, the block map names the blocks of the stream directory, and the directory lists each
-//! stream: its size and the numbers of its blocks ("The MSF File Format").
+//! A container is a file that is cut into blocks. The superblock at its front gives the block map,
+//! the block map lists the blocks of the stream directory, and the directory lists each stream: its
+//! size in bytes and the numbers of its blocks ("The MSF File Format").
 //!
 //! - [`Superblock::read`] checks and reads the superblock.
-//! - [`Layout::read`] checks and reads the directory as well. A [`Layout`] is the promise that
-//!   each block number in it names a block of the file: what stands above checks none again.
-//! - [`nth_block`] and [`is_map_block`] know which blocks belong to the free block maps, and
-//!   [`free_bit`] reads the map in force.
-//! - [`Sink`] and [`Source`] are the seam between the project and the world: what takes bytes and
-//!   what gives them. [`Out`] and [`In`] make them of any `Write` and any `Read`, and [`put_all`]
-//!   is the one loop that writes.
+//! - [`Layout::read`] also checks and reads the stream directory. Each block number in a [`Layout`]
+//!   is the number of a block of the file, so the crates above need no check of their own.
+//! - [`is_block_size`] says which sizes a block may have.
+//! - [`nth_block`] and [`is_map_block`] tell map blocks from other blocks, and [`free_bit`] reads
+//!   the free block map in force.
+//! - [`Sink`] takes bytes, and [`Source`] gives bytes. All reading and writing of the project goes
+//!   through them. [`Out`] makes a sink of any `Write`, [`In`] makes a source of any `Read`, and
+//!   [`put_all`] writes a whole slice into a sink.
 //! - [`laws`] says what holds of every container: a file has at most one layout.
 //!
-//! What a call refuses, it refuses with the first fault in the order of [`MsfFault`]'s variants.
+//! A reader refuses a container with the fault of the first check that fails. The checks are made
+//! in the order of the variants of [`MsfFault`].
 #![tactic(auto)]
 
 mod block_number;

@@ -1,4 +1,4 @@
-//! What takes bytes.
+//! A sink, which takes bytes.
 
 ghost use Rattle.std.specs.Prelude.{◌≡◌, ◌<◌, ◌≤◌, ℕ, List, Option, Bool, true, false, length, take, OnOk, OnErr};
 ghost use Rattle.std.specs.Io.KnownBytes.{Appends};
@@ -6,21 +6,21 @@ ghost use Rattle.std.specs.Io.KnownBytes.{Appends};
 use std::io::Write;
 use thiserror::Error;
 
-/// Takes bytes, some of the first ones at each call.
+/// Takes bytes. Each call takes some of the first bytes of a slice.
 ///
-/// This is the seam to the world on the side of writing: a `Vec` in a test, a file or standard
-/// output in the program. It has no errors: one that fails takes nothing and stays broken, which
-/// contracts see. A writer that doesn't tell the bytes that it holds says `None`; contracts then
-/// claim nothing of its bytes.
+/// All writing goes through this trait: into a `Vec` in a test, into a file or standard output in
+/// the program. Its calls return no errors. A sink that fails takes nothing and stays broken, and
+/// contracts see this. Where the bytes of a writer are not known, they are `None`, and contracts
+/// then claim nothing about them.
 pub trait Sink {
-    /// The bytes that it took so far, where they are known.
+    /// The bytes that the sink has taken so far, where they are known.
     ghost taken: { Self → Option (List ℕ) };
 
     /// Whether a write failed.
     ghost is_broken: { Self → Bool };
 
-    /// Takes some of the first bytes, and answers how many. Of a nonempty slice it takes none
-    /// only where it is broken afterwards.
+    /// Takes some of the first bytes, and returns how many. If it takes no bytes of a nonempty
+    /// slice, the sink is broken.
     fn put(&mut self, bytes: &[u8]) -> usize
         ensures bound { result ≤ length bytes.now }
         ensures takes { Appends (taken self.old) (taken self.new) (take result bytes.now) }
@@ -28,7 +28,8 @@ pub trait Sink {
         ensures stays { is_broken self.old ≡ true → is_broken self.new ≡ true };
 }
 
-/// The sink of a writer: each `put` is one call of `write`, whose error counts as nothing taken.
+/// The sink of a writer. Each `put` is one call of `write`. After an error of `write` no bytes were
+/// taken.
 #[derive(Drop)]
 pub struct Out<W> {
     writer: W,
@@ -50,7 +51,7 @@ impl<W: Write> Sink for Out<W> {
 }
 
 impl<W: Write> Out<W> {
-    /// Makes a sink of a writer. It isn't broken, and holds what the writer holds.
+    /// Makes a sink of a writer. The sink is not broken, and has taken what the writer holds.
     pub fn new(writer: W) -> Out<W>
         ensures taken { ⟦<Out<W> as Sink>⟧.taken result ≡ W.contents writer }
         ensures whole { ⟦<Out<W> as Sink>⟧.is_broken result ≡ false }
@@ -62,15 +63,15 @@ impl<W: Write> Out<W> {
     }
 }
 
-/// A sink took fewer bytes than it was given.
+/// The sink took fewer bytes than it was given.
 #[derive(Clone, Copy, Debug, PartialEq, Eq, Error)]
 #[error("36 Write")]
 pub struct NotTaken;
 
-/// Puts all bytes into a sink, however few it takes at a call.
+/// Puts all bytes into a sink, by as many calls of `put` as it needs.
 ///
-/// Where it is refused, the sink is broken, and what it took of the bytes is a proper prefix of
-/// them. A sink that was broken stays broken. It takes no memory.
+/// After `NotTaken` the sink is broken, and it took a proper prefix of the bytes. A sink that was
+/// broken before stays broken. This does not allocate.
 pub fn put_all<W: Sink>(out: &mut W, bytes: &[u8]) -> Result<(), NotTaken>
     ensures ok { OnOk result (Appends (W.taken out.old) (W.taken out.new) bytes.now) }
     ensures broken { OnErr result (W.is_broken out.new ≡ true) }

@@ -1,24 +1,23 @@
-//! What gives bytes.
+//! A source, which gives bytes.
 
 ghost use Rattle.std.specs.Prelude.{◌≡◌, ◌<◌, ◌≤◌, ℕ, List, Option, Bool, true, false, length, take, IfSome, IfNone};
 ghost use Rattle.std.specs.Io.KnownBytes.{Consumes, IsAtEnd};
 
 use std::io::Read;
 
-/// Gives bytes, some of the next ones at each call.
+/// Gives bytes. Each call gives some of the next bytes.
 ///
-/// This is the seam to the world on the side of reading. One that fails stays broken. A reader
-/// that doesn't tell the bytes that it has left says `None`; contracts then claim nothing of its
-/// bytes.
+/// All reading goes through this trait. A source that fails stays broken. Where the remaining bytes
+/// of a reader are not known, they are `None`, and contracts then claim nothing about them.
 pub trait Source {
-    /// The bytes that it has left, where they are known.
+    /// The bytes that are still to come, where they are known.
     ghost left: { Self → Option (List ℕ) };
 
     /// Whether a read failed.
     ghost is_broken: { Self → Bool };
 
-    /// Fills the front of a slice with the next bytes, and answers how many. For a nonempty
-    /// slice, 0 says that there are no more, and `None` that the source is broken.
+    /// Fills the front of a slice with the next bytes, and returns how many. For a nonempty slice,
+    /// 0 means that there are no more bytes, and `None` means that the source is broken.
     fn fetch(&mut self, into: &mut [u8]) -> Option<usize>
         ensures bound { IfSome result (λ n. n ≤ length into.new) }
         ensures gives { IfSome result (λ n. Consumes (left self.old) (left self.new) (take n into.new)) }
@@ -27,7 +26,7 @@ pub trait Source {
         ensures stays { is_broken self.old ≡ true → is_broken self.new ≡ true };
 }
 
-/// The source of a reader: each `fetch` is one call of `read`, whose error is answered as `None`.
+/// The source of a reader. Each `fetch` is one call of `read`, and an error of `read` gives `None`.
 #[derive(Drop)]
 pub struct In<R> {
     reader: R,
@@ -51,7 +50,8 @@ impl<R: Read> Source for In<R> {
 }
 
 impl<R: Read> In<R> {
-    /// Makes a source of a reader. It isn't broken, and has left what the reader has left.
+    /// Makes a source of a reader. The source is not broken, and its bytes are those that the
+    /// reader still has.
     pub fn new(reader: R) -> In<R>
         ensures left { ⟦<In<R> as Source>⟧.left result ≡ R.remaining reader }
         ensures whole { ⟦<In<R> as Source>⟧.is_broken result ≡ false }

@@ -1,4 +1,4 @@
-//! The superblock of a container.
+//! Reads the superblock of a container.
 
 ghost use Rattle.std.specs.Prelude.{◌≡◌, ◌*◌, ◌/◌, ◌%◌, ◌≤◌, ◌⊎◌, length, IfOk, IsOk};
 ghost use Rattle.byte_fields.specs.Check.{Makes};
@@ -13,10 +13,10 @@ use std::marker::Model;
 /// The bytes with which every container begins. ("The MSF File Format", "The Superblock".)
 pub const MAGIC: [u8; 32] = *b"Microsoft C/C++ MSF 7.00\x0d\x0a\x1aDS\0\0\0";
 
-/// How many bytes a superblock has.
+/// The length of a superblock, in bytes.
 const LENGTH: usize = 56;
 
-// Where its fields begin, in bytes from the front of the file.
+// The offsets of the fields, in bytes from the front of the file.
 const BLOCK_SIZE: usize = 32;
 
 const FREE_MAP_BLOCK: usize = 36;
@@ -31,7 +31,7 @@ const BLOCK_MAP_ADDR: usize = 52;
 
 /// A superblock that passed its checks.
 ///
-/// Returned by [`Superblock::read`]. ("The MSF File Format", "The Superblock".)
+/// Made by [`Superblock::read`]. ("The MSF File Format", "The Superblock".)
 #[derive(Clone, Copy, Debug)]
 pub struct Superblock {
     block_size: u32,
@@ -78,11 +78,19 @@ impl Model for Superblock {
 impl Superblock {
     /// Reads the superblock at the front of a file.
     ///
-    /// The faults come in this order: fewer than 56 bytes; another magic; a block size that
-    /// blocks don't have; a free block map that begins neither at block 1 nor at block 2; blocks
-    /// that pass the end of the file; a directory whose length is no multiple of four bytes or
-    /// needs more blocks than one block can list; a block map at block 0 or past the last block.
-    /// Bytes after the last block are ignored. It takes no memory.
+    /// The faults, in the order in which they are checked:
+    ///
+    /// 1. `Short`: the file has fewer than 56 bytes.
+    /// 2. `Magic`: the file begins with another magic.
+    /// 3. `BlockSize`: the block size is not one of the seven sizes.
+    /// 4. `FreeMapBlock`: the free block map in force begins neither at block 1 nor at block 2.
+    /// 5. `FileSize`: the blocks pass the end of the file.
+    /// 6. `DirectorySize`: the length of the directory is not a multiple of four, or the directory
+    ///    needs more blocks than one block can list.
+    /// 7. `BlockMapAddr`: the block map is block 0, or past the last block.
+    ///
+    /// Bytes after the last block are ignored. This does not allocate. ("The MSF File Format", "The
+    /// Superblock".)
     #[tactic(auto, using(crate::proofs::SizeLaws::size_decides), unfolding(crate::specs::Superblock::superblock_checks))]
     pub fn read(file: &[u8]) -> Result<Superblock, MsfFault>
         ensures value { IfOk result (IsSuperblock file.now) }
@@ -111,7 +119,7 @@ impl Superblock {
             return Err(MsfFault::FileSize { need, have });
         }
         let directory_bytes = u32_at(file, DIRECTORY_BYTES);
-        // The block map is one block of four-byte numbers.
+        // The block map is one block, and each of its numbers has four bytes.
         let most_blocks = block_size / 4;
         if directory_bytes % 4 != 0 || blocks_for(block_size, directory_bytes) > most_blocks {
             return Err(MsfFault::DirectorySize(directory_bytes));
@@ -153,7 +161,7 @@ impl Superblock {
         self.num_blocks
     }
 
-    /// How long the stream directory is, in bytes.
+    /// The length of the stream directory, in bytes.
     pub fn directory_bytes(&self) -> u32
         ensures value { result ≡ self.now.directory_bytes }
         ensures words { result % 4 ≡ 0 }
@@ -162,14 +170,14 @@ impl Superblock {
         self.directory_bytes
     }
 
-    /// The field that the format leaves unexplained.
+    /// The field that the format does not explain.
     pub fn unknown(&self) -> u32
         ensures { result ≡ self.now.unknown }
     {
         self.unknown
     }
 
-    /// The number of the block that lists the blocks of the stream directory.
+    /// The number of the block map, which lists the blocks of the stream directory.
     pub fn block_map_addr(&self) -> u32
         ensures value { result ≡ self.now.block_map_addr }
         ensures fits { IsOrdinary self.now.num_blocks result }

@@ -1,4 +1,4 @@
--- An image reads back as its texts.
+-- An image reads back as its streams.
 use Rattle.std.proofs.Common.{◌≡◌, ℕ, suc, ◌+◌, ◌-◌, ◌*◌, ◌/◌, ◌%◌, ◌^◌, ◌<◌, ◌≤◌, List, [], ◌∷◌, ◌++◌, length, map, take, drop, get_or, refl, sym, ap, ◌∙◌, arith, append_assoc, inl}
 use Rattle.std.specs.Prelude.{All, slice_get}
 use Rattle.std.specs.List.{flat_map, sum_by}
@@ -22,7 +22,7 @@ use Rattle.msf_streams.proofs.RangeLaws.{map-range_with_len_parts, map-same_rang
 use Rattle.msf_streams.proofs.PieceLaws.{gathered_first, at_most_one_for}
 use Rattle.msf_streams.proofs.ImageLaws.{part_back, image_long, length_parts, nth_below}
 
--- a number in a stretch of numbers
+-- one of several numbers that are next to each other
 word_in : (x ns : List ℕ) (at len k : ℕ) → take len (drop at x) ≡ words ns → k < length ns → get_or ns k 0 < 2 ^ 32 → number_at 4 x (at + 4 * k) ≡ get_or ns k 0
 unfolding number_at word
 word_in x ns at len k e lt small =
@@ -47,7 +47,7 @@ unfolding listed_from
 listed_count b f [] = refl
 listed_count b f (k ∷ ks) = ap suc (listed_count b (f + blocks_for b k) ks)
 
--- the texts after those in front are read back in order
+-- the parts after the first ones read back as streams, in order
 pub streams_back : (b m : ℕ) (all front ts : List (List ℕ)) → 3 < b → all ≡ front ++ ts → sum_by (blocks_for b) (map length all) ≡ m + 1 → All (λ t. length t < 0xFFFFFFFF) ts
     → map (text_of (laid_out b (nth_block b m + 1) (flat_map (filled b) all)) b) (listed_from b (sum_by (blocks_for b) (map length front)) (map length ts)) ≡ ts
 unfolding listed_from
@@ -69,7 +69,7 @@ one_for b len pos some one =
     let least : 1 ≤ (len + b - 1) / b = le-div 1 (len + b - 1) b pos (omega arith) in
     omega (arith, least, at_most_one_for b len pos one)
 
--- a text within one block
+-- a part that fits in one block
 pub block_back : (b m : ℕ) (all front : List (List ℕ)) (t : List ℕ) (back : List (List ℕ)) → 3 < b → all ≡ front ++ t ∷ back → sum_by (blocks_for b) (map length all) ≡ m + 1
     → 0 < length t → length t ≤ b → (nth_block b (sum_by (blocks_for b) (map length front)) + 1) * b ≤ length (laid_out b (nth_block b m + 1) (flat_map (filled b) all))
     → take (length t) (drop (nth_block b (sum_by (blocks_for b) (map length front)) * b) (laid_out b (nth_block b m + 1) (flat_map (filled b) all))) ≡ t
@@ -123,7 +123,7 @@ all_blocks b ts size fits =
     sum_by-cons (blocks_for b) sb (bm ∷ dir ∷ sizes)
     ∙ rw (sum_by-cons (blocks_for b) bm (dir ∷ sizes), sum_by-cons (blocks_for b) dir sizes, h.0, h.1, h.2) (omega arith)
 
--- the image, by the words of the lemmas above
+-- the image, in terms of its data blocks
 pub image_is : (b : ℕ) (ts : List (List ℕ)) → image b ts ≡ laid_out b (nth_block b (data_count b (map length ts) - 1) + 1) (flat_map (filled b) (parts b ts))
 unfolding image
 image_is b ts = refl
@@ -134,7 +134,7 @@ image_long_as_said b ts size fits =
     let big = big_enough b size in
     rw (image_is b ts) (image_long b m (flat_map (filled b) (parts b ts)) big (length_parts b (parts b ts) (omega arith) ∙ rw (all_blocks b ts size fits) refl))
 
--- its first bytes
+-- the superblock of an image
 pub head : (b : ℕ) (ts : List (List ℕ)) → IsBlockSize b → Fits b (map length ts) → take 56 (image b ts) ≡ superblock_part b (map length ts)
 unfolding parts
 head b ts size fits =
@@ -153,7 +153,7 @@ head b ts size fits =
     let z : 0 * b ≡ 0 = omega arith in
     rw is (rw (long, zeroth, z) at e)
 
--- its block map
+-- the block map of an image
 pub map_here : (b : ℕ) (ts : List (List ℕ)) → IsBlockSize b → Fits b (map length ts)
     → take (4 * directory_count b (map length ts)) (drop (nth_block b 1 * b) (image b ts)) ≡ words (numbers b 2 (directory_count b (map length ts)))
 unfolding parts block_map_part
@@ -292,7 +292,7 @@ listed_parts b sizes =
     let f = 2 + directory_count b sizes in
     rw (listed_count b f sizes, listed_sizes b f sizes, listed_blocks b f sizes) (sym (append-nil _))
 
--- each listed stream has as many blocks as it needs, all ordinary
+-- each listed stream has the number of blocks that its size needs, and all of them are ordinary
 pub each_listed : (b f n m : ℕ) (sizes : List ℕ) → 3 < b → 0 < f → f + blocks_of_all b sizes ≤ m + 1 → nth_block b m + 1 < 2 ^ 23 → All (λ k. k < 0xFFFFFFFF) sizes
     → (s : Fields) → s.block_size ≡ b → s.num_blocks ≡ nth_block b m + 1 → All (IsListed s) (listed_from b f sizes)
 unfolding listed_from
@@ -328,7 +328,7 @@ all_lengths : (ts : List (List ℕ)) → All (λ k. k < 0xFFFFFFFF) (map length 
 all_lengths [] h = All-nil (λ (t : List ℕ). length t < 0xFFFFFFFF)
 all_lengths (t ∷ ts) h = All-cons (λ (u : List ℕ). length u < 0xFFFFFFFF) t ts (All-head (λ k. k < 0xFFFFFFFF) (length t) (map length ts) h) (all_lengths ts (All-tail (λ k. k < 0xFFFFFFFF) (length t) (map length ts) h))
 
--- an image within the bounds reads back as its texts
+-- the image of streams that fit reads back as these streams
 pub reads_back : (b : ℕ) (ts : List (List ℕ)) → IsBlockSize b → Fits b (map length ts) → ReadsBack b ts
 unfolding parts
 reads_back b ts size fits =

@@ -1,4 +1,4 @@
--- Texts that are made of bytes: the parts of an image, and the streams of a file.
+-- The parts of an image and the streams of a file are made of bytes.
 use Rattle.std.proofs.Common.{◌≡◌, ℕ, zero, suc, ◌+◌, ◌-◌, ◌*◌, ◌/◌, ◌%◌, ◌<◌, true, nat_lt, nat_eq, min, List, [], ◌∷◌, ◌++◌, Option, Some, None, length, map, drop, get_or, refl, arith, inl, inr}
 use Rattle.std.specs.List.{AllByRecursion, range_with_len, flat_map, list_all, slice_get}
 use Rattle.std.specs.Prelude.{option_map}
@@ -16,7 +16,7 @@ use Rattle.msf_streams.specs.Stream.{gathered, text_of, stream_text}
 use Rattle.msf_streams.specs.Image.{filled, text_block, map_byte, map_block, image_block, laid_out, numbers, superblock_numbers, superblock_part, block_map_part, directory_part, directory_count, blocks_of_all, parts, image, image_blocks}
 use lib.ListN.{replicate}
 
--- ---- texts of bytes
+-- ---- lists of bytes
 
 bytes_nil : AreBytes []
 bytes_nil i = omega arith
@@ -37,7 +37,7 @@ bytes_replicate : (n byte : ℕ) → byte < 256 → AreBytes (replicate n byte)
 bytes_replicate zero byte lt = bytes_nil
 bytes_replicate (suc n) byte lt = bytes_cons byte (replicate n byte) lt (bytes_replicate n byte lt)
 
--- a text whose numbers pass the test of a byte
+-- a list whose numbers are all below 256 is made of bytes
 bytes_tested : (xs : List ℕ) → list_all (λ x. nat_lt x 256) xs ≡ true → AreBytes xs
 bytes_tested [] e = bytes_nil
 bytes_tested (x ∷ xs) e = elim (cases_Bool (nat_lt x 256)) [
@@ -89,7 +89,7 @@ directory_is_bytes : (b : ℕ) (sizes : List ℕ) → AreBytes (directory_part b
 unfolding directory_part
 directory_is_bytes b sizes = words_are_bytes (length sizes ∷ sizes ++ numbers b (2 + directory_count b sizes) (blocks_of_all b sizes))
 
--- an image of texts of bytes is made of bytes
+-- the image of streams of bytes is made of bytes
 pub image_is_bytes : (b : ℕ) (texts : List (List ℕ)) → AllByRecursion AreBytes texts → AreBytes (image b texts)
 unfolding image parts
 image_is_bytes b texts each =
@@ -104,7 +104,7 @@ unfolding gathered
 gathered_are_bytes file b blocks size each =
     bytes_map (λ i. get_or file (get_or blocks (i / b) 0 * b + i % b) 0) (range_with_len 0 size) (λ i. each (get_or blocks (i / b) 0 * b + i % b))
 
--- of a stream that there may be
+-- a stream of a file of bytes is made of bytes, if there is such a stream
 some_are_bytes : (file : List ℕ) (b : ℕ) (stream : Option Listed) (text : List ℕ) → AreBytes file → option_map (text_of file b) stream ≡ Some text → AreBytes text
 some_are_bytes file b None text each e = absurd cc
 some_are_bytes file b (Some stream) text each e =

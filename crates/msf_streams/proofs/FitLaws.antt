@@ -7,13 +7,13 @@ use Rattle.msf_blocks.proofs.BlockLaws.{nth_few}
 use Rattle.msf_streams.specs.Image.{blocks_of_all, directory_len, directory_count, data_count, image_blocks, image_length, Fits}
 use Rattle.msf_streams.specs.Laws.{FewBlocksFit}
 
--- so many whole blocks hold what is no longer than they are
+-- bytes that are no longer than q blocks need at most q blocks
 pub few_hold : (b bytes q : ℕ) → 0 < b → bytes ≤ q * b → blocks_for b bytes ≤ q
 few_hold b bytes q some few =
     let below : (bytes + b - 1) / b < q + 1 = div_below (bytes + b - 1) b (q + 1) some (omega (arith, few)) in
     omega (arith, below)
 
--- a block lists the blocks of a directory of so many numbers
+-- one block can list the blocks of a directory of few numbers
 one_block : (b total : ℕ) → IsBlockSize b → 16 * (6 + total) ≤ b * b → blocks_for b (4 * (6 + total)) ≤ b / 4
 one_block b total size few =
     let c = b / 4 in
@@ -21,7 +21,7 @@ one_block b total size few =
     let square : b * b ≡ 4 * (c * b) = ap (λ (n : ℕ). n * b) four ∙ omega arith in
     few_hold b (4 * (6 + total)) c (some_bytes b size) (omega (arith, few, square))
 
--- the file isn't too long
+-- the length of the file is a number of four bytes
 short_enough : (b directory total last : ℕ) → IsBlockSize b → directory ≤ b / 4 → total * b ≤ 1073872896 → last ≤ 3 * (1 + directory + total) → (last + 1) * b < 4294967296
 short_enough b directory total last size few small near =
     let facts = size_facts b size in

@@ -1,4 +1,4 @@
--- The parts in front of the streams, number by number.
+-- The parts of an image before its streams, number by number.
 use Rattle.std.proofs.Common.{◌≡◌, ℕ, ◌+◌, ◌*◌, ◌<◌, ◌≤◌, ◌^◌, List, [], ◌∷◌, ◌++◌, length, map, take, get_or, refl, sym, ap, ◌∙◌, arith, append_assoc}
 use Rattle.std.specs.Prelude.{All}
 use Rattle.std.proofs.lemmas.List.Elements.{All-push, All-map, All-get_or}
@@ -15,19 +15,19 @@ use Rattle.msf_blocks.proofs.BlockLaws.{nth_few}
 use Rattle.msf_streams.specs.Image.{texts_of, numbers, blocks_of_all, directory_len, directory_count, image_blocks, superblock_part, block_map_part, directory_part}
 use Rattle.msf_streams.proofs.ImageLaws.{five_streams}
 
--- one number more
+-- one more number at the end
 words_push : (ns : List ℕ) (n : ℕ) → words (ns ++ n ∷ []) ≡ words ns ++ four_bytes n
 words_push ns n = flat_map-append four_bytes ns (n ∷ []) ∙ rw (append-nil (four_bytes n)) refl
 
--- one block more
+-- the number of one more block
 numbers_more : (b first j : ℕ) → words (numbers b first (j + 1)) ≡ words (numbers b first j) ++ four_bytes (nth_block b (first + j))
 numbers_more b first j = ap words (map-range_with_len_more (nth_block b) first j (first + j) refl) ∙ words_push (numbers b first j) (nth_block b (first + j))
 
--- one number of a list more
+-- one more number of a list
 pub words_more : (ns : List ℕ) (i : ℕ) → i < length ns → words (take (i + 1) ns) ≡ words (take i ns) ++ four_bytes (get_or ns i 0)
 words_more ns i lt = ap words (take_more ns i 0 lt) ∙ words_push (take i ns) (get_or ns i 0)
 
--- the number of a data block that isn't far behind is a number of four bytes
+-- the number of one of the first 2 ^ 28 data blocks fits in four bytes
 pub small_number : (b j : ℕ) → IsBlockSize b → j < 2 ^ 28 → nth_block b j < 2 ^ 32
 small_number b j size few = omega (arith, nth_few b j (big_enough b size))
 
@@ -36,7 +36,7 @@ pub block_pushed : (b first j block : ℕ) (old before new : List ℕ) → befor
 block_pushed b first j block old before new so_far is pushed =
     pushed ∙ rw (so_far, is, numbers_more b first j) (append_assoc old (words (numbers b first j)) (four_bytes (nth_block b (first + j))))
 
--- ---- the parts in front
+-- ---- the parts before the streams
 
 -- the superblock
 pub superblock_is : (b n blocks len addr : ℕ) (sizes bytes : List ℕ) → length sizes ≡ 5 → n ≡ image_blocks b sizes → blocks ≡ blocks_of_all b sizes → len ≡ 4 * (6 + blocks) → addr ≡ nth_block b 1
@@ -61,27 +61,27 @@ directory_is b blocks directory sizes bytes five all is e =
     let numbered : numbers b (2 + directory) blocks ≡ numbers b (2 + directory_count b sizes) (blocks_of_all b sizes) = rw (same, all) refl in
     e ∙ ap (λ (ns : List ℕ). words (5 ∷ sizes ++ ns)) numbered ∙ ap (λ (n : ℕ). words (n ∷ sizes ++ numbers b (2 + directory_count b sizes) (blocks_of_all b sizes))) (sym five)
 
--- ---- the sizes of texts
+-- ---- the sizes of streams
 
--- one size more
+-- one more size
 pub size_pushed : {X : Type 0} (f : X → ℕ) (sizes : List ℕ) (xs : List X) (i size : ℕ) (d : X) → take i sizes ≡ map f (take i xs) → i < length sizes → i < length xs → size ≡ f (get_or xs i d)
     → take (i + 1) (set sizes i size) ≡ map f (take (i + 1) xs)
 size_pushed f sizes xs i size d so_far in_sizes in_xs is =
     take_more_set sizes i size in_sizes ∙ rw (so_far, is) (sym (ap (map f) (take_more xs i d in_xs) ∙ map-append f (take i xs) (get_or xs i d ∷ [])))
 
--- all sizes
+-- all the sizes
 pub sizes_are : {X : Type 0} (f : X → ℕ) (sizes : List ℕ) (xs : List X) (i : ℕ) → take i sizes ≡ map f (take i xs) → length sizes ≤ i → length xs ≤ i → sizes ≡ map f xs
 sizes_are f sizes xs i so_far all_sizes all_xs = sym (take_all i sizes all_sizes) ∙ so_far ∙ ap (map f) (take_all i xs all_xs)
 
--- one short text more
+-- one more short stream
 pub short_pushed : {X : Type 0} (f : X → ℕ) (xs : List X) (i size : ℕ) (d : X) → All (λ x. f x < 2 ^ 32) (take i xs) → i < length xs → size ≡ f (get_or xs i d) → size < 2 ^ 32 → All (λ x. f x < 2 ^ 32) (take (i + 1) xs)
 short_pushed f xs i size d so_far lt is small = rw (take_more xs i d lt) (All-push (λ x. f x < 2 ^ 32) (take i xs) (get_or xs i d) so_far (rw (← is) small))
 
--- all texts are short
+-- all streams are short
 pub all_short : {X : Type 0} (f : X → List ℕ) (xs : List X) (i : ℕ) → length xs ≤ i → All (λ x. length (f x) < 2 ^ 32) (take i xs) → All (λ text. length text < 2 ^ 32) (map f xs)
 all_short f xs i le so_far = All-map (λ text. length text < 2 ^ 32) f xs (rw (take_all i xs le) at so_far)
 
--- one isn't
+-- one stream is not short
 pub not_short : {X : Type 0} (f : X → List ℕ) (xs : List X) (i : ℕ) (d : X) → i < length xs → 2 ^ 32 ≤ length (f (get_or xs i d)) → All (λ text. length text < 2 ^ 32) (map f xs) → ⊥
 not_short f xs i d lt long short =
     let here = All-get_or (λ text. length text < 2 ^ 32) (map f xs) i (f d) (rw (length-map xs f) lt) short in

@@ -1,4 +1,4 @@
--- What stands where in an image.
+-- Where the parts of an image are.
 use Rattle.std.proofs.Common.{◌≡◌, ℕ, zero, suc, ◌+◌, ◌-◌, ◌*◌, ◌/◌, ◌%◌, ◌<◌, ◌≤◌, ◌^◌, false, nat_eq, List, [], ◌∷◌, ◌++◌, length, map, take, drop, get_or, refl, ap, ◌∙◌, subst, arith, append_assoc, inl, inr}
 use Rattle.std.specs.List.{range_with_len, flat_map, sum_by}
 use Rattle.std.proofs.lemmas.Nat.{div-add-mod', mod_below, mul-le, div-mul-add}
@@ -15,7 +15,7 @@ use Rattle.msf_streams.specs.Image.{filled, text_block, map_block, map_byte, ima
 use Rattle.msf_streams.proofs.RangeLaws.{map-same_ranges, part_by_places}
 use lib.ListN.{replicate}
 
--- ---- lists made of blocks of one length
+-- ---- lists of blocks of the same length
 
 pub length_blocks : (f : ℕ → List ℕ) (b a n : ℕ) → ((k : ℕ) → a ≤ k → k < a + n → length (f k) ≡ b) → length (flat_map f (range_with_len a n)) ≡ n * b
 length_blocks f b a zero h = omega arith
@@ -52,7 +52,7 @@ pub length_text_block : (b j : ℕ) (t : List ℕ) → (j + 1) * b ≤ length t 
 unfolding text_block
 length_text_block b j t fits = omega (arith, length-take b (drop (j * b) t), length-drop (j * b) t)
 
--- a data block below the file's end has a block of the text
+-- each data block before the end of the file has a block of the data
 pub rank_below : (b m k : ℕ) → 3 < b → is_map_block b k ≡ false → k < nth_block b m + 1 → length (data_blocks b k) < m + 1
 rank_below b m k big e lt =
     let h = nth_onto b k big e in
@@ -78,7 +78,7 @@ nth_below b m j big lt = elim (cases_lt j m) [
   | inr more ↦ let same : j ≡ m = omega arith in rw same (omega arith)
 ]
 
--- the j-th data block of an image is block j of its text
+-- data block j of an image is block j of the data
 pub image_at : (b m j i : ℕ) (t : List ℕ) → 3 < b → length t ≡ (m + 1) * b → j < m + 1 → i < b
     → get_or (laid_out b (nth_block b m + 1) t) (nth_block b j * b + i) 0 ≡ get_or t (j * b + i) 0
 unfolding laid_out image_block text_block
@@ -93,7 +93,7 @@ pub image_long : (b m : ℕ) (t : List ℕ) → 3 < b → length t ≡ (m + 1) *
 unfolding laid_out
 image_long b m t big long = length_blocks (image_block b (nth_block b m + 1) t) b 0 (nth_block b m + 1) (λ k lo hi. length_image_block b m k t big long (omega arith))
 
--- ---- a stretch of the text is read through its blocks
+-- ---- several blocks of the data are read through their numbers
 
 pub stretch : (b m f len : ℕ) (t : List ℕ) → 3 < b → length t ≡ (m + 1) * b → f + blocks_for b len ≤ m + 1 → f * b + len ≤ length t
     → gathered (laid_out b (nth_block b m + 1) t) b (map (nth_block b) (range_with_len f (blocks_for b len))) len ≡ take len (drop (f * b) t)
@@ -109,7 +109,7 @@ stretch b m f len t big long within fits =
     rw (z, number) (image_at b m (f + i / b) (i % b) t big long (omega arith) (mod_below i b (omega arith)) ∙ rw at refl))
     ∙ part_by_places t (f * b) len fits
 
--- ---- texts that are filled to whole blocks, one after the other
+-- ---- parts that are padded to whole blocks, one after the other
 
 pub length_filled : (b : ℕ) (t : List ℕ) → 0 < b → length (filled b t) ≡ blocks_for b (length t) * b
 unfolding filled
@@ -122,7 +122,7 @@ length_parts b (p ∷ ps) pos =
     length-append (filled b p) (flat_map (filled b) ps)
     ∙ rw (length_filled b p pos, length_parts b ps pos, sum_by-cons (blocks_for b) (length p) (map length ps)) (omega arith)
 
--- where a part stands
+-- where a part begins in the data
 pub part_at : (b : ℕ) (front : List (List ℕ)) (t : List ℕ) (back : List (List ℕ)) → 0 < b
     → drop (sum_by (blocks_for b) (map length front) * b) (flat_map (filled b) (front ++ t ∷ back)) ≡ filled b t ++ flat_map (filled b) back
 part_at b front t back pos =
@@ -132,7 +132,7 @@ pub text_back : (b : ℕ) (t rest : List ℕ) → take (length t) (filled b t ++
 unfolding filled
 text_back b t rest = rw (append_assoc t (replicate (blocks_for b (length t) * b - length t) 0) rest) (take_at t _ (length t) refl)
 
--- each part of an image is read back through the blocks that follow those in front
+-- each part of an image reads back through the blocks that follow those of the earlier parts
 pub part_back : (b m : ℕ) (front : List (List ℕ)) (t : List ℕ) (back : List (List ℕ)) → 3 < b
     → sum_by (blocks_for b) (map length (front ++ t ∷ back)) ≡ m + 1
     → gathered (laid_out b (nth_block b m + 1) (flat_map (filled b) (front ++ t ∷ back))) b (map (nth_block b) (range_with_len (sum_by (blocks_for b) (map length front)) (blocks_for b (length t)))) (length t) ≡ t
@@ -148,15 +148,15 @@ part_back b m front t back big count =
     let fits : f * b + length t ≤ length all = omega (arith, long, ends, ceil_ge b (length t) (omega arith)) in
     stretch b m f (length t) all big long within fits ∙ rw (part_at b front t back (omega arith)) (text_back b t (flat_map (filled b) back))
 
--- ---- how long an image is
+-- ---- the length of an image
 
--- a directory of five streams that fits has a small number of blocks, and so has the file
+-- if the block map can list the directory of five streams, then the file has fewer than 2 ^ 28 blocks
 pub few_blocks : (b directory blocks : ℕ) → IsBlockSize b → directory ≤ b / 4 → blocks ≤ 5 * 2 ^ 23 → nth_block b (1 + directory + blocks) + 1 < 2 ^ 28
 few_blocks b directory blocks size le few =
     let facts = size_facts b size in
     omega (arith, facts.most, facts.fours, nth_few b (1 + directory + blocks) (big_enough b size))
 
--- the directory of five streams, and the number of the last data block
+-- the blocks of the directory of five streams, and the number of the last data block
 pub five_streams : (b blocks directory : ℕ) (sizes : List ℕ) → length sizes ≡ 5 → blocks ≡ blocks_of_all b sizes → directory ≡ blocks_for b (4 * (6 + blocks))
     → (directory ≡ directory_count b sizes) × (1 + directory + blocks ≡ data_count b sizes - 1)
 five_streams b blocks directory sizes five all is =
@@ -164,7 +164,7 @@ five_streams b blocks directory sizes five all is =
     let e : directory ≡ directory_count b sizes = is ∙ ap (blocks_for b) same in
     (e, omega (arith, e, all))
 
--- a file of whole blocks has as many as its length says
+-- the length of a file of whole blocks gives the number of its blocks
 pub count_back : (b n len : ℕ) → 0 < b → len ≡ n * b → len / b ≡ n
 count_back b n len some is =
     let whole : len ≡ n * b + 0 = omega arith in

@@ -1,4 +1,4 @@
--- The pieces of a stream: which blocks they lie in, and that they are its text.
+-- The pieces of a stream: their blocks are in the file, and joined they are its contents.
 use Rattle.std.proofs.Common.{◌≡◌, ℕ, suc, ◌+◌, ◌-◌, ◌*◌, ◌/◌, ◌%◌, ◌<◌, ◌≤◌, min, List, [], ◌∷◌, ◌++◌, Option, Some, None, length, map, take, drop, get_or, refl, sym, ap, ◌∙◌, subst, arith, inl, inr}
 use Rattle.std.specs.Prelude.{◌^◌, All, IfSome, IsNone, ◌↔◌}
 use Rattle.std.specs.List.{range_with_len, concat, slice_get}
@@ -16,33 +16,33 @@ use Rattle.msf_blocks.specs.Layout.{LayoutView, IsLayout, block_in, block_of}
 use Rattle.msf_streams.specs.Stream.{gathered, pieces, blocks_in, pieces_from, stream_pieces, stream_text}
 use Rattle.msf_streams.proofs.RangeLaws.{map-range_with_len_parts, map-same_ranges, part_by_places, next_block, first_block}
 
--- ---- how many blocks so many bytes need
+-- ---- how many blocks some bytes need
 
--- only no bytes need no block
+-- only 0 bytes need 0 blocks
 pub none_for : (block_size bytes : ℕ) → 0 < block_size → 0 ≡ blocks_for block_size bytes → bytes ≡ 0
 none_for block_size bytes some e = elim (cases_lt 0 bytes) [
   | inl more ↦ absurd (omega (arith, e, le-div 1 (bytes + block_size - 1) block_size some (omega arith)))
   | inr none ↦ omega arith
 ]
 
--- a block of bytes more needs a block more
+-- as many more bytes as a block has need one more block
 one_more_for : (block_size bytes : ℕ) → 0 < block_size → block_size ≤ bytes → blocks_for block_size bytes ≡ blocks_for block_size (bytes - block_size) + 1
 one_more_for block_size bytes some le =
     let e : bytes + block_size - 1 ≡ (bytes - block_size + block_size - 1) + block_size = omega arith in
     rw e ((next_block block_size (bytes - block_size + block_size - 1) some).0)
 
--- what fits in a block needs no second one
+-- bytes that fit in a block need at most one block
 pub at_most_one_for : (block_size bytes : ℕ) → 0 < block_size → bytes ≤ block_size → blocks_for block_size bytes ≤ 1
 at_most_one_for block_size bytes some le =
     let below : (bytes + block_size - 1) / block_size < 2 = div_below (bytes + block_size - 1) block_size 2 some (omega arith) in omega arith
 
--- ---- the pieces are the text
+-- ---- the pieces are the contents
 
--- the block lies in the file, whole
+-- the whole block is in the file
 abbrev pub IsWhole : List ℕ → ℕ → ℕ → Type 0
 IsWhole file block_size block = (block + 1) * block_size ≤ length file
 
--- the first bytes of a text stand in its first block
+-- the first bytes of the contents are in the first block
 pub gathered_first : (file : List ℕ) (block_size block n : ℕ) (blocks : List ℕ) → n ≤ block_size → IsWhole file block_size block
     → map (λ i. get_or file (get_or (block ∷ blocks) (i / block_size) 0 * block_size + i % block_size) 0) (range_with_len 0 n) ≡ take n (drop (block * block_size) file)
 gathered_first file block_size block n blocks le fits =
@@ -52,7 +52,7 @@ gathered_first file block_size block n blocks le fits =
     rw (same, first.0, first.1) refl)
     ∙ part_by_places file (block * block_size) n (omega arith)
 
--- a text is its first block, and what the other blocks hold
+-- the contents are the first block, and then what the other blocks hold
 gathered_more : (file : List ℕ) (block_size block size : ℕ) (blocks : List ℕ) → 0 < block_size → block_size ≤ size → IsWhole file block_size block
     → gathered file block_size (block ∷ blocks) size ≡ take block_size (drop (block * block_size) file) ++ gathered file block_size blocks (size - block_size)
 unfolding gathered
@@ -70,7 +70,7 @@ gathered_more file block_size block size blocks some le fits =
     subst (λ (n : ℕ). map f (range_with_len 0 n) ≡ take block_size (drop (block * block_size) file) ++ map g (range_with_len 0 (size - block_size))) (sym whole)
     (map-range_with_len_parts f 0 block_size (size - block_size) ∙ rw (gathered_first file block_size block block_size blocks (omega arith) fits, others) refl)
 
--- the pieces, joined, are the text
+-- the joined pieces are the contents
 concat-pieces : (file : List ℕ) (block_size size : ℕ) (blocks : List ℕ) → 0 < block_size → length blocks ≡ blocks_for block_size size → All (IsWhole file block_size) blocks
     → concat (pieces file block_size blocks size) ≡ gathered file block_size blocks size
 unfolding gathered pieces
@@ -98,12 +98,12 @@ length-pieces file block_size size (block ∷ blocks) = ap suc (length-pieces fi
 
 -- ---- one piece after the other
 
--- the number at a position of a stream's list is that of its blocks there
+-- the block at a position of a stream is the entry of its list at this position
 block_in_list : (stream : Option Listed) (k : ℕ) → block_in stream k ≡ slice_get (blocks_in stream) k
 block_in_list None k = sym (slice_get_past [] k (omega arith))
 block_in_list (Some stream) k = refl
 
--- where the list has a block, the piece in it comes next
+-- if the list has a block at this position, the next piece is the bytes in it
 pub piece_here : (file : List ℕ) (layout : LayoutView) (s position block left : ℕ) → block_of layout.streams s position ≡ Some block
     → pieces_from file layout s position left
     ≡ take (min layout.superblock.block_size left) (drop (block * layout.superblock.block_size) file) ∷ pieces_from file layout s (position + 1) (left - layout.superblock.block_size)
@@ -117,7 +117,7 @@ piece_here file layout s position block left e =
     let cut : drop position blocks ≡ block ∷ drop (position + 1) blocks = drop_more blocks position 0 below ∙ rw is refl in
     rw cut refl
 
--- where it has none, no piece is left
+-- if the list has no block at this position, no pieces are left
 pub piece_none : (file : List ℕ) (layout : LayoutView) (s position left : ℕ) → block_of layout.streams s position ≡ None → pieces_from file layout s position left ≡ []
 unfolding pieces
 piece_none file layout s position left e =
@@ -131,11 +131,11 @@ piece_none file layout s position left e =
 
 -- ---- what a layout says of its streams
 
--- a size of a stream fits four bytes
+-- the length of a stream fits in four bytes
 bytes_short : (size : ℕ) → size < 2 ^ 32 → bytes_of size < 2 ^ 32
 bytes_short size short = grind (arith, nat_tests)
 
--- a stream that is none, for where a list has none
+-- a placeholder for a position where a list has no stream
 no_stream : Listed
 no_stream = record { size = 0; blocks = [] }
 
@@ -144,7 +144,7 @@ record IsStream (layout : LayoutView) (s : ℕ) (stream : Listed) : Type 0 where
   here : slice_get layout.streams s ≡ Some stream
   fits : IsListed layout.superblock stream
 
--- each number below the count of streams is a stream's
+-- each number below the number of streams is the number of a stream
 stream_at : (layout : LayoutView) (s : ℕ) → IsLayout layout → s < length layout.streams → IsStream layout s (get_or layout.streams s no_stream)
 stream_at layout s holds below = record {
   here = slice_get-get_or layout.streams s no_stream below;
@@ -169,13 +169,13 @@ listed_block layout s position block size holds e = elim (cases_lt s (length lay
   | inr past ↦ let none : slice_get layout.streams s ≡ None = slice_get_past layout.streams s past in absurd (let bad = rw none at e in cc)
 ]
 
--- an ordinary block lies in the file, whole
+-- an ordinary block is in the file as a whole
 pub block_fits : (file : List ℕ) (fields : Fields) (block : ℕ) → fields.num_blocks * fields.block_size ≤ length file → IsOrdinary fields.num_blocks block
     → block * fields.block_size + fields.block_size ≤ length file
 block_fits file fields block whole ordinary =
     let le : (block + 1) * fields.block_size ≤ fields.num_blocks * fields.block_size = mul-le _ _ _ _ (omega (arith, ordinary.1)) (omega arith) in omega (arith, le)
 
--- the blocks of a stream lie in the file, whole
+-- each block of a stream is in the file as a whole
 blocks_fit : (file : List ℕ) (fields : Fields) (stream : Listed) → fields.num_blocks * fields.block_size ≤ length file → IsListed fields stream → All (IsWhole file fields.block_size) stream.blocks
 blocks_fit file fields stream whole fits = All-from_get_or (IsWhole file fields.block_size) stream.blocks 0 (λ i below.
     let ordinary = All-get_or (IsOrdinary fields.num_blocks) stream.blocks i 0 below fits.ordinary in
@@ -183,7 +183,7 @@ blocks_fit file fields stream whole fits = All-from_get_or (IsWhole file fields.
 
 -- ---- the pieces of a stream
 
--- they are its text, joined
+-- the joined pieces of a stream are its contents
 pub pieces_text : (file : List ℕ) (layout : LayoutView) (s : ℕ) (found : Option (List (List ℕ))) → IsBlockSize layout.superblock.block_size → IsLayout layout
     → layout.superblock.num_blocks * layout.superblock.block_size ≤ length file → found ≡ stream_pieces file layout s → IfSome found (λ p. stream_text file layout s ≡ Some (concat p))
 pieces_text file layout s found size holds whole e = elim (cases_lt s (length layout.streams)) [
@@ -196,7 +196,7 @@ pieces_text file layout s found size holds whole e = elim (cases_lt s (length la
   | inr past ↦ let none : slice_get layout.streams s ≡ None = slice_get_past layout.streams s past in rw (e, none) tt
 ]
 
--- there are as many as its bytes need blocks
+-- there is one piece for each block that the stream needs
 pub pieces_count : (file : List ℕ) (layout : LayoutView) (s : ℕ) (found : Option (List (List ℕ))) → IsLayout layout → found ≡ stream_pieces file layout s
     → IfSome found (λ p. IfSome (slice_get layout.streams s) (λ stream. length p ≡ blocks_for layout.superblock.block_size (bytes_of stream.size)))
 pieces_count file layout s found holds e = elim (cases_lt s (length layout.streams)) [
@@ -207,7 +207,7 @@ pieces_count file layout s found holds e = elim (cases_lt s (length layout.strea
   | inr past ↦ let none : slice_get layout.streams s ≡ None = slice_get_past layout.streams s past in rw (e, none) tt
 ]
 
--- there are none just where there is no such stream
+-- there is no list of pieces exactly where there is no such stream
 pub pieces_none : (file : List ℕ) (layout : LayoutView) (s : ℕ) (found : Option (List (List ℕ))) → found ≡ stream_pieces file layout s → IsNone found ↔ (length layout.streams ≤ s)
 pieces_none file layout s found e = elim (cases_lt s (length layout.streams)) [
   | inl below ↦

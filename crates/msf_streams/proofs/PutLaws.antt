@@ -1,4 +1,4 @@
--- What a sink took of a woven text, and what is left of it.
+-- What a sink took of the data with its map blocks, and what is still to be written.
 use Rattle.std.proofs.Common.{◌≡◌, Bor, ℕ, ◌+◌, ◌-◌, ◌*◌, ◌/◌, ◌%◌, ◌<◌, ◌≤◌, ◌^◌, min, List, [], ◌∷◌, ◌++◌, Option, length, map, take, drop, get_or, refl, sym, ap, ◌∙◌, arith, append_assoc, inl, inr}
 use Rattle.std.specs.List.{flat_map}
 use Rattle.std.proofs.lemmas.Grind.{flat_map-append}
@@ -21,30 +21,30 @@ use lib.ListN.{replicate}
 
 -- ---- what a sink took
 
--- a write that failed within the first of two texts
+-- a write failed within the first of two lists of bytes
 pub part_first : (old new : Option (List ℕ)) (front back : List ℕ) → AppendsPart old new front → AppendsPart old new (front ++ back)
 part_first old new front back h =
     let same : take h.0 (front ++ back) ≡ take h.0 front = take-append-le h.0 front back (omega (arith, h.1)) in
     (h.0, omega (arith, h.1, length-append front back), rw same h.2)
 
--- and within the second
+-- a write failed within the second of two lists of bytes
 pub part_second : (old between new : Option (List ℕ)) (front back : List ℕ) → Appends old between front → AppendsPart between new back → AppendsPart old new (front ++ back)
 part_second old between new front back first h =
     let all : Appends old new (front ++ take h.0 back) = Appends-trans old between new front (take h.0 back) first h.2 in
     let same : take (length front + h.0) (front ++ back) ≡ front ++ take h.0 back = take-append-add front back h.0 in
     (length front + h.0, omega (arith, h.1, length-append front back), rw same all)
 
--- a fact at an error, carried over
+-- if P implies Q, then P at an error implies Q at an error
 pub on_err : {A E : Type 0} (P Q : Type 0) (r : Result A E) → (P → Q) → OnErr r P → OnErr r Q
 on_err P Q (Ok value) carry h = h
 on_err P Q (Err fault) carry h = carry h
 
--- a fact at a success, carried over
+-- if P implies Q, then P at a success implies Q at a success
 pub on_ok : {A E : Type 0} (P Q : Type 0) (r : Result A E) → (P → Q) → OnOk r P → OnOk r Q
 on_ok P Q (Ok value) carry h = carry h
 on_ok P Q (Err fault) carry h = h
 
--- a fact that holds anyway
+-- a fact that always holds also holds at an error
 pub at_err : {A E : Type 0} (P : Type 0) (r : Result A E) → P → OnErr r P
 at_err P (Ok value) h = tt
 at_err P (Err fault) h = h
@@ -56,13 +56,13 @@ unfolding woven
 woven_first b n p [] more = absurd (omega arith)
 woven_first b n p (byte ∷ bytes) more = (byte ∷ woven b n (p + 1) bytes, refl)
 
--- the map blocks in front of some bytes weren't all taken
+-- the map blocks before some bytes were not all taken
 pub fails_before : (old new : Option (List ℕ)) (b n p : ℕ) (bytes : List ℕ) → 0 < length bytes → AppendsPart old new (maps_before b n p) → AppendsPart old new (woven b n p bytes)
 fails_before old new b n p bytes more h =
     let first = woven_first b n p bytes more in
     rw first.1 (part_first old new (maps_before b n p) first.0 h)
 
--- a first run of some bytes
+-- the first run of some bytes, with the map blocks before it
 run_of : (b n p count : ℕ) (bytes : List ℕ) → 3 < b → 0 < length bytes → count ≡ min (room b p) (length bytes) → woven b n p (take count bytes) ≡ maps_before b n p ++ take count bytes
 run_of b n p count bytes big more is =
     let some = some_room b p (some_stretch b big) in
@@ -71,24 +71,24 @@ run_of b n p count bytes big more is =
 split_run : (b n p count : ℕ) (bytes : List ℕ) → woven b n p bytes ≡ woven b n p (take count bytes) ++ woven b n (p + length (take count bytes)) (drop count bytes)
 split_run b n p count bytes = ap (woven b n p) (sym (take-append-drop count bytes)) ∙ woven_parts b n p (take count bytes) (drop count bytes)
 
--- the first run wasn't taken as a whole
+-- the first run was not taken as a whole
 pub fails_within : (old between new : Option (List ℕ)) (b n p count : ℕ) (bytes : List ℕ) → 3 < b → 0 < length bytes → count ≡ min (room b p) (length bytes)
     → Appends old between (maps_before b n p) → AppendsPart between new (take count bytes) → AppendsPart old new (woven b n p bytes)
 fails_within old between new b n p count bytes big more is before h =
     rw (split_run b n p count bytes, run_of b n p count bytes big more is)
     (part_first old new (maps_before b n p ++ take count bytes) _ (part_second old between new (maps_before b n p) (take count bytes) before h))
 
--- it was
+-- the first run was taken as a whole
 pub run_taken : (old between new : Option (List ℕ)) (b n p count : ℕ) (bytes : List ℕ) → 3 < b → 0 < length bytes → count ≡ min (room b p) (length bytes)
     → Appends old between (maps_before b n p) → Appends between new (take count bytes) → Appends old new (woven b n p (take count bytes))
 run_taken old between new b n p count bytes big more is before h =
     rw (run_of b n p count bytes big more is) (Appends-trans old between new (maps_before b n p) (take count bytes) before h)
 
--- it has some bytes
+-- a run has at least one byte
 pub run_count : (b p count : ℕ) (bytes : List ℕ) → 3 < b → 0 < length bytes → count ≡ min (room b p) (length bytes) → (0 < count) × (count ≤ length bytes)
 run_count b p count bytes big more is = let some = some_room b p (some_stretch b big) in (omega (arith, some), omega arith)
 
--- what was taken, and what is left behind one more run
+-- what was taken with one more run, and what is left after it
 pub woven_more : (b n p count : ℕ) (taken rest all : List ℕ) → all ≡ taken ++ woven b n p rest → count ≤ length rest
     → all ≡ (taken ++ woven b n p (take count rest)) ++ woven b n (p + count) (take (length rest - count) (drop count rest))
 woven_more b n p count taken rest all e le =
@@ -96,11 +96,11 @@ woven_more b n p count taken rest all e le =
     let left : take (length rest - count) (drop count rest) ≡ drop count rest = take_rest rest count in
     e ∙ rw (split_run b n p count rest, long, left) (sym (append_assoc taken (woven b n p (take count rest)) (woven b n (p + count) (drop count rest))))
 
--- the place behind the run, and how much is left
+-- the position after the run, and how many bytes are left
 pub places_left : (p count end : ℕ) (rest : List ℕ) → p + length rest ≡ end → count ≤ length rest → p + count + length (take (length rest - count) (drop count rest)) ≡ end
 places_left p count end rest e le = omega (arith, length-take (length rest - count) (drop count rest), length-drop count rest)
 
--- nothing is left
+-- no bytes are left, so all of them were taken
 pub woven_done : (b n p : ℕ) (taken rest all : List ℕ) → all ≡ taken ++ woven b n p rest → length rest ≡ 0 → all ≡ taken
 unfolding woven
 woven_done b n p taken [] all e none = e ∙ append-nil taken
@@ -108,7 +108,7 @@ woven_done b n p taken (byte ∷ rest) all e none = absurd (omega arith)
 
 -- ---- the size of positions
 
--- the interval that a position lies behind
+-- the number of the interval before a position fits in four bytes, and so do the numbers of its map blocks
 pub few_intervals : (b l p : ℕ) → 0 < b → 4 * b ≤ l → p < 2 ^ 33 → ((p - b) / l * b + 2 < 2 ^ 32) × ((p - b) / l < 2 ^ 32)
 few_intervals b l p some long few =
     let q = (p - b) / l in
@@ -116,7 +116,7 @@ few_intervals b l p some long few =
     let places = mul-le (4 * q) 1 (4 * q) b (omega arith) some in
     (omega (arith, rows, div-add-mod' (p - b) l), omega (arith, rows, places, div-add-mod' (p - b) l))
 
--- what is wanting to whole blocks
+-- how many zeros pad some bytes to whole blocks
 pub fill_count : (b len : ℕ) → IsBlockSize b → ((b - len % b) % b ≡ blocks_for b len * b - len) × ((b - len % b) % b ≤ 32768)
 fill_count b len size =
     let facts = size_facts b size in
@@ -138,13 +138,13 @@ fill_count b len size =
           (rw (rest, count) (omega (arith, whole)), omega (arith, rest))
     ]
 
--- ---- a part, filled to whole blocks
+-- ---- a part, padded to whole blocks
 
 pub filled_is : (b : ℕ) (part fill : List ℕ) (count : ℕ) → count ≡ blocks_for b (length part) * b - length part → fill ≡ replicate count 0 → filled b part ≡ part ++ fill
 unfolding filled
 filled_is b part fill count is e = rw (e, is) refl
 
--- the zeros from the end of a part on
+-- a padded part is the part, and then zeros
 pub filled_after : (b position end : ℕ) (part fill : List ℕ) (count : ℕ) → end ≡ position + length part → count ≡ blocks_for b (end - position) * b - (end - position) → fill ≡ replicate count 0
     → filled b part ≡ part ++ fill
 filled_after b position end part fill count ends is e =
@@ -158,19 +158,19 @@ filled_longer b part = omega (arith, length-append part (replicate (blocks_for b
 woven_filled : (b n p : ℕ) (part fill : List ℕ) → filled b part ≡ part ++ fill → woven b n p (filled b part) ≡ woven b n p part ++ woven b n (p + length part) fill
 woven_filled b n p part fill is = ap (woven b n p) is ∙ woven_parts b n p part fill
 
--- the bytes of a part weren't all taken
+-- the bytes of a part were not all taken
 pub part_fails : (old new : Option (List ℕ)) (b n p : ℕ) (part : List ℕ) → AppendsPart old new (woven b n p part) → AppendsPart old new (woven b n p (filled b part))
 part_fails old new b n p part h =
     let fill : List ℕ = replicate (blocks_for b (length part) * b - length part) 0 in
     rw (woven_filled b n p part fill (filled_is b part fill (blocks_for b (length part) * b - length part) refl refl)) (part_first old new (woven b n p part) (woven b n (p + length part) fill) h)
 
--- the zeros behind them weren't
+-- the bytes of a part were all taken, and its padding was not
 pub fill_fails : (old between new : Option (List ℕ)) (b n p : ℕ) (part fill : List ℕ) → filled b part ≡ part ++ fill → Appends old between (woven b n p part)
     → AppendsPart between new (woven b n (p + length part) fill) → AppendsPart old new (woven b n p (filled b part))
 fill_fails old between new b n p part fill is before h =
     rw (woven_filled b n p part fill is) (part_second old between new (woven b n p part) (woven b n (p + length part) fill) before h)
 
--- all were
+-- the bytes of a part and its padding were all taken
 pub part_taken : (old between new : Option (List ℕ)) (b n p : ℕ) (part fill : List ℕ) → filled b part ≡ part ++ fill → Appends old between (woven b n p part)
     → Appends between new (woven b n (p + length part) fill) → Appends old new (woven b n p (filled b part))
 part_taken old between new b n p part fill is before h =
@@ -178,11 +178,11 @@ part_taken old between new b n p part fill is before h =
 
 -- ---- one part after the other
 
--- the next of some parts, and those after it
+-- the remaining parts are the next part and those after it
 part_here : {X : Type 0} (h : X → List ℕ) (xs : List X) (i : ℕ) (d : X) → i < length xs → flat_map h (drop i xs) ≡ h (get_or xs i d) ++ flat_map h (drop (i + 1) xs)
 part_here h xs i d lt = ap (flat_map h) (drop_more xs i d lt)
 
--- the place after the next part is the one where what is left begins
+-- the position after the next part is where the remaining parts begin
 pub next_place : {X : Type 0} (h : X → List ℕ) (xs : List X) (i : ℕ) (d : X) (p end : ℕ) → i < length xs
     → p + length (flat_map h (drop i xs)) ≡ end → p + length (h (get_or xs i d)) + length (flat_map h (drop (i + 1) xs)) ≡ end
 next_place h xs i d p end lt e = omega (arith, e, ap length (part_here h xs i d lt), length-append (h (get_or xs i d)) (flat_map h (drop (i + 1) xs)))
@@ -191,22 +191,22 @@ pub next_fits : {X : Type 0} (h : X → List ℕ) (xs : List X) (i : ℕ) (d : X
     → p + length (h (get_or xs i d)) < 2 ^ 33
 next_fits h xs i d p end lt e few = omega (arith, next_place h xs i d p end lt e)
 
--- after the last part nothing is left
+-- after the last part no bytes are left
 pub none_left : {X : Type 0} (h : X → List ℕ) (xs : List X) (i : ℕ) → length xs ≤ i → length (flat_map h (drop i xs)) ≡ 0
 none_left h xs i le = rw (drop_all i xs le) refl
 
--- nothing was taken yet
+-- at the start nothing was taken
 pub at_start : (old : Option (List ℕ)) (b n p : ℕ) (text : List ℕ) → Halfway old old b n (woven b n p text) p text
 at_start old b n p text = record { taken = []; split = refl; appends = Appends-nil old }
 
--- the first of what is left wasn't taken as a whole
+-- the first of the remaining data was not taken as a whole
 pub first_fails : (old between new : Option (List ℕ)) (b n p : ℕ) (all first rest : List ℕ) → Halfway old between b n all p (first ++ rest)
     → AppendsPart between new (woven b n p first) → AppendsPart old new all
 first_fails old between new b n p all first rest so_far h =
     rw (so_far.split, woven_parts b n p first rest)
     (part_second old between new so_far.taken _ so_far.appends (part_first between new (woven b n p first) _ h))
 
--- it was
+-- the first of the remaining data was taken as a whole
 pub first_taken : (old between new : Option (List ℕ)) (b n p end : ℕ) (all first rest : List ℕ) → Halfway old between b n all p (first ++ rest)
     → Appends between new (woven b n p first) → end ≡ p + length first → Halfway old new b n all end rest
 first_taken old between new b n p end all first rest so_far h is =
@@ -217,39 +217,39 @@ first_taken old between new b n p end all first rest so_far h is =
       appends = Appends-trans old between new so_far.taken put so_far.appends h;
     }
 
--- what is left wasn't taken as a whole
+-- the remaining data was not taken as a whole
 pub rest_fails : (old between new : Option (List ℕ)) (b n p : ℕ) (all left : List ℕ) → Halfway old between b n all p left → AppendsPart between new (woven b n p left) → AppendsPart old new all
 rest_fails old between new b n p all left so_far h = rw so_far.split (part_second old between new so_far.taken (woven b n p left) so_far.appends h)
 
--- it was
+-- the remaining data was taken as a whole
 pub rest_taken : (old between new : Option (List ℕ)) (b n p : ℕ) (all left : List ℕ) → Halfway old between b n all p left → Appends between new (woven b n p left) → Appends old new all
 rest_taken old between new b n p all left so_far h = rw so_far.split (Appends-trans old between new so_far.taken (woven b n p left) so_far.appends h)
 
--- the next of some parts wasn't taken as a whole
+-- the next part was not taken as a whole
 pub next_fails : {X : Type 0} (old between new : Option (List ℕ)) (h : X → List ℕ) (b n p : ℕ) (xs : List X) (i : ℕ) (d : X) (all : List ℕ) → i < length xs
     → Halfway old between b n all p (flat_map h (drop i xs)) → AppendsPart between new (woven b n p (h (get_or xs i d))) → AppendsPart old new all
 next_fails old between new h b n p xs i d all lt so_far part =
     first_fails old between new b n p all (h (get_or xs i d)) (flat_map h (drop (i + 1) xs)) (rw (part_here h xs i d lt) at so_far) part
 
--- it was
+-- the next part was taken as a whole
 pub next_taken : {X : Type 0} (old between new : Option (List ℕ)) (h : X → List ℕ) (b n p : ℕ) (xs : List X) (i : ℕ) (d : X) (all : List ℕ) → i < length xs
     → Halfway old between b n all p (flat_map h (drop i xs)) → Appends between new (woven b n p (h (get_or xs i d)))
     → Halfway old new b n all (p + length (h (get_or xs i d))) (flat_map h (drop (i + 1) xs))
 next_taken old between new h b n p xs i d all lt so_far put =
     first_taken old between new b n p (p + length (h (get_or xs i d))) all (h (get_or xs i d)) (flat_map h (drop (i + 1) xs)) (rw (part_here h xs i d lt) at so_far) put refl
 
--- none is left
+-- no data remains, so all of it was taken
 pub all_taken : (old now : Option (List ℕ)) (b n p : ℕ) (all left : List ℕ) → Halfway old now b n all p left → length left ≡ 0 → Appends old now all
 all_taken old now b n p all left h none = rw (woven_done b n p h.taken left all h.split none) h.appends
 
 -- ---- the parts of an image in turn
 
--- the image, by its parts
+-- the image, in terms of its parts
 by_parts : (b n : ℕ) (ts : List (List ℕ)) (sb bm dir : List ℕ) → IsBlockSize b → IsFront b n (map length ts) sb bm dir → image b ts ≡ woven b n 0 (flat_map (filled b) (sb ∷ bm ∷ dir ∷ ts))
 unfolding parts
 by_parts b n ts sb bm dir size front = rw (front.count, front.superblock_is, front.block_map_is, front.directory_is) (image_woven b ts size front.fits)
 
--- the parts are no longer than the file
+-- the padded parts are no longer than the file
 pub few_bytes : (b n : ℕ) (ts : List (List ℕ)) (sb bm dir : List ℕ) → IsBlockSize b → IsFront b n (map length ts) sb bm dir
     → length (filled b sb) + (length (filled b bm) + (length (filled b dir) + length (flat_map (filled b) ts))) < 2 ^ 32
 unfolding parts
@@ -272,16 +272,16 @@ few_bytes b n ts sb bm dir size front =
       length-append (filled b dir) (flat_map (filled b) ts),
     )
 
--- how far the writer came, before its first part and behind each part in front of the streams
+-- what was written before the first part, and after each part before the streams
 pub before_front : (old : Option (List ℕ)) (b n : ℕ) (ts : List (List ℕ)) (sb bm dir : List ℕ) → IsBlockSize b → IsFront b n (map length ts) sb bm dir
     → Halfway old old b n (image b ts) 0 (flat_map (filled b) (sb ∷ bm ∷ dir ∷ ts))
 before_front old b n ts sb bm dir size front = rw (by_parts b n ts sb bm dir size front) (at_start old b n 0 (flat_map (filled b) (sb ∷ bm ∷ dir ∷ ts)))
 
--- a text in one part is that part
+-- a stream in one part has the contents of that part
 pub joined_one : (part : Bor (List ℕ)) → joined (part ∷ []) ≡ part.now
 joined_one part = append-nil part.now
 
--- one part more
+-- one more part
 joined_more : (ps : List (Bor (List ℕ))) (i : ℕ) (d : Bor (List ℕ)) → i < length ps → joined (take (i + 1) ps) ≡ joined (take i ps) ++ (get_or ps i d).now
 joined_more ps i d lt =
     ap joined (take_more ps i d lt) ∙ flat_map-append (λ part. part.now) (take i ps) (get_or ps i d ∷ []) ∙ ap (λ (x : List ℕ). joined (take i ps) ++ x) (joined_one (get_or ps i d))
@@ -289,7 +289,7 @@ joined_more ps i d lt =
 pub length_more : (ps : List (Bor (List ℕ))) (i : ℕ) (d : Bor (List ℕ)) → i < length ps → length (joined (take (i + 1) ps)) ≡ length (joined (take i ps)) + length (get_or ps i d).now
 length_more ps i d lt = ap length (joined_more ps i d lt) ∙ length-append (joined (take i ps)) (get_or ps i d).now
 
--- all parts are as long as some of them, or longer
+-- the first parts together are no longer than all the parts
 pub length_all : (ps : List (Bor (List ℕ))) (i : ℕ) → length (joined (take i ps)) ≤ length (joined ps)
 length_all ps i =
     let split : joined ps ≡ joined (take i ps) ++ joined (drop i ps) = ap joined (sym (take-append-drop i ps)) ∙ flat_map-append (λ part. part.now) (take i ps) (drop i ps) in

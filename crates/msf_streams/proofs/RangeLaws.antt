@@ -1,4 +1,4 @@
--- Lists made from ranges of numbers, and places counted in blocks.
+-- Lists that are made from ranges of numbers, and offsets that are counted in blocks.
 use Rattle.std.proofs.Common.{◌≡◌, ℕ, zero, suc, ◌+◌, ◌*◌, ◌/◌, ◌%◌, ◌<◌, ◌≤◌, List, ◌∷◌, ◌++◌, length, map, take, drop, get_or, refl, sym, ap, ◌∙◌, arith}
 use Rattle.std.specs.List.{range_with_len}
 use Rattle.std.proofs.lemmas.Nat.{div-mul-add, mod-mul-add, div-add-mod', mod_below}
@@ -16,7 +16,7 @@ map-range_with_len_parts {X = X} f first (suc m) n =
     let next : first + suc m ≡ (first + 1) + m = omega arith in
     rw (one, next) (ap (λ (xs : List X). f first ∷ xs) (map-range_with_len_parts f (first + 1) m n))
 
--- two functions give the same list over two ranges, if they agree place by place
+-- two functions give the same list over two ranges if they agree at each position
 pub map-same_ranges : {X : Type 0} (f g : ℕ → X) (a b n : ℕ) → ((i : ℕ) → i < n → f (a + i) ≡ g (b + i)) → map f (range_with_len a n) ≡ map g (range_with_len b n)
 map-same_ranges f g a b zero same = refl
 map-same_ranges {X = X} f g a b (suc n) same =
@@ -30,13 +30,13 @@ map-same_ranges {X = X} f g a b (suc n) same =
     rw (at_a, at_b) (same (i + 1) (omega arith))) in
     rw (here, others) refl
 
--- the bytes of a file at the places from one on are a part of it
+-- the bytes of a file at consecutive offsets are a part of the file
 pub part_by_places : (file : List ℕ) (start n : ℕ) → start + n ≤ length file → map (λ i. get_or file (start + i) 0) (range_with_len 0 n) ≡ take n (drop start file)
 part_by_places file start n fits =
     sym (fill_by_all (λ i. get_or file (start + i) 0) (take n (drop start file)) n 0 (omega (arith, length-take n (drop start file), length-drop start file))
     (λ i below. get_or-take n (drop start file) i 0 below ∙ get_or-drop start file i 0))
 
--- a place that is one block further lies in the next block, at the same place there
+-- an offset that is one block further is in the next block, at the same offset there
 pub next_block : (block_size place : ℕ) → 0 < block_size → ((place + block_size) / block_size ≡ place / block_size + 1) × ((place + block_size) % block_size ≡ place % block_size)
 next_block block_size place some =
     let q = place / block_size in
@@ -45,7 +45,7 @@ next_block block_size place some =
     let whole : place + block_size ≡ (q + 1) * block_size + r = omega (arith, div-add-mod' place block_size) in
     (rw whole (div-mul-add (q + 1) block_size r below), rw whole (mod-mul-add (q + 1) block_size r below))
 
--- a place below the size of a block lies in the first one
+-- an offset below the size of a block is in the first block
 pub first_block : (block_size place : ℕ) → place < block_size → (place / block_size ≡ 0) × (place % block_size ≡ place)
 first_block block_size place below =
     let whole : place ≡ 0 * block_size + place = omega arith in

@@ -1,4 +1,4 @@
--- A text with map blocks between its bytes is the image that it is laid out as.
+-- The data with map blocks between its bytes is the same list of bytes as the blocks one after the other.
 use Rattle.std.proofs.Common.{◌≡◌, ◌⊎◌, ℕ, zero, suc, ◌+◌, ◌-◌, ◌*◌, ◌/◌, ◌%◌, ◌<◌, ◌≤◌, nat_lt, nat_le, nat_eq, true, false, List, [], ◌∷◌, ◌++◌, length, map, take, drop, refl, sym, ap, ◌∙◌, arith, append_assoc, inl, inr}
 use Rattle.std.specs.List.{range_with_len, flat_map}
 use Rattle.std.proofs.lemmas.Nat.{div-mul-add, mod-mul-add, div-add-mod', mod_below, mul-le}
@@ -14,9 +14,9 @@ use Rattle.msf_streams.specs.Woven.{stretch, is_behind_maps, maps_of, maps_befor
 use Rattle.msf_streams.proofs.ImageLaws.{length_parts}
 use Rattle.msf_streams.proofs.BackLaws.{all_blocks, image_is}
 
--- ---- texts, byte by byte
+-- ---- the data, byte by byte
 
--- a text in two parts
+-- data in two parts
 pub woven_parts : (b n p : ℕ) (front back : List ℕ) → woven b n p (front ++ back) ≡ woven b n p front ++ woven b n (p + length front) back
 unfolding woven
 woven_parts b n p [] back = let e : p + 0 ≡ p = omega arith in rw e refl
@@ -24,7 +24,7 @@ woven_parts b n p (byte ∷ front) back =
     let e : p + suc (length front) ≡ p + 1 + length front = omega arith in
     rw (e, woven_parts b n (p + 1) front back) (sym (append_assoc (maps_before b n p) (byte ∷ woven b n (p + 1) front) _))
 
--- ---- how far it is to the next map blocks
+-- ---- the distance to the next map blocks
 
 room_early : (b p : ℕ) → p < b → room b p ≡ b - p
 unfolding room
@@ -43,14 +43,14 @@ behind_late b p le more =
     let f : nat_eq ((p - b) % stretch b) 0 ≡ false = grind (arith, nat_tests) in
     rw (e, f) refl
 
--- some byte stands at every place
+-- from every position there is at least one byte before the next map blocks
 pub some_room : (b p : ℕ) → 0 < stretch b → 0 < room b p
 some_room b p long = elim (cases_lt p b) [
   | inl lt ↦ omega (arith, room_early b p lt)
   | inr le ↦ omega (arith, room_late b p le, mod_below (p - b) (stretch b) long)
 ]
 
--- one byte further, as long as more than one stands beside another
+-- one byte further, if there are at least two bytes before the next map blocks
 next_room : (b p : ℕ) → 0 < b → 0 < stretch b → 1 < room b p → (is_behind_maps b (p + 1) ≡ false) × (room b (p + 1) + 1 ≡ room b p)
 next_room b p some long more = elim (cases_lt p b) [
   | inl lt ↦
@@ -65,7 +65,7 @@ next_room b p some long more = elim (cases_lt p b) [
       (behind_late b (p + 1) (omega arith) (omega (arith, m)), omega (arith, room_late b p le, room_late b (p + 1) (omega arith), m))
 ]
 
--- bytes in front of which no map blocks stand
+-- bytes without map blocks before or between them
 plain : (b n p : ℕ) (text : List ℕ) → 0 < b → 0 < stretch b → is_behind_maps b p ≡ false → length text ≤ room b p → woven b n p text ≡ text
 unfolding woven maps_before
 plain b n p [] some long first fits = refl
@@ -74,7 +74,7 @@ plain b n p (byte ∷ next ∷ text) some long first fits =
     let step = next_room b p some long (omega arith) in
     rw first (ap (λ (t : List ℕ). byte ∷ t) (plain b n (p + 1) (next ∷ text) some long step.0 (omega (arith, step.1))))
 
--- the bytes up to the next map blocks stand side by side
+-- the bytes up to the next map blocks are next to each other
 pub woven_run : (b n p : ℕ) (text : List ℕ) → 0 < b → 0 < stretch b → 0 < length text → length text ≤ room b p → woven b n p text ≡ maps_before b n p ++ text
 unfolding woven
 woven_run b n p [] some long more fits = absurd (omega arith)
@@ -85,7 +85,7 @@ woven_run b n p (byte ∷ next ∷ text) some long more fits =
 
 -- ---- block by block
 
--- where the block behind the j-th begins: behind the two map blocks of an interval, or right behind the j-th
+-- where the data block after the j-th begins: after the two map blocks of an interval, or right after the j-th data block
 abbrev Begins : ℕ → ℕ → ℕ → Type 0
 Begins b n j =
     ((nth_block b (j + 1) ≡ nth_block b j + 1) × (maps_before b n ((j + 1) * b) ≡ []))
@@ -97,7 +97,7 @@ row_place q r b c = omega arith
 row_fits : (r b c : ℕ) → r < c → r * b + b ≤ b * c
 row_fits r b c lt = omega (arith, mul-le (r + 1) b c b (omega arith) (omega arith))
 
--- the place of a block of the text among the stretches
+-- the position of a block of the data within its stretch
 pub block_place : (b q r : ℕ) → 3 < b → r < b - 2 → let x = (q * (b - 2) + r + 1) * b - b in
     (b ≤ (q * (b - 2) + r + 1) * b) × (x % stretch b ≡ r * b) × (x / stretch b ≡ q) × (r * b + b ≤ stretch b)
 unfolding stretch
@@ -134,7 +134,7 @@ begins_at b n j big =
     let split : j ≡ j / (b - 2) * (b - 2) + j % (b - 2) = omega (arith, div-add-mod' j (b - 2)) in
     rw split (begins_in b n (j / (b - 2)) (j % (b - 2)) big (mod_below j (b - 2) (omega arith)))
 
--- a block of the text has room in its stretch
+-- a block of the data ends within its stretch
 block_room : (b j : ℕ) → 3 < b → b ≤ room b ((j + 1) * b)
 block_room b j big =
     let q = j / (b - 2) in
@@ -147,15 +147,15 @@ pub some_stretch : (b : ℕ) → 3 < b → 0 < stretch b
 unfolding stretch
 some_stretch b big = omega (arith, mul-le 1 1 b (b - 2) (omega arith) (omega arith))
 
--- a stretch is long
+-- a stretch has at least four blocks
 pub stretch_long : (b : ℕ) → IsBlockSize b → 4 * b ≤ b * (b - 2)
 stretch_long b size = let facts = size_facts b size in omega (arith, mul-le b 4 b (b - 2) (omega arith) (omega (arith, facts)))
 
--- one block more
+-- one more block
 blocks_more : (f : ℕ → List ℕ) (k : ℕ) → flat_map f (range_with_len 0 (k + 1)) ≡ flat_map f (range_with_len 0 k) ++ f k
 blocks_more f k = ap (flat_map f) (range_more k) ∙ flat_map-append f (range_with_len 0 k) (k ∷ []) ∙ rw (append-nil (f k)) refl
 
--- three blocks more
+-- three more blocks
 three_more : (f : ℕ → List ℕ) (k : ℕ) → flat_map f (range_with_len 0 (k + 3 + 1)) ≡ flat_map f (range_with_len 0 (k + 1)) ++ ((f (k + 1) ++ f (k + 2)) ++ f (k + 3))
 three_more f k =
     let two : k + 3 ≡ k + 2 + 1 = omega arith in
@@ -177,7 +177,7 @@ take_more m n text =
     let front : take m (take (m + n) text) ≡ take m text = take-take m (m + n) text (omega arith) in
     sym (take-append-drop m (take (m + n) text)) ∙ rw (front, drop-take m n text) refl
 
--- the next block of the text
+-- the next block of the data
 one_more : (b n j : ℕ) (text : List ℕ) → 3 < b → (j + 2) * b ≤ length text
     → woven b n 0 (take ((j + 2) * b) text) ≡ woven b n 0 (take ((j + 1) * b) text) ++ (maps_before b n ((j + 1) * b) ++ text_block b text (j + 1))
 unfolding text_block
@@ -199,7 +199,7 @@ first_block b n text big long =
     let run = plain b n 0 (take b text) (omega arith) (some_stretch b big) (behind_early b 0 (omega arith)) (omega (arith, room_early b 0 (omega arith), length-take b text)) in
     rw (zeroth, one, here, none, run) (append-nil (take b text))
 
--- the blocks up to a data block are the text so far
+-- the blocks of the file up to a data block are the data so far, with its map blocks
 woven_blocks : (b n j : ℕ) (text : List ℕ) → 3 < b → (j + 1) * b ≤ length text
     → flat_map (image_block b n text) (range_with_len 0 (nth_block b j + 1)) ≡ woven b n 0 (take ((j + 1) * b) text)
 woven_blocks b n zero text big long = first_block b n text big (omega arith)
@@ -222,14 +222,14 @@ woven_blocks b n (suc j) text big long =
     ] in
     rw one (rw two next)
 
--- a text is laid out as it is woven
+-- the file that is made block by block is the data with map blocks between its bytes
 pub woven_is : (b m : ℕ) (text : List ℕ) → 3 < b → length text ≡ (m + 1) * b → laid_out b (nth_block b m + 1) text ≡ woven b (nth_block b m + 1) 0 text
 unfolding laid_out
 woven_is b m text big long = woven_blocks b (nth_block b m + 1) m text big (omega (arith, long)) ∙ rw (← long) (ap (woven b (nth_block b m + 1) 0) (take_all (length text) text (omega arith)))
 
 -- ---- the image
 
--- an image is woven of its parts
+-- an image is the data of its parts, with map blocks between the bytes
 pub image_woven : (b : ℕ) (ts : List (List ℕ)) → IsBlockSize b → Fits b (map length ts)
     → image b ts ≡ woven b (image_blocks b (map length ts)) 0 (flat_map (filled b) (parts b ts))
 image_woven b ts size fits =

@@ -1,4 +1,4 @@
--- The image of some texts: the file that is written to hold them as its streams ("The MSF File Format").
+-- The image of streams: the file that is written to hold just these streams ("The MSF File Format").
 use Rattle.std.specs.Prelude.{ℕ, ◌≡◌, ◌+◌, ◌-◌, ◌*◌, ◌/◌, ◌%◌, ◌^◌, ◌<◌, ◌≤◌, ◌==◌, if◌then◌else◌, All, List, [], ◌∷◌, ◌++◌, length, map, take, drop, min, slice_get}
 use Rattle.std.specs.List.{range_with_len, flat_map, sum_by}
 use Rattle.byte_fields.specs.Number.{words}
@@ -12,39 +12,39 @@ use lib.ListN.{replicate}
 
 -- ---- blocks
 
--- a part of the file, filled with zeros to whole blocks
+-- a part of the file, padded with zeros to whole blocks
 unfoldable pub filled : ℕ → List ℕ → List ℕ
 filled block_size part = part ++ replicate (blocks_for block_size (length part) * block_size - length part) 0
 
--- the j-th block of a text
+-- block j of the data, from 0
 unfoldable pub text_block : ℕ → List ℕ → ℕ → List ℕ
 text_block block_size text j = take block_size (drop (j * block_size) text)
 
--- the byte of a free block map that speaks of the eight blocks from one on: the bits of blocks below the count, from the lowest on, are 0, and all others 1
+-- the byte of map 1 for the eight blocks that begin with block `first`: from the lowest bit on, the bits of blocks of the file are 0, and all others are 1
 abbrev pub map_byte : ℕ → ℕ → ℕ
 map_byte num_blocks first = 256 - 2 ^ min 8 (num_blocks - first)
 
--- a map block: map 1, the second block of its interval, speaks of as many blocks as its bytes have bits; map 2 is 0xFF throughout
+-- the map block that is block k of the file: the second block of an interval belongs to map 1 and has a bit for each of many blocks; the third belongs to map 2, and all its bytes are 0xFF
 unfoldable pub map_block : ℕ → ℕ → ℕ → List ℕ
 map_block block_size num_blocks k =
     if k % block_size == 1 then map (λ i. map_byte num_blocks (8 * (block_size * (k / block_size) + i))) (range_with_len 0 block_size) else replicate block_size 255
 
--- the k-th block of a file: a map block, or the next block of the text
+-- block k of the file: a map block, or the next block of the data
 unfoldable pub image_block : ℕ → ℕ → List ℕ → ℕ → List ℕ
 image_block block_size num_blocks text k =
     if is_map_block block_size k then map_block block_size num_blocks k else text_block block_size text (length (data_blocks block_size k))
 
--- a text, laid over the blocks of a file that aren't map blocks, in rising order
+-- the file whose data blocks hold this data in rising order, with the map blocks between them
 unfoldable pub laid_out : ℕ → ℕ → List ℕ → List ℕ
 laid_out block_size num_blocks text = flat_map (image_block block_size num_blocks text) (range_with_len 0 num_blocks)
 
 -- ---- the parts of a file, by the sizes of its streams
 
--- how many blocks these streams take, each by itself
+-- how many blocks these streams take together, each padded to whole blocks
 abbrev pub blocks_of_all : ℕ → List ℕ → ℕ
 blocks_of_all block_size sizes = sum_by (blocks_for block_size) sizes
 
--- how long the directory is: the count, the sizes, and the number of each block of a stream, four bytes each
+-- the length of the directory in bytes: the number of streams, their sizes, and the number of each block of a stream take four bytes each
 abbrev pub directory_len : ℕ → List ℕ → ℕ
 directory_len block_size sizes = 4 * (1 + length sizes + blocks_of_all block_size sizes)
 
@@ -52,75 +52,75 @@ directory_len block_size sizes = 4 * (1 + length sizes + blocks_of_all block_siz
 abbrev pub directory_count : ℕ → List ℕ → ℕ
 directory_count block_size sizes = blocks_for block_size (directory_len block_size sizes)
 
--- how many blocks hold data: the superblock, the block map, the directory, the streams
+-- how many blocks hold data: those of the superblock, the block map, the directory and the streams
 abbrev pub data_count : ℕ → List ℕ → ℕ
 data_count block_size sizes = 2 + directory_count block_size sizes + blocks_of_all block_size sizes
 
--- how many blocks the file has: one more than the number of the last that holds data
+-- how many blocks the file has: one more than the number of the last block that holds data
 abbrev pub image_blocks : ℕ → List ℕ → ℕ
 image_blocks block_size sizes = nth_block block_size (data_count block_size sizes - 1) + 1
 
--- how long the file is
+-- the length of the file in bytes
 abbrev pub image_length : ℕ → List ℕ → ℕ
 image_length block_size sizes = image_blocks block_size sizes * block_size
 
--- the numbers of so many data blocks, from the first-th on
+-- the numbers of `count` data blocks, beginning with data block `first`
 abbrev pub numbers : ℕ → ℕ → ℕ → List ℕ
 numbers block_size first count = map (nth_block block_size) (range_with_len first count)
 
--- the numbers of a superblock, behind the magic
+-- the six numbers of a superblock, which follow the magic
 abbrev pub superblock_numbers : ℕ → List ℕ → List ℕ
 superblock_numbers block_size sizes =
     block_size ∷ 1 ∷ image_blocks block_size sizes ∷ directory_len block_size sizes ∷ 0 ∷ nth_block block_size 1 ∷ []
 
--- the superblock, whose free block map is map 1 and whose block map stands in the first data block behind it
+-- the superblock: map 1 is the free block map in force, and the next data block is the block map
 unfoldable pub superblock_part : ℕ → List ℕ → List ℕ
 superblock_part block_size sizes = magic ++ words (superblock_numbers block_size sizes)
 
--- the block map: the numbers of the directory's blocks
+-- the block map: the numbers of the blocks of the directory
 unfoldable pub block_map_part : ℕ → List ℕ → List ℕ
 block_map_part block_size sizes = words (numbers block_size 2 (directory_count block_size sizes))
 
--- the directory: the count of streams, their sizes, and the numbers of their blocks, which follow one another
+-- the directory: the number of streams, their sizes, and the numbers of their blocks; the streams are in consecutive data blocks
 unfoldable pub directory_part : ℕ → List ℕ → List ℕ
 directory_part block_size sizes =
     words (length sizes ∷ sizes ++ numbers block_size (2 + directory_count block_size sizes) (blocks_of_all block_size sizes))
 
--- the parts of the file that holds these texts
+-- the parts of the file that holds these streams
 unfoldable pub parts : ℕ → List (List ℕ) → List (List ℕ)
 parts block_size texts =
     let sizes = map length texts in
     superblock_part block_size sizes ∷ block_map_part block_size sizes ∷ directory_part block_size sizes ∷ texts
 
--- the image of these texts
+-- the image of these streams
 unfoldable pub image : ℕ → List (List ℕ) → List ℕ
 image block_size texts = laid_out block_size (image_blocks block_size (map length texts)) (flat_map (filled block_size) (parts block_size texts))
 
--- the texts that are lent to a writer
+-- the contents of the streams that are lent to a writer
 abbrev pub texts_of : List (Bor (List ℕ)) → List (List ℕ)
 texts_of streams = map (λ s. s.now) streams
 
--- the text that is lent in parts, one after the other
+-- the contents of a stream that is lent in parts: the parts one after the other
 abbrev pub joined : List (Bor (List ℕ)) → List ℕ
 joined parts = flat_map (λ part. part.now) parts
 
--- the texts that are lent to a writer, each in parts
+-- the contents of the streams that are lent to a writer in parts
 abbrev pub joined_of : List (Bor (List (Bor (List ℕ)))) → List (List ℕ)
 joined_of streams = map (λ parts. joined parts.now) streams
 
--- streams of these sizes fit in a file: one block lists the blocks of the directory, and the file's length is a number of four bytes
+-- streams of these sizes fit in a file: one block can list the blocks of the directory, and the length of the file is a number of four bytes
 pub record Fits (block_size : ℕ) (sizes : List ℕ) : Type 0 where
   pub directory : directory_count block_size sizes ≤ block_size / 4
   pub short : image_length block_size sizes < 2 ^ 32
 
--- these texts can be written: each length is a number of four bytes, and streams of these sizes fit in a file
+-- streams with these contents can be written: each length is a number of four bytes, and streams of these sizes fit in a file
 pub record Writable (block_size : ℕ) (texts : List (List ℕ)) : Type 0 where
   pub short : All (λ text. length text < 2 ^ 32) texts
   pub fits : Fits block_size (map length texts)
 
--- ---- what is read back
+-- ---- reading back
 
--- the superblock's values in an image
+-- the values of the superblock of an image
 abbrev pub image_fields : ℕ → List ℕ → Fields
 image_fields block_size sizes = record {
   block_size = block_size;
@@ -131,7 +131,7 @@ image_fields block_size sizes = record {
   block_map_addr = nth_block block_size 1;
 }
 
--- streams of these sizes, one after the other in the data blocks from the first-th on
+-- streams of these sizes in consecutive data blocks, beginning with data block `first`
 unfoldable pub listed_from : ℕ → ℕ → List ℕ → List Listed
 listed_from block_size first [] = []
 listed_from block_size first (size ∷ sizes) =
@@ -144,7 +144,7 @@ image_layout block_size sizes = record {
   streams = listed_from block_size (2 + directory_count block_size sizes) sizes;
 }
 
--- the image of these texts has a layout whose streams are just these texts
+-- the image of these streams has a layout whose streams are just these streams
 pub record ReadsBack (block_size : ℕ) (texts : List (List ℕ)) : Type 0 where
   pub long : length (image block_size texts) ≡ image_length block_size (map length texts)
   pub layout : HasLayout (image block_size texts) (image_layout block_size (map length texts))

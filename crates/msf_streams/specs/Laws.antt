@@ -7,17 +7,17 @@ use Rattle.msf_blocks.specs.Layout.{LayoutView}
 use Rattle.msf_streams.specs.Image.{Fits, ReadsBack, blocks_of_all, image}
 use Rattle.msf_streams.specs.Stream.{stream_text}
 
--- the image of texts that fit reads back
+-- the image of streams that fit reads back
 abbrev pub ImagesReadBack : Type 0
 ImagesReadBack = (block_size : ℕ) (texts : List (List ℕ)) → IsBlockSize block_size → Fits block_size (map length texts) → ReadsBack block_size texts
 
--- five streams fit in a file if one block can list the blocks of their directory, and they have at most 1 GiB and 128 KiB together, each filled to whole blocks
+-- five streams fit in a file if one block can list the blocks of their directory, and they have at most 1 GiB and 128 KiB together, each padded to whole blocks
 abbrev pub FewBlocksFit : Type 0
 FewBlocksFit =
     (block_size : ℕ) (sizes : List ℕ) → IsBlockSize block_size → length sizes ≡ 5 → 16 * (6 + blocks_of_all block_size sizes) ≤ block_size * block_size
     → blocks_of_all block_size sizes * block_size ≤ 1073872896 → Fits block_size sizes
 
--- the image of texts of bytes is made of bytes
+-- the image of streams of bytes is made of bytes
 abbrev pub ImagesAreBytes : Type 0
 ImagesAreBytes = (block_size : ℕ) (texts : List (List ℕ)) → IsBlockSize block_size → AllByRecursion AreBytes texts → AreBytes (image block_size texts)
 

@@ -1,40 +1,40 @@
--- The bytes of a stream, which lie in its blocks ("The MSF File Format", "The Stream Directory").
+-- The contents of a stream, which are in its blocks ("The MSF File Format", "The Stream Directory").
 use Rattle.std.specs.Prelude.{ℕ, ◌+◌, ◌-◌, ◌*◌, ◌/◌, ◌%◌, min, List, [], ◌∷◌, Option, Some, None, map, take, drop, get_or, slice_index, slice_get, option_map}
 use Rattle.std.specs.List.{range_with_len}
 use Rattle.msf_blocks.specs.Directory.{Listed, bytes_of}
 use Rattle.msf_blocks.specs.Layout.{LayoutView}
 
--- the text of this size in blocks of these numbers: its byte i stands in the (i / block size)-th of them
+-- the contents of a stream of this size in blocks with these numbers: byte i is in block i / block_size of the list
 unfoldable pub gathered : List ℕ → ℕ → List ℕ → ℕ → List ℕ
 gathered file block_size blocks size =
     map (λ i. slice_index file (get_or blocks (i / block_size) 0 * block_size + i % block_size)) (range_with_len 0 size)
 
--- the text of a stream
+-- the contents of a stream
 abbrev pub text_of : List ℕ → ℕ → Listed → List ℕ
 text_of file block_size stream = gathered file block_size stream.blocks (bytes_of stream.size)
 
--- the text of the s-th stream, if there is one
+-- the contents of the s-th stream, from 0; None where s is not a stream
 abbrev pub stream_text : List ℕ → LayoutView → ℕ → Option (List ℕ)
 stream_text file layout s = option_map (text_of file layout.superblock.block_size) (slice_get layout.streams s)
 
--- a text in pieces, as it lies in the file: of each block in turn its bytes, of the last one as many as are left
+-- the contents of a stream in pieces: one piece for each block, and the last piece is what remains of the stream's size
 unfoldable pub pieces : List ℕ → ℕ → List ℕ → ℕ → List (List ℕ)
 pieces file block_size [] size = []
 pieces file block_size (block ∷ blocks) size = take (min block_size size) (drop (block * block_size) file) ∷ pieces file block_size blocks (size - block_size)
 
--- the pieces of the s-th stream, if there is one
+-- the pieces of the s-th stream, from 0; None where s is not a stream
 abbrev pub stream_pieces : List ℕ → LayoutView → ℕ → Option (List (List ℕ))
 stream_pieces file layout s =
     option_map (λ stream. pieces file layout.superblock.block_size stream.blocks (bytes_of stream.size)) (slice_get layout.streams s)
 
--- ---- the pieces while they are read
+-- ---- the pieces during iteration
 
--- the blocks of a stream, none where there is no stream
+-- the blocks of a stream, and no blocks where there is no stream
 abbrev pub blocks_in : Option Listed → List ℕ
 blocks_in None = []
 blocks_in (Some stream) = stream.blocks
 
--- the pieces of the s-th stream from this position of its list on, where so many of its bytes are left
+-- the pieces of the s-th stream from this position of its list on, where `left` of its bytes are still to come
 abbrev pub pieces_from : List ℕ → LayoutView → ℕ → ℕ → ℕ → List (List ℕ)
 pieces_from file layout s position left =
     pieces file layout.superblock.block_size (drop position (blocks_in (slice_get layout.streams s))) left

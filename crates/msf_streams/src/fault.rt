@@ -1,4 +1,4 @@
-//! Why a stream isn't gathered, and why an image isn't written.
+//! Why a stream is not gathered, and why an image is not written.
 
 ghost use Rattle.std.specs.Prelude.{◌≡◌};
 ghost use Rattle.msf_streams.specs.declared.fault.StreamFault.TheVariants.{Memory};
@@ -8,13 +8,13 @@ use msf_blocks::NotTaken;
 use std::alloc::{AllocError, AllocFailed};
 use thiserror::Error;
 
-/// Why a stream isn't gathered, in the order in which it is found out.
+/// Why a stream is not gathered. The faults are checked in the order of the variants.
 #[derive(Clone, Copy, Debug, PartialEq, Eq, Error)]
 pub enum StreamFault {
-    /// The container has no stream of this number.
+    /// The container has no stream with this number, from 0.
     #[error("11 NoStream {0}")]
     NoStream(u32),
-    /// The memory for the text was refused. The stream is there.
+    /// Out of memory for the contents of the stream. The stream exists.
     #[error("33 Memory")]
     Memory,
 }
@@ -35,17 +35,17 @@ impl<T: Drop> From<AllocFailed<T>> for StreamFault {
     }
 }
 
-/// Why an image isn't written.
+/// Why an image is not written. The faults are checked in the order of the variants.
 #[derive(Clone, Copy, Debug, PartialEq, Eq, Error)]
 pub enum WriteFault {
-    /// A stream, the directory or the file would pass the size that the format gives it. Nothing
-    /// was written.
+    /// A stream, the directory or the file would be longer than the format allows. Nothing was
+    /// written.
     #[error("35 Image")]
     Image,
-    /// The memory for the directory was refused. Nothing was written.
+    /// Out of memory for the block map, the directory or one block. Nothing was written.
     #[error("33 Memory")]
     Memory,
-    /// The sink took the first bytes of the image, and not all of them.
+    /// The sink took only the first bytes of the image, or none.
     #[error("36 Write")]
     Write,
 }

@@ -1,4 +1,4 @@
-//! What stands in front of the streams of an image: its superblock, its block map, its directory.
+//! The parts of an image before its streams: the superblock, the block map and the directory.
 
 ghost use Rattle.std.specs.Prelude.{◌≡◌, ◌≤◌, ◌<◌, ◌+◌, ◌*◌, ◌^◌, [], ◌∷◌, ◌++◌, length, IfOk, OnOk};
 ghost use Rattle.byte_fields.specs.Number.{words, four_bytes};
@@ -11,7 +11,7 @@ use crate::image::{directory_blocks, directory_len, stream_blocks};
 use msf_blocks::{MAGIC, nth_block};
 use std::alloc::{AllocError, Allocator};
 
-/// The superblock with these numbers, in the order of its fields.
+/// The superblock with these six numbers, which are in the order of its fields.
 #[tactic(auto, unfolding(byte_fields::specs::Number::four_bytes))]
 fn superblock_of(numbers: [u32; 6]) -> [u8; 56]
     ensures { result ≡ magic ++ words numbers }
@@ -27,7 +27,7 @@ fn superblock_of(numbers: [u32; 6]) -> [u8; 56]
     bytes
 }
 
-/// Appends a number of four bytes.
+/// Appends one number in four bytes.
 #[tactic(auto, unfolding(byte_fields::specs::Number::four_bytes))]
 fn push_number<A: Allocator>(text: &mut Vec<u8, A>, number: u32) -> Result<(), AllocError>
     ensures { OnOk result (text.new.items ≡ text.old.items ++ four_bytes number) }
@@ -35,7 +35,7 @@ fn push_number<A: Allocator>(text: &mut Vec<u8, A>, number: u32) -> Result<(), A
     text.extend_from_slice(&number.to_le_bytes())
 }
 
-/// Appends numbers of four bytes each.
+/// Appends numbers in four bytes each.
 #[tactic(auto, using(crate::proofs::FrontLaws::words_more))]
 fn push_numbers<A: Allocator>(text: &mut Vec<u8, A>, numbers: &[u32]) -> Result<(), AllocError>
     ensures { OnOk result (text.new.items ≡ text.old.items ++ words numbers.now) }
@@ -46,7 +46,7 @@ fn push_numbers<A: Allocator>(text: &mut Vec<u8, A>, numbers: &[u32]) -> Result<
     Ok(())
 }
 
-/// Appends the numbers of so many data blocks, from the `first`-th on.
+/// Appends the numbers of `count` data blocks, beginning with data block `first`.
 #[tactic(auto, using(crate::proofs::FrontLaws::small_number))]
 fn push_blocks<A: Allocator>(
     text: &mut Vec<u8, A>,
@@ -64,7 +64,7 @@ fn push_blocks<A: Allocator>(
     Ok(())
 }
 
-/// The block map: the numbers of the directory's blocks, so many.
+/// The block map: the numbers of the blocks of the directory. There are `directory_blocks` of them.
 fn block_map_of<A: Allocator>(
     alloc: A,
     block_size: u32,
@@ -79,7 +79,8 @@ fn block_map_of<A: Allocator>(
     Ok(text)
 }
 
-/// The directory of streams of these sizes, which take so many blocks behind its own.
+/// The directory of streams of these sizes. The streams have `blocks` blocks together, and these
+/// follow the blocks of the directory.
 fn directory_of<A: Allocator>(
     alloc: A,
     block_size: u32,
@@ -99,7 +100,7 @@ fn directory_of<A: Allocator>(
     Ok(text)
 }
 
-/// What a writer needs beside the streams: the parts in front of them, and room for a map block.
+/// What a writer needs besides the streams: the parts before them, and a page for a map block.
 #[derive(Drop)]
 pub(crate) struct Front<A: Allocator> {
     pub(crate) superblock: [u8; 56],
@@ -109,7 +110,8 @@ pub(crate) struct Front<A: Allocator> {
 }
 
 impl<A: Allocator + Copy> Front<A> {
-    /// The front of the image of streams of these sizes, in a file of so many blocks.
+    /// Makes the front of an image: the streams have these sizes, and the file has `num_blocks`
+    /// blocks.
     pub(crate) fn new(
         alloc: A,
         block_size: u32,

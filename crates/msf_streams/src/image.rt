@@ -1,4 +1,4 @@
-//! How long the image of some texts is.
+//! The length of an image.
 
 ghost use Rattle.std.specs.Prelude.{◌≡◌, ◌+◌, ◌*◌, ◌/◌, ◌^◌, ◌<◌, ◌≤◌, IfSome, IfNone};
 ghost use Rattle.msf_blocks.specs.BlockNumber.{IsBlockSize, blocks_for};
@@ -6,7 +6,7 @@ ghost use Rattle.msf_streams.specs.Image.{Fits, blocks_of_all, directory_count, 
 
 use msf_blocks::nth_block;
 
-/// How many blocks the streams of these sizes take.
+/// How many blocks streams of these sizes take together.
 #[tactic(auto, using(msf_blocks::proofs::SizeLaws::some_bytes, msf_blocks::proofs::SizeLaws::ceil_is, msf_blocks::proofs::SizeLaws::few_for))]
 pub(crate) fn stream_blocks(block_size: u32, sizes: &[u32; 5]) -> u32
     requires { IsBlockSize block_size }
@@ -20,8 +20,8 @@ pub(crate) fn stream_blocks(block_size: u32, sizes: &[u32; 5]) -> u32
     blocks
 }
 
-/// How long the directory is that lists five streams of so many blocks: the count, the sizes, and
-/// a number for each block.
+/// The length in bytes of a directory of five streams that have `blocks` blocks together. It has
+/// the number of streams, their sizes, and the number of each block.
 pub(crate) fn directory_len(blocks: u32) -> u32
     requires { blocks ≤ 5 * 2 ^ 23 }
     ensures { result ≡ 4 * (6 + blocks) }
@@ -29,7 +29,7 @@ pub(crate) fn directory_len(blocks: u32) -> u32
     4 * (6 + blocks)
 }
 
-/// How many blocks the directory takes that lists streams of so many blocks.
+/// How many blocks the directory takes, for five streams that have `blocks` blocks together.
 #[tactic(auto, using(msf_blocks::proofs::SizeLaws::some_bytes, msf_blocks::proofs::SizeLaws::ceil_is))]
 pub(crate) fn directory_blocks(block_size: u32, blocks: u32) -> u32
     requires size { IsBlockSize block_size }
@@ -39,8 +39,8 @@ pub(crate) fn directory_blocks(block_size: u32, blocks: u32) -> u32
     directory_len(blocks).div_ceil(block_size)
 }
 
-/// How many blocks the image has that holds streams of these sizes, where the block map has room
-/// for the directory.
+/// How many blocks the image of streams of these sizes has. `None` where the block map is too short
+/// to list the blocks of the directory.
 pub(crate) fn image_blocks(block_size: u32, sizes: &[u32; 5]) -> Option<u32>
     requires { IsBlockSize block_size }
     ensures some { IfSome result (λ n. (directory_count block_size sizes.now ≤ block_size / 4)
@@ -55,10 +55,12 @@ pub(crate) fn image_blocks(block_size: u32, sizes: &[u32; 5]) -> Option<u32>
     Some(nth_block(block_size, 1 + directory + blocks) + 1)
 }
 
-/// How long the image is that holds streams of these sizes in blocks of this size, in bytes.
+/// The length in bytes of the image of streams of these sizes.
 ///
-/// `None` where the directory needs more than `block_size / 4` blocks, which one block of the block
-/// map can't list, or where the file would pass 4,294,967,295 bytes. It does not allocate.
+/// `sizes` and `block_size` are in bytes. `None` where the directory needs more than
+/// `block_size / 4` blocks, since the block map is one block and cannot list more. `None` also
+/// where the image would be longer than 4,294,967,295 bytes. This does not allocate. ("The MSF File
+/// Format".)
 pub fn image_len(sizes: &[u32; 5], block_size: u32) -> Option<u32>
     requires { IsBlockSize block_size }
     ensures some { IfSome result (λ n. Fits block_size sizes.now × (n ≡ image_length block_size sizes.now)) }

@@ -1,53 +1,50 @@
-//! The bytes of a container's streams, read from it and written into a new one.
+//! The bytes of streams, read from a container and written into a new one.
 //!
-//! A stream lies in blocks of the file, in the order in which the stream directory lists them;
-//! they need not stand side by side. All of them are full but the last, in which the stream may
-//! end early. The bytes of a stream, put together, are called its *text*.
+//! The bytes of a stream are in blocks of the file. The stream directory lists these blocks in
+//! order, and they need not be next to each other. Each block is full of the stream's bytes, but
+//! the stream may end within the last one. All the bytes of a stream, in order, are its *contents*.
 //!
-//! - [`pieces`] lends the text from the file, one piece for each block. It takes no memory, so a
-//!   file of any size can be gone through.
-//! - [`gather`] copies the text into one buffer, for what has to be read across the ends of
-//!   blocks. It reserves the whole size at once, before it copies anything.
-//! - [`write_image`] writes the *image* of five texts: the container that has them as its
-//!   streams. [`image_len`] knows beforehand how long it is, and whether it can be.
-//! - [`laws`] says what holds of every image and of every stream: the image of texts that fit
-//!   reads back as these texts, and both are made of bytes where what they come from is.
+//! - [`pieces`] lends the contents from the file, in one piece for each block. It does not
+//!   allocate, so it reads streams of any size.
+//! - [`gather`] copies the contents into one buffer, for a reader of fields that cross from one
+//!   block into the next. It allocates the whole buffer before it copies anything.
+//! - [`write_image`] writes the *image* of five streams: the container that holds just these
+//!   streams. [`write_parts`] does the same for streams that are lent in several parts.
+//! - [`image_len`] computes the length of an image, or says that there is none.
+//! - [`laws`] says what holds of every image and of every stream. For example, an image reads back
+//!   as the streams that it was made of.
 //!
-//! Streams are numbered from 0, as the directory lists them. A nil stream and a stream of length
-//! 0 have an empty text and no pieces; only a number that no stream has is refused. Streams may
-//! share blocks: each is read as it is listed.
+//! Streams are numbered from 0, in the order of the directory. A nil stream and a stream of length
+//! 0 have empty contents and no pieces. Only a number that is not the number of a stream is
+//! refused. Streams may share blocks: each stream is read as it is listed.
 //!
-//! The calls that read take the file beside its `Layout`, which was checked once for all: every
-//! number in it names a block of the file, so that none is checked again here.
+//! The functions that read take the file and its checked `Layout`. Every block number in a
+//! `Layout` is the number of a block of the file, so nothing here checks it again.
 //!
-//! An image has no freedom: its parts are the superblock, the block map, the directory and the
-//! texts, each filled with zeros to whole blocks, and they lie one after the other in the blocks
-//! that aren't map blocks. So the same texts always give the same bytes.
+//! There is one image for given streams and a given block size. It has the superblock, the block
+//! map, the directory and the contents of the streams, each padded with zeros to whole blocks. They
+//! fill the blocks that are not map blocks, one after the other.
 //!
-//! What is proved: the pieces are those of the listed blocks, in order and as many as the text
-//! needs, and joined they are the text, whose byte `i` stands in block `i / block size` of the
-//! stream's list (`gathered` of `specs/Stream`); a stream that is there is refused only for want
-//! of memory. What is written is the image (`image` of `specs/Image`), or, where the sink breaks,
-//! the first bytes of it; texts are refused exactly where no image of them can be.
+//! What is proved: there is one piece for each listed block, in order, and the joined pieces are
+//! the contents. Byte `i` of the contents is in block `i / block size` of the stream's list
+//! (`gathered` of `specs/Stream`). A stream of the layout is refused only when out of memory. The
+//! bytes that are written are the image (`image` of `specs/Image`), or its first bytes where the
+//! sink breaks. Streams are refused exactly where they have no image.
 //! ("The MSF File Format", "The Stream Directory".)
 #![tactic(auto)]
 
-mod by_block;
 mod fault;
 mod front;
 mod image;
 pub mod laws;
-mod lent;
 mod map_block;
 mod put;
+mod streams;
 #[cfg(test)]
 mod tests;
-mod whole;
 mod write;
 
-pub use by_block::pieces;
 pub use fault::{StreamFault, WriteFault};
 pub use image::image_len;
-pub use lent::Pieces;
-pub use whole::gather;
+pub use streams::{StreamPieces as Pieces, gather, pieces};
 pub use write::{write_image, write_parts};

@@ -1,11 +1,11 @@
-//! The blocks of the free block maps of an image.
+//! The blocks of the two free block maps of an image.
 
 ghost use Rattle.std.specs.Prelude.{◌≡◌, ◌+◌, ◌*◌, length};
 ghost use Rattle.msf_blocks.specs.BlockNumber.{IsBlockSize};
 ghost use Rattle.msf_streams.specs.Image.{map_byte, map_block};
 
-/// The byte of map 1 that speaks of eight blocks, from `first` on: the bits of those that the
-/// file has are 0.
+/// The byte of map 1 for the eight blocks that begin with block `first`. The bits of blocks of the
+/// file are 0, and the others are 1.
 fn map_byte(num_blocks: u64, first: u64) -> u8
     ensures { result ≡ map_byte num_blocks first }
 {
@@ -13,7 +13,7 @@ fn map_byte(num_blocks: u64, first: u64) -> u8
     (256 - (1u32 << in_file)) as u8
 }
 
-/// Fills a page with map block `k` of a file of so many blocks.
+/// Fills `page` with the map block that is block `k` of a file of `num_blocks` blocks.
 #[tactic(auto, using(msf_blocks::proofs::SizeLaws::some_bytes), unfolding(crate::specs::Image::map_block))]
 pub(crate) fn fill_map(block_size: u32, num_blocks: u32, k: u32, page: &mut [u8])
     requires size { IsBlockSize block_size }

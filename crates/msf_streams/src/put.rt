@@ -1,8 +1,9 @@
-//! The parts of an image, put into a sink with the map blocks between their bytes.
+//! Puts the parts of an image into a sink, with the map blocks between their bytes.
 //!
-//! The bytes of all parts, each filled to whole blocks, are one text; a *position* counts its
-//! bytes. Two map blocks stand in front of the first byte of each stretch of that text. They are
-//! put right before that byte, so that none stands behind the last one.
+//! Each part is padded with zeros to whole blocks. The parts one after the other are the *data* of
+//! the image, and a *position* is an offset in the data, in bytes. The data is cut into stretches,
+//! and two map blocks come before the first byte of each stretch. They are put right before that
+//! byte, so no map blocks come after the last byte of the data.
 
 ghost use Rattle.std.specs.Prelude.{◌≡◌, ◌<◌, ◌≤◌, ◌^◌, ◌+◌, ◌*◌, ◌-◌, true, length, take, IfOk, OnOk, OnErr};
 ghost use Rattle.std.specs.List.{flat_map};
@@ -15,7 +16,8 @@ ghost use Rattle.msf_streams.specs.Woven.{stretch, maps_of, maps_before, woven, 
 use crate::map_block::fill_map;
 use msf_blocks::{NotTaken, Sink, put_all};
 
-/// How many bytes of the text stand between the map blocks of one interval and those of the next.
+/// The length of a stretch: how many bytes of data are between the map blocks of one interval and
+/// the map blocks of the next.
 #[tactic(auto, using(msf_blocks::proofs::SizeLaws::big_enough, crate::proofs::WovenLaws::stretch_long), unfolding(crate::specs::Woven::stretch))]
 fn stretch(block_size: u32) -> usize
     requires { IsBlockSize block_size }
@@ -25,7 +27,7 @@ fn stretch(block_size: u32) -> usize
     block_size as usize * (block_size as usize - 2)
 }
 
-/// How many bytes stand side by side in the file from a position on, up to the next map blocks.
+/// How many bytes of data follow a position in the file before the next map blocks.
 #[tactic(auto, using(msf_blocks::proofs::SizeLaws::some_bytes), unfolding(crate::specs::Woven::room))]
 fn room(block_size: u32, position: usize) -> usize
     requires { IsBlockSize block_size }
@@ -62,7 +64,7 @@ fn put_maps<W: Sink>(
     put_all(out, page)
 }
 
-/// Puts the map blocks that stand right in front of a position, if any do.
+/// Puts the map blocks that come right before a position, if there are any.
 #[tactic(auto, using(msf_blocks::proofs::SizeLaws::some_bytes), unfolding(crate::specs::Woven::maps_before))]
 fn put_maps_before<W: Sink>(
     block_size: u32,
@@ -88,8 +90,8 @@ fn put_maps_before<W: Sink>(
     put_maps(block_size, num_blocks, interval as u32, page, out)
 }
 
-/// Puts the first bytes of some that begin at a position, up to the next map blocks, and the map
-/// blocks in front of them. It answers how many they were.
+/// Puts the map blocks before a position, if there are any, then the first of `bytes`, up to the
+/// next map blocks. Returns how many of `bytes` were put.
 fn put_run<W: Sink>(
     block_size: u32,
     num_blocks: u32,
@@ -114,7 +116,7 @@ fn put_run<W: Sink>(
     Ok(count)
 }
 
-/// Puts bytes that begin at a position, with the map blocks in front of them.
+/// Puts the bytes that begin at a position, with the map blocks before and between them.
 fn put_bytes<W: Sink>(
     block_size: u32,
     num_blocks: u32,
@@ -144,7 +146,7 @@ fn put_bytes<W: Sink>(
 /// As many zeros as the largest block has bytes.
 const ZEROS: [u8; 32768] = [0; 32768];
 
-/// So many zeros.
+/// `count` zeros.
 fn zeros(count: usize) -> &'static [u8]
     requires { count ≤ 32768 }
     ensures { result.now ≡ replicate count 0 }
@@ -152,7 +154,7 @@ fn zeros(count: usize) -> &'static [u8]
     &ZEROS[..count]
 }
 
-/// How many bytes are wanting to the end of the last block of so many.
+/// How many zeros pad `len` bytes to whole blocks.
 #[tactic(auto, using(crate::proofs::PutLaws::fill_count, msf_blocks::proofs::SizeLaws::some_bytes))]
 fn fill_len(block_size: u32, len: usize) -> usize
     requires size { IsBlockSize block_size }
@@ -164,8 +166,8 @@ fn fill_len(block_size: u32, len: usize) -> usize
     (size - len % size) % size
 }
 
-/// Puts bytes that are lent in parts and begin at a position, with the map blocks in front of
-/// them. It answers the position after them.
+/// Puts the bytes of several parts, the first of which begins at a position, with the map blocks
+/// before and between them. Returns the position after the last byte.
 fn put_joined<W: Sink>(
     block_size: u32,
     num_blocks: u32,
@@ -191,8 +193,8 @@ fn put_joined<W: Sink>(
     Ok(position)
 }
 
-/// Puts a stream that is lent in parts and begins at a position, filled with zeros to whole
-/// blocks. It answers the position after it.
+/// Puts a stream that is lent in parts and begins at a position, padded with zeros to whole blocks.
+/// Returns the position after the padding.
 fn put_stream<W: Sink>(
     block_size: u32,
     num_blocks: u32,
@@ -216,8 +218,8 @@ fn put_stream<W: Sink>(
     Ok(end + fill.len())
 }
 
-/// Puts a part of the file that begins at a position, filled with zeros to whole blocks. It
-/// answers the position after it.
+/// Puts a part of the image that begins at a position, padded with zeros to whole blocks. Returns
+/// the position after the padding.
 #[tactic(auto, using(crate::proofs::PutLaws::joined_one))]
 pub(crate) fn put_part<W: Sink>(
     block_size: u32,
@@ -239,7 +241,7 @@ pub(crate) fn put_part<W: Sink>(
     put_stream(block_size, num_blocks, position, &[part], page, out)
 }
 
-/// Puts streams, the first of which begins at a position, one after the other.
+/// Puts streams one after the other. The first one begins at a position.
 pub(crate) fn put_streams<W: Sink>(
     block_size: u32,
     num_blocks: u32,

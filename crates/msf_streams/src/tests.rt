@@ -1,4 +1,4 @@
-//! What no clause says: the texts of the faults, that calls succeed, and refused growth.
+//! What no clause says: the texts of the faults, that calls succeed, and out of memory.
 
 ghost use Rattle.std.specs.Prelude.{◌+◌, ◌≤◌, length};
 
@@ -28,7 +28,7 @@ fn put(file: &mut [u8], offset: usize, number: u32)
 /// | 3 | 10 | 6 |
 /// | 4 | 4,096 | 6 |
 ///
-/// The bytes from block 5 on count up to 250, again and again.
+/// The bytes from block 5 on count from 0 to 250, again and again.
 fn container() -> [u8; 40960] {
     let mut file = [0u8; 40960];
     file[..32].copy_from_slice(b"Microsoft C/C++ MSF 7.00\x0d\x0a\x1aDS\0\0\0");

@@ -1,4 +1,4 @@
-//! An image, written into a sink.
+//! Writes an image into a sink.
 
 ghost use Rattle.std.specs.Prelude.{◌≡◌, ◌≢◌, ◌⊎◌, ◌<◌, ◌≤◌, ◌^◌, true, All, length, map, IfSome, IfNone, IfErr, OnOk, OnErr};
 ghost use Rattle.std.specs.Io.KnownBytes.{Appends};
@@ -13,7 +13,7 @@ use crate::put::{put_part, put_streams};
 use msf_blocks::{NotTaken, Sink};
 use std::alloc::Allocator;
 
-/// The length of a text, where it is a number of four bytes.
+/// The length of some bytes. `None` where it does not fit in a `u32`.
 fn size_of(text: &[u8]) -> Option<u32>
     ensures some { IfSome result (λ size. size ≡ length text.now) }
     ensures none { IfNone result (2 ^ 32 ≤ length text.now) }
@@ -21,7 +21,7 @@ fn size_of(text: &[u8]) -> Option<u32>
     u32::try_from(text.len()).ok()
 }
 
-/// The length of a text that is lent in parts, where it is a number of four bytes.
+/// The length of a stream that is lent in parts. `None` where it does not fit in a `u32`.
 fn joined_len(parts: &[&[u8]]) -> Option<u32>
     ensures some { IfSome result (λ size. (size ≡ length (joined parts.now)) × (length (joined parts.now) < 2 ^ 32)) }
     ensures none { IfNone result (2 ^ 32 ≤ length (joined parts.now)) }
@@ -33,7 +33,7 @@ fn joined_len(parts: &[&[u8]]) -> Option<u32>
     Some(len)
 }
 
-/// The sizes of streams that are lent in parts, where each is a number of four bytes.
+/// The sizes of streams that are lent in parts, in bytes. `None` where one does not fit in a `u32`.
 fn sizes_of(streams: &[&[&[u8]]; 5]) -> Option<[u32; 5]>
     ensures some { IfSome result (λ sizes. sizes ≡ map length (joined_of streams.now)) }
     ensures short { IfSome result (λ _. All (λ text. length text < 2 ^ 32) (joined_of streams.now)) }
@@ -46,7 +46,7 @@ fn sizes_of(streams: &[&[&[u8]]; 5]) -> Option<[u32; 5]>
     Some(sizes)
 }
 
-/// Puts the image of these streams into a sink, with the front that was made for it.
+/// Puts the image of these streams into a sink. `front` is the front of this image.
 fn put_image<W: Sink, A: Allocator>(
     block_size: u32,
     num_blocks: u32,
@@ -68,18 +68,21 @@ fn put_image<W: Sink, A: Allocator>(
     put_streams(block_size, num_blocks, end, streams, page, out)
 }
 
-/// Writes the image of some texts into a sink: a container whose five streams they are, each the
-/// concatenation of its parts.
+/// Writes the image of five streams into a sink: the container that holds just these streams. Each
+/// stream is the concatenation of its parts.
 ///
-/// Its blocks have `block_size` bytes, one of the seven sizes. After the superblock come the block
-/// map, the directory and the streams in turn, each from the front of a block on; the free block
-/// maps say that every block of the file is in use. The parts go out as they are lent, in slices as
-/// long as the map blocks between them allow.
+/// A block has `block_size` bytes: 512, 1,024, 2,048, 4,096, 8,192, 16,384 or 32,768. After the
+/// superblock come the block map, the directory and the streams in turn. Each of them begins at the
+/// front of a block. The free block maps say that every block of the file is in use.
 ///
-/// `Image` is answered exactly where a text has more than 4,294,967,295 bytes or [`image_len`] of
-/// their lengths is `None`. Every check is made before any memory is asked for, and all memory is
-/// there before the first byte is written: only `Write` leaves anything in the sink, and then the
-/// first bytes of the image. The memory is that of the block map, the directory and one block.
+/// The faults, in the order in which they are checked:
+///
+/// 1. `Image`: a stream has more than 4,294,967,295 bytes, or [`image_len`] of the sizes is `None`.
+/// 2. `Memory`: out of memory for the block map, the directory or one block. Nothing else is
+///    allocated, and all of it is allocated before the first byte is written.
+/// 3. `Write`: the sink broke. It took only the first bytes of the image, or none.
+///
+/// The sink is unchanged after `Image` and `Memory`. ("The MSF File Format".)
 #[tactic(auto, using(msf_blocks::proofs::SizeLaws::some_bytes, crate::proofs::ImageLaws::count_back))]
 pub fn write_parts<W: Sink, A: Allocator + Copy>(
     alloc: A,
@@ -90,9 +93,9 @@ pub fn write_parts<W: Sink, A: Allocator + Copy>(
     requires { IsBlockSize block_size }
     ensures value { OnOk result (Appends (W.taken out.old) (W.taken out.new) (image block_size (joined_of streams.now))) }
     ensures image { IfErr result (λ fault. fault ≡ WriteFault.Image → Writable block_size (joined_of streams.now) → ⊥) }
-    // Nothing that can be written is refused, but for out of memory or by the sink.
+    // Streams that fit are refused only when out of memory, or when the sink breaks.
     ensures found { Writable block_size (joined_of streams.now) → IfErr result (λ fault. (fault ≡ WriteFault.Memory) ⊎ (fault ≡ WriteFault.Write)) }
-    // Only what can be written gets another answer than `Image`.
+    // The result is `Image`, or the streams fit.
     ensures writable { (result ≡ Err WriteFault.Image) ⊎ Writable block_size (joined_of streams.now) }
     ensures write { IfErr result (λ fault. fault ≡ WriteFault.Write → (W.is_broken out.new ≡ true)
         × AppendsPart (W.taken out.old) (W.taken out.new) (image block_size (joined_of streams.now))) }
@@ -110,7 +113,9 @@ pub fn write_parts<W: Sink, A: Allocator + Copy>(
     Ok(())
 }
 
-/// Writes the image of these texts into a sink, as [`write_parts`] does of texts in one part each.
+/// Writes the image of five streams into a sink, each of which is lent in one part.
+///
+/// Everything else is as in [`write_parts`], which this calls. ("The MSF File Format".)
 #[tactic(auto, using(crate::proofs::PutLaws::joined_one))]
 pub fn write_image<W: Sink, A: Allocator + Copy>(
     alloc: A,

@@ -1,4 +1,4 @@
--- A stream that is spelled as the format says fails no check.
+-- A stream that is written as the format says fails no check.
 use Rattle.std.proofs.Common.{◌≡◌, ℕ, zero, suc, ◌+◌, ◌*◌, ◌<◌, ◌≤◌, ◌^◌, Bool, true, cond, Option, Some, None, List, [], ◌∷◌, ◌++◌, length, drop, get_or, refl, sym, ap, ◌∙◌, arith, append_assoc}
 use Rattle.std.specs.Prelude.{All, ◌==◌, nat_le}
 use Rattle.std.specs.List.{flat_map}
@@ -20,15 +20,15 @@ use Rattle.pdb_info.proofs.PartsLaws.{word_at}
 use Rattle.pdb_info.proofs.ValueLaws.{deleted_offset_is, pairs_offset_is, size_offset_is, buffer_is}
 use Rattle.pdb_info.proofs.InfoLaws.{pairs_answer}
 
--- what stands for a pair where there is none
+-- a placeholder for a position where there is no pair
 no_pair : Pair
 no_pair = record { name_offset = 0; stream = 0 }
 
--- the test of an order that holds
+-- if m is at most n, the test of this is true
 le_true : (m n : ℕ) → m ≤ n → nat_le m n ≡ true
 le_true m n le = grind (arith, nat_tests)
 
--- the test of two numbers that are the same
+-- if two numbers are the same, the test of this is true
 eq_true : (m n : ℕ) → m ≡ n → (m == n) ≡ true
 eq_true m n is = grind (arith, nat_tests)
 
@@ -36,17 +36,17 @@ eq_true m n is = grind (arith, nat_tests)
 held_more : (b : Bool) (fault : InfoFault) (others : Option InfoFault) → b ≡ true → others ≡ None → cond b others (Some fault) ≡ None
 held_more b fault others is held = rw is held
 
--- ---- the numbers of a map, by their places
+-- ---- the numbers of a map, by their positions
 
--- all numbers, with the parts behind the present words taken together
+-- all numbers, with the parts after the present words taken together
 regroup : (a b c d e : List ℕ) → (((a ++ b) ++ c) ++ d) ++ e ≡ a ++ (b ++ (c ++ (d ++ e)))
 regroup a b c d e = simp append_assoc
 
--- the present words stand behind three numbers
+-- the present words come after three numbers
 present_number : (size capacity count : ℕ) (present back : List ℕ) (k : ℕ) → k < length present → get_or ((size ∷ capacity ∷ count ∷ present) ++ back) (3 + k) 0 ≡ get_or present k 0
 present_number size capacity count present back k lt = let e : 3 + k ≡ suc (suc (suc k)) = omega arith in rw e (get_or_append_left present back 0 k lt)
 
--- the k-th pair has its name offset at twice k
+-- the offset of the name of the k-th pair is at position 2 * k
 pair_number : (pairs : List Pair) (back : List ℕ) (k : ℕ) → k < length pairs → get_or (flat_map pair_numbers pairs ++ back) (2 * k) 0 ≡ (get_or pairs k no_pair).name_offset
 pair_number [] back k lt = absurd (omega arith)
 pair_number (pair ∷ pairs) back zero lt = refl
@@ -57,16 +57,16 @@ length-pairs : (pairs : List Pair) → length (flat_map pair_numbers pairs) ≡ 
 length-pairs [] = refl
 length-pairs (pair ∷ pairs) = omega (arith, length-pairs pairs)
 
--- ---- a stream and the numbers that it spells behind its buffer
+-- ---- a stream, and the numbers after its buffer
 
--- behind the header stand the length of the buffer, the buffer, these numbers and the rest
+-- after the header come the length of the buffer, the buffer, these numbers and the rest
 record Spells (stream buffer numbers rest : List ℕ) : Type 0 where
   count : number_at 4 stream 28 ≡ length buffer
   behind : drop 32 stream ≡ buffer ++ (words numbers ++ rest)
   text : drop (32 + length buffer) stream ≡ words numbers ++ rest
   long : length stream ≡ 32 + length buffer + 4 * length numbers + length rest
 
--- that is what the parts of a stream say
+-- a stream with these parts has these numbers
 spells : (stream buffer numbers rest : List ℕ) → 28 ≤ length stream → length buffer < 2 ^ 32 → drop 28 stream ≡ four_bytes (length buffer) ++ buffer ++ words numbers ++ rest → Spells stream buffer numbers rest
 spells stream buffer numbers rest header short parts =
     let n = length buffer in
@@ -82,7 +82,7 @@ spells stream buffer numbers rest header short parts =
       long = omega (arith, length-drop 28 stream, ap length all, length-append (four_bytes n) tail, length-four_bytes n, length-append buffer (words numbers ++ rest), length-append (words numbers) rest, length-words numbers);
     }
 
--- the k-th number behind the buffer
+-- the k-th number after the buffer
 number_is : (stream buffer numbers rest : List ℕ) (k : ℕ) → Spells stream buffer numbers rest → All (λ number. number < 2 ^ 32) numbers → k < length numbers → number_at 4 stream (size_offset stream + 4 * k) ≡ get_or numbers k 0
 number_is stream buffer numbers rest k h small lt =
     let o : size_offset stream ≡ 32 + length buffer = omega (arith, size_offset_is stream, h.count) in
@@ -90,7 +90,7 @@ number_is stream buffer numbers rest k h small lt =
 
 -- ---- a stream with names
 
--- where the parts of the map stand, and what their numbers are
+-- the offsets of the parts of the map, and their numbers
 record Stands (stream : List ℕ) (size : ℕ) (buffer present deleted : List ℕ) (pairs : List Pair) : Type 0 where
   header : 28 ≤ length stream
   buffer_len : number_at 4 stream 28 ≡ length buffer
@@ -103,13 +103,13 @@ record Stands (stream : List ℕ) (size : ℕ) (buffer present deleted : List �
   pair_there : (k : ℕ) → k < length pairs → number_at 4 stream (pair_offset stream k) ≡ (get_or pairs k no_pair).name_offset
   long : size_offset stream + 4 * (4 + length present + length deleted + 2 * length pairs) ≤ length stream
 
--- words that stand where the present words stand are the present words
+-- words at the offset of the present words are the present words
 present_is : (stream present : List ℕ) → present_words stream ≡ length present → ((k : ℕ) → k < length present → get_or present k 0 ≡ number_at 4 stream (present_offset stream + 4 * k)) → present_of stream ≡ present
 unfolding present_of
 present_is stream present len each =
     rw len (sym (fill_by_all (λ (k : ℕ). number_at 4 stream (present_offset stream + 4 * k)) present (length present) 0 refl each))
 
--- where a stream has names, its parts stand where the checks look for them
+-- if a stream has names, its parts are at the offsets where the checks read them
 stands : (stream : List ℕ) (names : List NamedStream) (features : List ℕ) → 28 ≤ length stream → (h : HasNames stream names features) → Stands stream h.size h.buffer h.present h.deleted h.pairs
 stands stream names features header h =
     let o = size_offset stream in
@@ -156,7 +156,7 @@ stands stream names features header h =
 
 -- ---- the checks
 
--- the checks in front of the pairs hold
+-- the checks before the pairs hold
 map_holds : (stream : List ℕ) (size : ℕ) (buffer present deleted : List ℕ) (pairs : List Pair) → Stands stream size buffer present deleted pairs → present_count present ≡ size → first_failing (map_checks stream) ≡ None
 unfolding map_checks
 map_holds stream size buffer present deleted pairs h counted =
@@ -190,7 +190,7 @@ header_holds : (stream : List ℕ) → 28 ≤ length stream → first_failing (h
 unfolding header_checks
 header_holds stream long = held_more _ _ _ (le_true 28 (length stream) long) refl
 
--- a stream that is spelled as the format says fails no check
+-- a stream that is written as the format says fails no check
 pub info_holds : (stream : List ℕ) (info : InfoView) → HasInfo stream info → first_failing (info_checks stream) ≡ None
 info_holds stream info h =
     let n = h.names in

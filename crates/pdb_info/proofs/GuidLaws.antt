@@ -10,6 +10,6 @@ use Rattle.pdb_info.specs.Guid.{stored_guid}
 pub stored_is : (guid : List ℕ) → length guid ≡ 16 → stored_guid guid ≡ swap_fields guid
 stored_is guid long = ap stored_guid (fill_by_all (λ (k : ℕ). slice_index guid k) guid 16 0 long (λ k lt. refl))
 
--- stored twice, a GUID is as it was
+-- storing a GUID twice gives the same GUID
 pub stored_twice : (guid : List ℕ) → length guid ≡ 16 → stored_guid (swap_fields guid) ≡ guid
 stored_twice guid long = stored_is (swap_fields guid) refl ∙ swap_twice guid long

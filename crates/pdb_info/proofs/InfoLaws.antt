@@ -7,17 +7,17 @@ use Rattle.pdb_info.specs.Names.{map_checks, pair_checks, size_of}
 use Rattle.pdb_info.specs.Info.{info_checks}
 use Rattle.pdb_info.specs.declared.fault.InfoFault.{InfoFault}
 
--- a fault of the header is the stream's
+-- a fault of the header is the fault of the stream
 pub header_fault : (stream : List ℕ) (fault : InfoFault) → first_failing (header_checks stream) ≡ Some fault → first_failing (info_checks stream) ≡ Some fault
 unfolding info_checks
 header_fault stream fault e = first_failing-append_some (header_checks stream) _ fault e
 
--- behind a header without a fault, one of the map is the stream's
+-- after a header without a fault, a fault of the map is the fault of the stream
 pub map_fault : (stream : List ℕ) (fault : InfoFault) → first_failing (header_checks stream) ≡ None → first_failing (map_checks stream) ≡ Some fault → first_failing (info_checks stream) ≡ Some fault
 unfolding info_checks
 map_fault stream fault a e = first_failing-append_none (header_checks stream) _ a ∙ first_failing-append_some (map_checks stream) _ fault e
 
--- behind these, the stream is what its pairs are
+-- after these, the first fault of the stream is the first fault of its pairs
 pub pairs_answer : (stream : List ℕ) → first_failing (header_checks stream) ≡ None → first_failing (map_checks stream) ≡ None
     → first_failing (info_checks stream) ≡ first_failing (checks_below (size_of stream) (pair_checks stream))
 unfolding info_checks

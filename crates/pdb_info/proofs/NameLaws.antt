@@ -19,19 +19,19 @@ one_passes p [] k lt passes = absurd (omega arith)
 one_passes p (x ∷ xs) zero lt passes = rw passes refl
 one_passes p (x ∷ xs) (suc k) lt passes = rw (one_passes p xs k (omega arith) passes) (elim (p x) as (λ b. (b || true) ≡ true) [ true ↦ refl | false ↦ refl ])
 
--- at an offset past the buffer no name begins
+-- an offset past the end of the buffer has no name
 pub named_past : (buffer : List ℕ) (offset : ℕ) → length buffer < offset → is_named buffer offset ≡ false
 named_past buffer offset past = rw (drop_all offset buffer (omega arith)) refl
 
--- where no NUL follows, the name has no end
+-- if no NUL follows, the name has no end
 pub named_none : (buffer xs : List ℕ) (offset : ℕ) → xs ≡ drop offset buffer → Nowhere (Passes (is_byte 0) xs) 0 (length xs) → is_named buffer offset ≡ false
 named_none buffer xs offset is nowhere = ap (list_any (is_byte 0)) (sym is) ∙ none_passes (is_byte 0) xs (λ k lt. false_from_ne_true _ (nowhere k (omega arith) lt))
 
--- where a NUL follows, it has one
+-- if a NUL follows, the name has an end
 pub named_some : (buffer xs : List ℕ) (offset end : ℕ) → xs ≡ drop offset buffer → NoneBefore (Passes (is_byte 0) xs) 0 (length xs) end → Passes (is_byte 0) xs end → is_named buffer offset ≡ true
 named_some buffer xs offset end is before here = ap (list_any (is_byte 0)) (sym is) ∙ one_passes (is_byte 0) xs end before.high here
 
--- and the name is what stands in front of the first one
+-- the name is the bytes before the first NUL
 pub name_is : (buffer xs : List ℕ) (offset end : ℕ) → xs ≡ drop offset buffer → NoneBefore (Passes (is_byte 0) xs) 0 (length xs) end → Passes (is_byte 0) xs end
     → take end xs ≡ before_first (λ byte. byte == 0) (drop offset buffer)
 name_is buffer xs offset end is before here =

@@ -1,4 +1,4 @@
--- The numbers behind the buffer in one row: what was read is what the stream spells.
+-- All numbers after the buffer in one list: the numbers that were read are the bytes of the stream.
 use Rattle.std.proofs.Common.{◌≡◌, ℕ, zero, suc, ◌+◌, ◌*◌, ◌<◌, ◌≤◌, List, ◌∷◌, ◌++◌, length, map, take, drop, get_or, refl, sym, ap, ◌∙◌, arith}
 use Rattle.std.specs.List.{range_with_len, flat_map}
 use Rattle.std.proofs.lemmas.List.{map-append, drop-drop, get_or-drop, length-drop}
@@ -8,9 +8,9 @@ use Rattle.byte_fields.proofs.NumberLaws.{number_at-drop, words-word}
 use Rattle.pdb_info.specs.Names.{pair_numbers, numbers_at, pair_at, pair_offset, size_offset, size_of, present_words, present_of, deleted_offset, deleted_words, pairs_offset}
 use Rattle.pdb_info.proofs.BucketLaws.{range_split}
 
--- ---- rows of numbers
+-- ---- lists of numbers
 
--- the same numbers, counted from further on
+-- the same numbers, counted from a later offset
 shifted : (stream : List ℕ) (offset start : ℕ) (m c n : ℕ) → start ≡ offset + 4 * m
     → map (λ k. number_at 4 stream (offset + 4 * k)) (range_with_len (m + c) n) ≡ map (λ k. number_at 4 stream (start + 4 * k)) (range_with_len c n)
 shifted stream offset start m c zero is = refl
@@ -19,31 +19,31 @@ shifted stream offset start m c (suc n) is =
     let next : m + c + 1 ≡ m + (c + 1) = omega arith in
     rw (here, next) (ap (λ (xs : List ℕ). number_at 4 stream (start + 4 * c) ∷ xs) (shifted stream offset start m (c + 1) n is))
 
--- a row is its front and what stands behind that
+-- a list of numbers in two parts
 pub numbers_split : (stream : List ℕ) (offset start m n : ℕ) → start ≡ offset + 4 * m → numbers_at stream offset (m + n) ≡ numbers_at stream offset m ++ numbers_at stream start n
 numbers_split stream offset start m n is =
     let f = λ (k : ℕ). number_at 4 stream (offset + 4 * k) in
     let zeros : 0 + m ≡ m + 0 = omega arith in
     ap (map f) (range_split 0 m n) ∙ map-append f (range_with_len 0 m) (range_with_len (0 + m) n) ∙ rw zeros (ap (λ (xs : List ℕ). numbers_at stream offset m ++ xs) (shifted stream offset start m 0 n is))
 
--- the number at a position of what stands from an offset on
+-- the number at a position of the bytes from an offset on
 pub word_at : (stream : List ℕ) (offset k : ℕ) → word (drop offset stream) k ≡ number_at 4 stream (offset + 4 * k)
 unfolding word
 word_at stream offset k =
     sym (number_at-drop 4 (drop offset stream) (4 * k)) ∙ ap (λ (bytes : List ℕ). number_at 4 bytes 0) (drop-drop (4 * k) offset stream) ∙ number_at-drop 4 stream (offset + 4 * k)
 
--- a row is made of the numbers of what stands from its offset on
+-- a list of numbers is the numbers of the bytes from its offset on
 words_are : (stream : List ℕ) (offset a n : ℕ) → map (λ k. number_at 4 stream (offset + 4 * k)) (range_with_len a n) ≡ map (word (drop offset stream)) (range_with_len a n)
 words_are stream offset a zero = refl
 words_are stream offset a (suc n) = rw (word_at stream offset a, words_are stream offset (a + 1) n) refl
 
--- a row, spelled again
+-- a list of numbers, written as bytes, is the bytes that it was read from
 pub words_at : (stream : List ℕ) (offset n : ℕ) → ((i : ℕ) → get_or stream i 0 < 256) → offset + 4 * n ≤ length stream → words (numbers_at stream offset n) ≡ take (4 * n) (drop offset stream)
 words_at stream offset n bytes long =
     let small : (i : ℕ) → get_or (drop offset stream) i 0 < 256 = λ i. rw (get_or-drop offset stream i 0) (bytes (offset + i)) in
     ap words (words_are stream offset 0 n) ∙ words-word (drop offset stream) 0 n small (omega (arith, length-drop offset stream))
 
--- ---- the parts of the row
+-- ---- the parts of the list
 
 -- Size, Capacity and the present words
 pub front_is : (stream : List ℕ) → numbers_at stream (size_offset stream) (3 + present_words stream) ≡ size_of stream ∷ number_at 4 stream (size_offset stream + 4) ∷ length (present_of stream) ∷ present_of stream
@@ -55,7 +55,7 @@ front_is stream =
     let long : length (numbers_at stream (o + 12) n) ≡ n = length-map-range_with_len (λ (k : ℕ). number_at 4 stream (o + 12 + 4 * k)) 0 n in
     numbers_split stream o (o + 12) 3 n (omega arith) ∙ rw (here, long) refl
 
--- the deleted words, behind their number
+-- the deleted words, after their number
 pub deleted_is : (stream : List ℕ) → numbers_at stream (deleted_offset stream) (1 + deleted_words stream)
     ≡ length (numbers_at stream (deleted_offset stream + 4) (deleted_words stream)) ∷ numbers_at stream (deleted_offset stream + 4) (deleted_words stream)
 deleted_is stream =

@@ -1,4 +1,4 @@
--- That records within the limit of settings fit in a file.
+-- Records within the limit of the settings fit in a file.
 use Rattle.std.proofs.Common.{◌≡◌, ℕ, ◌+◌, ◌-◌, ◌*◌, ◌/◌, ◌<◌, ◌≤◌, min, List, [], ◌∷◌, refl, arith}
 use Rattle.std.specs.List.{sum_by}
 use Rattle.std.proofs.lemmas.List.Sums.{sum_by-cons}
@@ -10,14 +10,14 @@ use Rattle.msf_streams.specs.Image.{Fits, blocks_of_all}
 use Rattle.msf_streams.proofs.FitLaws.{few_hold, few_blocks_fit}
 use Rattle.pdb_info.specs.Settings.{SettingsView, AreSettings, RecordsFit, room_for_records}
 
--- how many blocks the streams take
+-- how many blocks the streams take together
 total_is : (b bytes : ℕ) → blocks_of_all b (0 ∷ 52 ∷ (56 + bytes) ∷ 0 ∷ 0 ∷ []) ≡ blocks_for b 0 + blocks_for b 52 + blocks_for b (56 + bytes) + blocks_for b 0 + blocks_for b 0
 total_is b bytes =
     let f : ℕ → ℕ = blocks_for b in
     let none : sum_by f [] ≡ 0 = refl in
     omega (arith, sum_by-cons f 0 (52 ∷ (56 + bytes) ∷ 0 ∷ 0 ∷ []), sum_by-cons f 52 ((56 + bytes) ∷ 0 ∷ 0 ∷ []), sum_by-cons f (56 + bytes) (0 ∷ 0 ∷ []), sum_by-cons f 0 (0 ∷ []), sum_by-cons f 0 [], none)
 
--- the most blocks that the records may take
+-- a directory can have at least 16,384 numbers, and the header of the records fits
 pub some_room : (b : ℕ) → IsBlockSize b → (16384 ≤ b * b / 16) × (56 ≤ (b * b / 16 - 7) * b)
 some_room b size =
     let facts = size_facts b size in

@@ -1,4 +1,4 @@
--- What was read of a stream that passed its checks is what it spells.
+-- The values that are read from a stream that passed its checks are the values of its bytes.
 use Rattle.std.proofs.Common.{◌≡◌, ◌≢◌, ℕ, zero, suc, ◌+◌, ◌-◌, ◌*◌, ◌/◌, ◌<◌, ◌≤◌, ◌^◌, Bool, true, false, None, List, [], ◌∷◌, ◌++◌, length, take, drop, get_or, refl, sym, ap, ◌∙◌, arith, append_assoc, inl, inr}
 use Rattle.std.specs.Prelude.{All, Contains, ◌==◌, ◌||◌, if◌then◌else◌}
 use Rattle.std.specs.List.{list_any}
@@ -15,14 +15,14 @@ use Rattle.pdb_info.proofs.BucketLaws.{map_counted}
 use Rattle.pdb_info.proofs.PairLaws.{pair_named}
 use Rattle.pdb_info.proofs.PartsLaws.{numbers_split, words_at, front_is, deleted_is, pairs_from}
 
--- ---- where the parts stand
+-- ---- the offsets of the parts
 
--- the number of deleted words stands behind Size, Capacity and the present words with their number
+-- the number of deleted words comes after Size, Capacity, the number of present words and the present words
 pub deleted_offset_is : (stream : List ℕ) → deleted_offset stream ≡ size_offset stream + 4 * (3 + present_words stream)
 unfolding deleted_offset
 deleted_offset_is stream = omega arith
 
--- the pairs stand behind the deleted words with their number
+-- the pairs come after the number of deleted words and the deleted words
 pub pairs_offset_is : (stream : List ℕ) → pairs_offset stream ≡ deleted_offset stream + 4 * (1 + deleted_words stream)
 unfolding pairs_offset
 pairs_offset_is stream = omega arith
@@ -32,21 +32,21 @@ pairs_end_is : (stream : List ℕ) → pairs_end stream ≡ pairs_offset stream 
 unfolding pairs_end
 pairs_end_is stream = omega arith
 
--- how many words close the pairs
+-- how many closing words there are
 abbrev closing_words : Bool → ℕ
 closing_words closed = if closed then 1 else 0
 
--- what closes the pairs is one number long, or none
+-- the closing word has the length of one number, or is absent
 closing_end : (closed : Bool) (end : ℕ) → (if closed then end + 4 else end) ≡ end + 4 * closing_words closed
 closing_end true end = refl
 closing_end false end = omega arith
 
--- the feature codes begin behind what closes the pairs
+-- the feature codes begin after the closing word, or after the pairs if it is absent
 features_offset_is : (stream : List ℕ) → features_offset stream ≡ pairs_end stream + 4 * closing_words (is_closed stream)
 unfolding features_offset
 features_offset_is stream = closing_end (is_closed stream) (pairs_end stream)
 
--- ---- the numbers in one row
+-- ---- the numbers in one list
 
 -- the deleted words
 abbrev deleted_of : List ℕ → List ℕ
@@ -60,11 +60,11 @@ closing_of stream = numbers_at stream (pairs_end stream) (closing_words (is_clos
 abbrev features_len : List ℕ → ℕ
 features_len stream = (length stream - features_offset stream) / 4
 
--- how many numbers stand behind the buffer, up to the feature codes
+-- how many numbers there are after the buffer, up to the feature codes
 abbrev front_len : List ℕ → ℕ
 front_len stream = 3 + present_words stream + (1 + deleted_words stream) + 2 * size_of stream + closing_words (is_closed stream)
 
--- Capacity, behind Size
+-- Capacity, which follows Size
 abbrev capacity_of : List ℕ → ℕ
 capacity_of stream = number_at 4 stream (size_offset stream + 4)
 
@@ -72,7 +72,7 @@ capacity_of stream = number_at 4 stream (size_offset stream + 4)
 abbrev all_numbers : List ℕ → List ℕ
 all_numbers stream = map_numbers (size_of stream) (capacity_of stream) (present_of stream) (deleted_of stream) (pairs_below stream (size_of stream)) (closing_of stream) (features_of stream)
 
--- all numbers that were read stand in one row behind the buffer
+-- all numbers that were read are one list of numbers after the buffer
 row_is : (stream : List ℕ) → all_numbers stream ≡ numbers_at stream (size_offset stream) (front_len stream + features_len stream)
 unfolding features_of
 row_is stream =
@@ -98,12 +98,12 @@ closed_word : (stream : List ℕ) → is_closed stream ≡ true → number_at 4 
 unfolding is_closed
 closed_word stream closed = grind (arith, nat_tests)
 
--- where nothing closes the pairs, the next number isn't 0
+-- if the closing word is absent, the next number is not 0
 open_word : (stream : List ℕ) → is_closed stream ≡ false → pairs_end stream + 4 ≤ length stream → number_at 4 stream (pairs_end stream) ≢ 0
 unfolding is_closed
 open_word stream opened long = grind (arith, nat_tests)
 
--- the closing word lies within the stream
+-- the closing word is within the stream
 closed_long : (stream : List ℕ) → is_closed stream ≡ true → pairs_end stream + 4 ≤ length stream
 unfolding is_closed
 closed_long stream closed = grind (arith, nat_tests)
@@ -117,12 +117,12 @@ features_inside stream inside =
       | false ↦ λ is. let e = rw is at offset in omega (arith, e)
     ] refl
 
--- a row whose first number isn't 0 can't be taken for one with a closing word
+-- a list of numbers that does not begin with 0 does not begin with a closing word
 unclosed : (stream : List ℕ) (offset n : ℕ) → (0 < n → number_at 4 stream offset ≢ 0) → IsUnclosed (numbers_at stream offset n)
 unclosed stream offset zero some = tt
 unclosed stream offset (suc n) some = let here : offset + 0 ≡ offset = omega arith in rw here (some (omega arith))
 
--- what closes the pairs is a closing word, or can be left out
+-- the closing word is 0, or may be absent
 closing_is : (stream : List ℕ) → pairs_end stream ≤ length stream → IsClosing (closing_of stream) (features_of stream)
 unfolding features_of
 closing_is stream inside =
@@ -136,7 +136,7 @@ closing_is stream inside =
 
 -- ---- the names
 
--- a list that a NUL was found in has one
+-- if a NUL was found in a list, the list contains it
 ends : (xs : List ℕ) → list_any (λ byte. byte == 0) xs ≡ true → Contains xs 0
 ends [] e = absurd cc
 ends (x ∷ xs) e =
@@ -145,7 +145,7 @@ ends (x ∷ xs) e =
       | false ↦ λ _ rest. let later = ends xs rest in (suc later.0, omega (arith, later.1), later.2)
     ] refl e
 
--- where all pairs passed their checks, all names have an end
+-- if all pairs passed their checks, all names have an end
 pairs_named : (stream : List ℕ) → first_failing (checks_below (size_of stream) (pair_checks stream)) ≡ None → All (HasName (buffer_of stream)) (pairs_below stream (size_of stream))
 unfolding pair_at
 pairs_named stream held =
@@ -156,9 +156,9 @@ pairs_named stream held =
     let at : get_or (pairs_below stream n) k (pair_at stream 0) ≡ pair_at stream k = get_or-map-range_with_len (pair_at stream) 0 n k k (pair_at stream 0) below (omega arith) in
     rw at (ends (drop (number_at 4 stream (pair_offset stream k)) (buffer_of stream)) (pair_named stream n k held below)))
 
--- ---- the whole
+-- ---- the whole stream
 
--- a stream is cut in front of its length field, its buffer and its numbers
+-- a stream is its length field, its buffer, its numbers and the rest
 cut : (stream : List ℕ) (b n : ℕ) → drop 28 stream ≡ take 4 (drop 28 stream) ++ take b (drop 32 stream) ++ take n (drop (32 + b) stream) ++ drop n (drop (32 + b) stream)
 cut stream b n =
     let first : drop 28 stream ≡ take 4 (drop 28 stream) ++ drop 32 stream = sym (take-append-drop 4 (drop 28 stream)) ∙ ap (λ (xs : List ℕ). take 4 (drop 28 stream) ++ xs) (drop-drop 4 28 stream) in
@@ -168,12 +168,12 @@ cut stream b n =
     ∙ sym (append_assoc (take 4 (drop 28 stream)) (take b (drop 32 stream)) (take n (drop (32 + b) stream) ++ drop n (drop (32 + b) stream)))
     ∙ sym (append_assoc (take 4 (drop 28 stream) ++ take b (drop 32 stream)) (take n (drop (32 + b) stream)) (drop n (drop (32 + b) stream)))
 
--- Size stands behind the buffer
+-- Size comes after the buffer
 pub size_offset_is : (stream : List ℕ) → size_offset stream ≡ 32 + number_at 4 stream 28
 unfolding size_offset
 size_offset_is stream = refl
 
--- the buffer is as long as the number in front of it says
+-- the number before the buffer is the length of the buffer
 pub buffer_is : (stream : List ℕ) → buffer_of stream ≡ take (number_at 4 stream 28) (drop 32 stream)
 unfolding buffer_of
 buffer_is stream = refl

@@ -1,4 +1,4 @@
--- An info stream that was written, read back.
+-- A written info stream reads back.
 use Rattle.std.proofs.Common.{◌≡◌, ℕ, ◌*◌, ◌<◌, ◌^◌, List, [], ◌∷◌, ◌++◌, length, drop, get_or, refl, sym, ap, ◌∙◌, arith, append_assoc, inl}
 use Rattle.std.specs.Prelude.{All}
 use Rattle.std.proofs.lemmas.List.{append-nil, length-append, drop_at, take_at}
@@ -11,7 +11,7 @@ use Rattle.pdb_info.specs.Names.{HasNames, HasName, present_buckets}
 use Rattle.pdb_info.specs.Info.{HasInfo}
 use Rattle.pdb_info.specs.Written.{info_text, info_view}
 
--- the numbers in front of the GUID, and those behind it
+-- the numbers before the GUID, and the numbers after it
 front : ℕ → List ℕ
 front age = 20000404 ∷ 0 ∷ age ∷ []
 
@@ -73,18 +73,18 @@ names_back age stored long =
       named = refl;
     }
 
--- the stream says what was written
+-- the written stream has the values that were written
 pub has_info : (age : ℕ) (guid : List ℕ) → length (stored_guid guid) ≡ 16 → stored_guid (stored_guid guid) ≡ guid → age < 2 ^ 32 → HasInfo (info_text age guid) (info_view age guid)
 unfolding info_text front back
 has_info age guid long undone short = record { header = header_back age guid long undone short; names = names_back age (stored_guid guid) long }
 
--- what is spelled field by field is the stream
+-- the stream that is made field by field is the written stream
 pub info_is : (age found : ℕ) (guid given stored bytes : List ℕ) → bytes ≡ words (20000404 ∷ 0 ∷ found ∷ []) ++ (stored ++ words (0 ∷ 0 ∷ 8 ∷ 0 ∷ 0 ∷ 0 ∷ [])) → stored ≡ stored_guid given → given ≡ guid → found ≡ age
     → bytes ≡ info_text age guid
 unfolding info_text
 info_is age found guid given stored bytes e is same years = e ∙ rw (is, same, years) refl
 
--- what is spelled field by field says what was written
+-- the stream that is made field by field has the values that were written
 pub info_back : (age found : ℕ) (guid given stored bytes : List ℕ) → bytes ≡ words (20000404 ∷ 0 ∷ found ∷ []) ++ (stored ++ words (0 ∷ 0 ∷ 8 ∷ 0 ∷ 0 ∷ 0 ∷ [])) → stored ≡ stored_guid given → given ≡ guid → found ≡ age
     → length stored ≡ 16 → stored_guid stored ≡ given → found < 2 ^ 32 → HasInfo bytes (info_view age guid)
 info_back age found guid given stored bytes e is same years long undone short =

@@ -6,7 +6,7 @@ use Rattle.pdb_info.specs.Guid.{stored_guid}
 use Rattle.pdb_info.specs.declared.fault.InfoFault.{InfoFault}
 use Rattle.pdb_info.specs.declared.fault.InfoFault.TheVariants.{InfoShort}
 
--- what the header says: three numbers, and the 16 bytes of the GUID in the order of its text
+-- what the header says: three numbers, and the 16 bytes of the GUID in the order in which it is printed
 pub record HeaderFields : Type 0 where
   pub version : ℕ
   pub signature : ℕ
@@ -21,6 +21,6 @@ pub record HasInfoHeader (stream : List ℕ) (fields : HeaderFields) : Type 0 wh
   pub age_is : number_at 4 stream 8 ≡ fields.age
   pub guid_is : stored_guid (take 16 (drop 12 stream)) ≡ fields.guid
 
--- the one check of a header
+-- the only check of a header
 unfoldable pub header_checks : List ℕ → List (Check InfoFault)
 header_checks stream = record { holds = nat_le 28 (length stream); fault = InfoShort } ∷ []

@@ -1,7 +1,7 @@
--- The names that are handed out.
+-- How contracts see the names of streams.
 use Rattle.pdb_info.specs.Names.{NamedStream}
 use Rattle.pdb_info.specs.declared.names.Name.{Name}
 
--- a stream with its name, as contracts see it
+-- how contracts see a stream with its name
 abbrev pub named : Name → NamedStream
 named n = record { text = n.text.now; stream = n.stream }

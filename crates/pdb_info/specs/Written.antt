@@ -4,12 +4,12 @@ use Rattle.byte_fields.specs.Number.{words}
 use Rattle.pdb_info.specs.Guid.{stored_guid}
 use Rattle.pdb_info.specs.Info.{InfoView}
 
--- the info stream of a file with this age and GUID: version VC70 and no signature; an empty buffer of names, Size 0, Capacity 8, no
--- present and no deleted words, the closing word; no feature codes
+-- the info stream of a file with this age and GUID: version VC70 and signature 0; an empty buffer of names, Size 0, Capacity 8, no
+-- present words, no deleted words, the closing word; no feature codes
 unfoldable pub info_text : ℕ → List ℕ → List ℕ
 info_text age guid = words (20000404 ∷ 0 ∷ age ∷ []) ++ (stored_guid guid ++ words (0 ∷ 0 ∷ 8 ∷ 0 ∷ 0 ∷ 0 ∷ []))
 
--- what it says
+-- the values of this info stream
 abbrev pub info_view : ℕ → List ℕ → InfoView
 info_view age guid = record {
   header = record { version = 20000404; signature = 0; age = age; guid = guid };

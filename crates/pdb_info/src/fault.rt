@@ -6,7 +6,7 @@ ghost use Rattle.pdb_info.specs.declared.fault.InfoFault.TheVariants.{Memory};
 use std::alloc::{AllocError, AllocFailed};
 use thiserror::Error;
 
-/// The first check that an info stream fails, in the order of its fields.
+/// The first check that an info stream fails. The checks are made in the order of the fields.
 ///
 /// Offsets are in bytes from the front of the stream.
 #[derive(Clone, Copy, Debug, PartialEq, Eq, Error)]
@@ -14,16 +14,16 @@ pub enum InfoFault {
     /// The stream has fewer than the 28 bytes of a header.
     #[error("12 InfoShort")]
     InfoShort,
-    /// The field of the named stream map that begins at this offset passes the end of the stream.
+    /// The field of the named stream map at this offset passes the end of the stream.
     #[error("13 NamesShort {0}")]
     NamesShort(u64),
-    /// The named stream map says that it has `said` streams, and `present` buckets are present.
+    /// Size of the named stream map is `said`, but `present` buckets are present.
     #[error("14 NamesCount said {said} present {present}")]
     NamesCount { said: u32, present: u64 },
-    /// The name of the stream in this bucket has no end in the string buffer.
+    /// The name of the pair of this bucket has no end in the string buffer.
     #[error("15 NameOffset {0}")]
     NameOffset(u64),
-    /// A growth was refused. All checks held.
+    /// Out of memory for the names or the feature codes. All checks passed.
     #[error("33 Memory")]
     Memory,
 }

@@ -1,4 +1,4 @@
-//! GUIDs, and the order in which their bytes are stored.
+//! GUIDs, and the order of their bytes in a file.
 
 ghost use Rattle.std.specs.Prelude.{◌≡◌};
 ghost use Rattle.pdb_info.specs.Guid.{stored_guid};
@@ -7,21 +7,22 @@ use uuid::Uuid;
 
 /// The stored bytes of a GUID.
 ///
-/// Of the first three parts of its text each has its lowest byte first; the last eight bytes
-/// stand in the order of the text. It can't fail. ("The PDB Info Stream", "Stream Header".)
+/// The printed form of a GUID has five parts. Each of the first three parts is stored with its
+/// lowest byte first. The last eight bytes are stored in the order in which they are printed. This
+/// never fails. ("The PDB Info Stream", "Stream Header".)
 #[tactic(auto, using(crate::proofs::GuidLaws::stored_is, crate::proofs::GuidLaws::stored_twice))]
 pub fn guid_bytes(guid: Uuid) -> [u8; 16]
     ensures value { result ≡ stored_guid guid }
     ensures undone { stored_guid result ≡ guid }
 {
-    // The proof learns here that a GUID has 16 bytes.
+    // This call tells the proof that a GUID has 16 bytes.
     let _ = guid.into_bytes();
     guid.to_bytes_le()
 }
 
-/// The GUID with these stored bytes: what [`guid_bytes`] undoes.
+/// The GUID with these stored bytes: the inverse of [`guid_bytes`].
 ///
-/// It can't fail. ("The PDB Info Stream", "Stream Header".)
+/// This never fails. ("The PDB Info Stream", "Stream Header".)
 #[tactic(auto, using(crate::proofs::GuidLaws::stored_is, crate::proofs::GuidLaws::stored_twice))]
 pub fn guid_of(bytes: [u8; 16]) -> Uuid
     ensures value { result ≡ stored_guid bytes }

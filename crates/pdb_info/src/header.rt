@@ -11,10 +11,12 @@ use byte_fields::u32_at;
 use std::marker::Model;
 use uuid::Uuid;
 
-/// The length of a header in bytes.
+/// The length of a header, in bytes.
 pub(crate) const LENGTH: usize = 28;
 
-/// What the header of an info stream says: when and for which program the file was written.
+/// What the header of an info stream says: the version, the signature, the age and the GUID.
+///
+/// Made by [`InfoHeader::read`]. ("The PDB Info Stream", "Stream Header".)
 #[derive(Clone, Copy, Debug)]
 pub struct InfoHeader {
     version: u32,
@@ -33,7 +35,7 @@ impl Model for InfoHeader {
     ghost inverse = { λ h. record { version = h.version; signature = h.signature; age = h.age; guid = h.guid } };
 }
 
-/// The GUID of a stream that is as long as a header: it stands at the header's end.
+/// The GUID in the last 16 bytes of the header.
 fn guid_at_end(stream: &[u8]) -> Uuid
     requires { 28 ≤ length stream.now }
     ensures { result ≡ stored_guid (take 16 (drop 12 stream.now)) }
@@ -46,12 +48,12 @@ fn guid_at_end(stream: &[u8]) -> Uuid
 impl InfoHeader {
     /// Reads the header at the front of an info stream.
     ///
-    /// A stream of fewer than 28 bytes is refused with `InfoShort`, and no other one: the values
-    /// aren't checked. It takes no memory. ("The PDB Info Stream", "Stream Header".)
+    /// The only fault is `InfoShort`: the stream has fewer than 28 bytes. The values are not
+    /// checked. This does not allocate. ("The PDB Info Stream", "Stream Header".)
     #[tactic(auto, unfolding(crate::specs::Header::header_checks))]
     pub fn read(stream: &[u8]) -> Result<InfoHeader, InfoFault>
         ensures value { IfOk result (HasInfoHeader stream.now) }
-        // Nothing that has a header is refused.
+        // A stream that has a header is never refused.
         ensures found { (fields : HeaderFields) → HasInfoHeader stream.now fields → IsOk result }
         ensures first { Makes result (header_checks stream.now) }
         ensures checked { IfErr result (λ fault. fault ≢ InfoFault.Memory) }
@@ -67,21 +69,21 @@ impl InfoHeader {
         })
     }
 
-    /// The version of the format, as the date of its making: 20000404 for VC70.
+    /// The version of the format, as a date: 20000404 for VC70.
     pub fn version(&self) -> u32
         ensures { result ≡ self.now.version }
     {
         self.version
     }
 
-    /// The time of writing, in seconds since 1970, where the writer gave one.
+    /// The time of writing in seconds since 1970, if the writer stored it.
     pub fn signature(&self) -> u32
         ensures { result ≡ self.now.signature }
     {
         self.signature
     }
 
-    /// How often the file was written.
+    /// The age: how many times the file was written.
     pub fn age(&self) -> u32
         ensures { result ≡ self.now.age }
     {

@@ -1,4 +1,4 @@
-//! The info stream as a whole.
+//! Reads the whole info stream.
 
 ghost use Rattle.std.specs.Prelude.{◌≡◌, ◌+◌, ◌*◌, ◌≤◌, map, length, None, IfOk, IfErr};
 ghost use Rattle.byte_fields.specs.Check.{Makes, Refuses, first_failing, checks_below};
@@ -16,7 +16,7 @@ use std::marker::Model;
 
 /// What an info stream says: its header, the streams that have a name, and the feature codes.
 ///
-/// The names are lent from the stream. ("The PDB Info Stream".)
+/// Made by [`Info::read`]. The names are lent from the stream. ("The PDB Info Stream".)
 #[derive(Drop)]
 pub struct Info<'a, A: Allocator = Global> {
     header: InfoHeader,
@@ -34,7 +34,7 @@ impl<'a, A: Allocator> Model for Info<'a, A> {
     ghost view = { λ i. record { header = i.header; names = map named i.names.items; features = i.features.items } };
 }
 
-/// Checks an info stream, and answers its header and where its names stand. It takes no memory.
+/// Checks an info stream, and returns its header and where its names are. This does not allocate.
 #[tactic(auto, using(crate::proofs::InfoLaws::header_fault, crate::proofs::InfoLaws::map_fault, crate::proofs::InfoLaws::pairs_answer))]
 fn check(stream: &[u8]) -> Result<(InfoHeader, NameMap), InfoFault>
     ensures header { IfOk result (λ found. HasInfoHeader stream.now found.0) }
@@ -52,15 +52,23 @@ fn check(stream: &[u8]) -> Result<(InfoHeader, NameMap), InfoFault>
 impl<'a, A: Allocator + Copy> Info<'a, A> {
     /// Reads an info stream.
     ///
-    /// The faults are met in the order of the fields: `InfoShort`; `NamesShort` for each field of
-    /// the named stream map in front of the pairs; `NamesCount`; and for each pair `NamesShort`,
-    /// then `NameOffset`. Every check is made before any memory is asked for, so that `Memory`
-    /// hides no fault. It reserves room for the names and the feature codes that stand in the
-    /// stream, and nothing else. One to three bytes behind the last whole number are ignored.
-    /// ("The PDB Info Stream", "Named Stream Map".)
+    /// The faults, in the order in which they are checked:
+    ///
+    /// 1. `InfoShort`: the stream has fewer than 28 bytes.
+    /// 2. `NamesShort`: a field of the named stream map before the pairs passes the end of the
+    ///    stream. The fields are checked in order.
+    /// 3. `NamesCount`: Size is not the number of present buckets.
+    /// 4. For each pair in turn, `NamesShort`: the pair passes the end of the stream. `NameOffset`:
+    ///    its name has no end in the buffer.
+    /// 5. `Memory`: out of memory for the names or the feature codes. Nothing is allocated before
+    ///    all checks passed.
+    ///
+    /// One to three bytes after the last feature code are ignored. This allocates room for the
+    /// names and the feature codes of the stream, and nothing else. ("The PDB Info Stream", "Named
+    /// Stream Map".)
     pub fn read(alloc: A, stream: &'a [u8]) -> Result<Info<'a, A>, InfoFault>
         ensures value { IfOk result (HasInfo stream.now) }
-        // Nothing that has these parts is refused, but for want of memory.
+        // A stream that has these parts is refused only when out of memory.
         ensures found { (info : InfoView) → HasInfo stream.now info → IfErr result (λ fault. fault ≡ InfoFault.Memory) }
         ensures first { IfErr result (Refuses InfoFault.Memory (first_failing (info_checks stream.now))) }
     {

@@ -1,4 +1,4 @@
-//! The named stream map in front of its pairs: where its parts stand, and their checks.
+//! The parts of the named stream map before its pairs: their offsets and their checks.
 
 ghost use Rattle.std.specs.Prelude.{◌≡◌, ◌+◌, ◌*◌, ◌^◌, ◌<◌, ◌≤◌, length, IfOk, IfErr};
 ghost use Rattle.byte_fields.specs.Number.{number_at};
@@ -9,19 +9,19 @@ use crate::fault::InfoFault;
 use crate::header::LENGTH;
 use byte_fields::u32_at;
 
-/// How many bytes Size, Capacity and the number of present words have together.
+/// How many bytes Size, Capacity and the number of present words take together.
 pub(crate) const COUNTS: usize = 12;
 
-/// Where the parts of a named stream map stand, and how many there are of them.
+/// The offsets of the parts of a named stream map, in bytes, and the counts in it.
 #[derive(Clone, Copy)]
 pub(crate) struct NameMap {
-    /// Where Size stands, behind the buffer.
+    /// The offset of Size, which follows the buffer.
     pub(crate) size_offset: usize,
-    /// Where the pairs begin.
+    /// The offset of the first pair.
     pub(crate) pairs_offset: usize,
     /// How many pairs there are.
     pub(crate) size: u32,
-    /// How many words of four bytes say which buckets are present.
+    /// How many present words there are: words of four bytes that say which buckets are present.
     pub(crate) present_words: u32,
 }
 
@@ -38,7 +38,7 @@ pub(crate) fn check_fits(stream: &[u8], offset: usize, count: usize) -> Result<(
     Ok(())
 }
 
-/// The number at `offset`, once it was checked that it fits.
+/// Checks that a four-byte number fits at `offset`, and returns the number.
 fn number(stream: &[u8], offset: usize) -> Result<u32, InfoFault>
     requires small { offset + 4 < 2 ^ 64 }
     ensures value { IfOk result (λ n. n ≡ number_at 4 stream.now offset) }
@@ -50,7 +50,7 @@ fn number(stream: &[u8], offset: usize) -> Result<u32, InfoFault>
     Ok(u32_at(stream, offset))
 }
 
-/// How many of the bits of so many words from `start` on are 1.
+/// How many bits are 1 in the `words` words at `start`.
 #[tactic(auto, using(crate::proofs::MapLaws::present_more, crate::proofs::MapLaws::ones_few))]
 fn present_count(stream: &[u8], start: usize, words: u32) -> u64
     requires { start + 4 * words ≤ length stream.now }
@@ -65,8 +65,7 @@ fn present_count(stream: &[u8], start: usize, words: u32) -> u64
 }
 
 impl NameMap {
-    /// Finds the parts of the map behind the header of a stream, and checks those in front of
-    /// the pairs.
+    /// Finds the parts of the map, which follows the header, and checks the parts before the pairs.
     #[tactic(auto, unfolding(crate::specs::Names::map_checks, crate::specs::Names::size_offset, crate::specs::Names::deleted_offset, crate::specs::Names::pairs_offset, crate::specs::Names::present_of))]
     pub(crate) fn find(stream: &[u8]) -> Result<NameMap, InfoFault>
         ensures value { IfOk result (IsMap stream.now) }
@@ -76,7 +75,7 @@ impl NameMap {
         check_fits(stream, LENGTH + 4, buffer_len)?;
         let size_offset = LENGTH + 4 + buffer_len;
         let size = number(stream, size_offset)?;
-        // The capacity is of no use here.
+        // Capacity must fit in the stream, but its value is not used.
         number(stream, size_offset + 4)?;
         let present_words = number(stream, size_offset + 8)?;
         let present_offset = size_offset + COUNTS;

@@ -1,4 +1,4 @@
-//! Streams with their names, and the feature codes behind them.
+//! Streams with their names, and the feature codes after them.
 
 ghost use Rattle.std.specs.Prelude.{◌≡◌, ◌+◌, ◌*◌, ◌≤◌, true, length, map, IfOk, IfErr, None};
 ghost use Rattle.byte_fields.specs.Number.{number_at};
@@ -12,10 +12,11 @@ use crate::pairs::name_at;
 use byte_fields::u32_at;
 use std::alloc::Allocator;
 
-/// A stream with its name, which is lent from the info stream.
+/// A stream with its name, which is lent from the info stream. ("The PDB Info Stream", "Named
+/// Stream Map".)
 #[derive(Clone, Copy, Debug, PartialEq, Eq)]
 pub struct Name<'a> {
-    /// The bytes of the name, without the NUL behind it.
+    /// The bytes of the name, without the NUL that ends it.
     pub text: &'a [u8],
     /// The number of the stream.
     pub stream: u32,
@@ -38,7 +39,7 @@ impl NameMap {
         }
     }
 
-    /// The streams of all pairs, with their names. It reserves just their room.
+    /// The streams of all pairs, with their names. This allocates room for exactly these names.
     #[tactic(auto, using(crate::proofs::PairLaws::names_more))]
     pub(crate) fn names<'a, A: Allocator>(
         &self,
@@ -58,7 +59,7 @@ impl NameMap {
         Ok(names)
     }
 
-    /// Where the feature codes begin: behind the closing word, if there is one.
+    /// The offset of the feature codes: after the closing word, if there is one.
     #[tactic(auto, unfolding(crate::specs::Names::features_offset, crate::specs::Names::is_closed, crate::specs::Names::pairs_end))]
     fn features_offset(&self, stream: &[u8]) -> usize
         requires map { IsMap stream.now self.now }
@@ -74,7 +75,7 @@ impl NameMap {
         }
     }
 
-    /// The feature codes up to the end of the stream. It reserves just their room.
+    /// The feature codes up to the end of the stream. This allocates room for exactly these codes.
     #[tactic(auto, using(crate::proofs::PairLaws::numbers_more), unfolding(crate::specs::Names::features_of))]
     pub(crate) fn features<A: Allocator>(
         &self,

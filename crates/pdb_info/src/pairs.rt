@@ -11,8 +11,8 @@ use crate::map::{COUNTS, NameMap, check_fits};
 use bstr::ByteSlice;
 use byte_fields::u32_at;
 
-/// The name that begins at `offset` in the string buffer: its bytes up to the next NUL. There is
-/// none where no NUL follows.
+/// The name at `offset` in the string buffer: the bytes up to the next NUL. `None` where no NUL
+/// follows.
 #[tactic(auto, using(crate::proofs::NameLaws::named_past))]
 pub(crate) fn name_at(buffer: &[u8], offset: u32) -> Option<&[u8]>
     ensures value { IfSome result (λ name. name.now ≡ before_first (λ byte. byte == 0) (drop offset buffer.now)) }
@@ -51,7 +51,7 @@ impl NameMap {
         word >> (bucket % 32) & 1 == 1
     }
 
-    /// Checks the `k`-th pair, which is that of this bucket.
+    /// Checks the `k`-th pair, which belongs to this bucket.
     #[tactic(auto, unfolding(crate::specs::Names::pair_checks))]
     fn check_pair(&self, stream: &[u8], k: u32, bucket: u64) -> Result<(), InfoFault>
         requires map { IsMap stream.now self.now }

@@ -1,4 +1,4 @@
-//! What the program that writes a file decides.
+//! The settings of a file that is written.
 
 ghost use Rattle.std.specs.Prelude.{◌≡◌, ◌≤◌, ◌↔◌, IfSome, IsSome};
 ghost use Rattle.byte_fields.specs.Bytes.{AreBytes};
@@ -12,8 +12,8 @@ use uuid::Uuid;
 /// The most bytes that the records of a written file may have together.
 const MOST_BYTES: u32 = 1_073_741_824;
 
-/// What the program that writes a file decides: the GUID and the age that the file gets, how many
-/// bytes its records may have together, and how many bytes a block has.
+/// The settings of a file that is written: its GUID, its age, how many bytes its records may have
+/// together, and how many bytes a block has.
 #[derive(Clone, Copy, Debug)]
 pub struct Settings {
     guid: Uuid,
@@ -34,27 +34,28 @@ impl Model for Settings {
     ghost inverse = { λ s. record { guid = s.guid; age = s.age; limit = s.limit; block_size = s.block_size } };
 }
 
-/// The bytes of a slice are bytes.
+/// The numbers of a byte slice are below 256.
 fn are_bytes(bytes: &[u8])
     ensures { AreBytes bytes.now }
 {}
 
-/// How many bytes of records fit in a file with blocks of this size, as far as its directory goes.
+/// How many bytes of records a file with blocks of this size can have, so that the block map can
+/// list the blocks of its directory.
 fn room_for_records(block_size: u32) -> u64
     requires { IsBlockSize block_size }
     ensures { result ≡ room_for_records block_size }
 {
     let size = u64::from(block_size);
-    // One block lists the blocks of the directory, which has a number for each block of records
-    // and seven others; the header of the records has 56 bytes.
+    // One block lists the blocks of the directory. The directory has a number for each block of
+    // records, and seven other numbers. The header of the records has 56 bytes.
     (size * size / 16 - 7) * size - 56
 }
 
 impl Settings {
-    /// These settings, where the limit is at most 1,073,741,824 bytes and blocks may have this size;
-    /// else `None`.
+    /// Settings with these values. `None` where `limit` is more than 1,073,741,824 bytes, or where
+    /// `block_size` is not one of the seven sizes.
     ///
-    /// It does not allocate.
+    /// `limit` and `block_size` are in bytes. This does not allocate.
     #[tactic(auto, using(msf_blocks::proofs::SizeLaws::size_decides))]
     pub fn new(guid: Uuid, age: u32, limit: u32, block_size: u32) -> Option<Settings>
         ensures value { IfSome result (λ s. s ≡ record { guid = guid; age = age; limit = limit; block_size = block_size }) }
@@ -63,7 +64,7 @@ impl Settings {
         if limit > MOST_BYTES || !is_block_size(block_size) {
             return None;
         }
-        // The proof learns here that a GUID has 16 bytes.
+        // This call tells the proof that a GUID has 16 bytes.
         are_bytes(&guid.into_bytes());
         Some(Settings {
             guid,
@@ -73,7 +74,7 @@ impl Settings {
         })
     }
 
-    /// The GUID that the file gets.
+    /// The GUID of the file.
     pub fn guid(&self) -> Uuid
         ensures value { result ≡ self.now.guid }
         ensures settings { AreSettings self.now }
@@ -81,14 +82,14 @@ impl Settings {
         self.guid
     }
 
-    /// The age that the file gets: how often it was written.
+    /// The age of the file: how many times it was written.
     pub fn age(&self) -> u32
         ensures { result ≡ self.now.age }
     {
         self.age
     }
 
-    /// The most bytes that the records of the file may have together, as they were set.
+    /// The limit that was set: the most bytes that the records of the file may have together.
     pub fn limit(&self) -> u32
         ensures value { result ≡ self.now.limit }
         ensures fits { result ≤ 1073741824 }
@@ -105,10 +106,11 @@ impl Settings {
     }
 
     /// The most bytes that the records of the file may have together: the limit that was set, or
-    /// what fits, where that is less.
+    /// the number of bytes that fit in the file, if that is less.
     ///
-    /// One block lists the blocks of the stream directory, so that small blocks leave less room:
-    /// 8,384,968 bytes at 512, 67,101,640 at 1,024 and 536,856,520 at 2,048. It does not allocate.
+    /// One block lists the blocks of the stream directory, so fewer records fit with small blocks:
+    /// 8,384,968 bytes with blocks of 512 bytes, 67,101,640 with 1,024 and 536,856,520 with 2,048.
+    /// This does not allocate.
     pub fn record_limit(&self) -> u32
         ensures value { result ≡ record_limit self.now }
         ensures fits { RecordsFit self.now }

@@ -1,4 +1,4 @@
-//! What no clause says: that a call succeeds, the texts of the faults, and refused growth.
+//! What no clause says: that a call succeeds, the texts of the faults, and out of memory.
 
 use crate::{Info, InfoFault, InfoHeader, Name, Settings, guid_bytes, guid_of, info_bytes};
 use linked_list_allocator::LocalHeap;
@@ -18,7 +18,7 @@ const STREAM: [u8; 75] = [
     0x00, 0x00, 0x00, 0x00, 0xDC, 0x51, 0x33, 0x01, // the closing word, a feature code
 ];
 
-/// The GUID of that stream, in the order of its text.
+/// The GUID of that stream, in the order in which it is printed.
 const GUID: [u8; 16] = [
     0x00, 0x11, 0x22, 0x33, 0x44, 0x55, 0x66, 0x77, 0x88, 0x99, 0xAA, 0xBB, 0xCC, 0xDD, 0xEE, 0xFF,
 ];
@@ -155,8 +155,8 @@ fn names_that_share_bytes(rt: HostRuntime) -> Result<(), Fail> {
     Ok(())
 }
 
-/// A stream with 256 present words, of whose 8192 buckets the one numbered 4 and the last are
-/// present, and two deleted words with all their bits.
+/// A stream with 256 present words and two deleted words. Of the 8192 buckets, bucket 4 and the
+/// last one are present. All bits of the deleted words are 1.
 fn many_words() -> [u8; 1107] {
     let mut stream = [0; 1107];
     stream[..39].copy_from_slice(&STREAM[..39]);

@@ -8,13 +8,13 @@ ghost use Rattle.pdb_info.specs.Written.{info_text, info_view};
 use crate::guid::guid_bytes;
 use crate::settings::Settings;
 
-/// The version that streams of today have, VC70.
+/// The version VC70, which current compilers write.
 const VERSION: u32 = 20000404;
 
 /// How many buckets a map without names has.
 const CAPACITY: u32 = 8;
 
-/// The stream, field by field.
+/// Makes the stream, field by field.
 #[tactic(auto, unfolding(byte_fields::specs::Number::four_bytes))]
 fn stream_of(age: u32, stored: [u8; 16]) -> [u8; 52]
     ensures value { result ≡ words (20000404 ∷ 0 ∷ age ∷ []) ++ (stored ++ words (0 ∷ 0 ∷ 8 ∷ 0 ∷ 0 ∷ 0 ∷ [])) }
@@ -30,8 +30,9 @@ fn stream_of(age: u32, stored: [u8; 16]) -> [u8; 52]
 
 /// The info stream of a file that is written with these settings.
 ///
-/// It has the version VC70, no signature, the age and the GUID of the settings, no named stream
-/// and no feature code, and reads back as that. It takes no memory. ("The PDB Info Stream".)
+/// The version is VC70, the signature is 0, and the age and the GUID are those of the settings.
+/// There are no named streams and no feature codes. The stream reads back as these values. This
+/// does not allocate. ("The PDB Info Stream".)
 pub fn info_bytes(settings: &Settings) -> [u8; 52]
     ensures value { result ≡ info_text settings.now.age settings.now.guid }
     ensures read_back { HasInfo result (info_view settings.now.age settings.now.guid) }

@@ -11,15 +11,15 @@ pub many_bytes : (records : List (List ℕ)) → AllByRecursion IsRecord records
 many_bytes [] each = omega arith
 many_bytes (r ∷ records) each = omega (arith, length-append r (concat records), each.0.long, many_bytes records each.1)
 
--- so bytes hold at most a quarter as many records
+-- so there are at most a quarter as many records as bytes
 pub few_records : (bytes : List ℕ) → IsFramed bytes → 4 * length (records_in bytes) ≤ length bytes
 few_records bytes framed = omega (arith, many_bytes (records_in bytes) framed.each, ap length framed.whole)
 
--- the record at the front is as long as its first number says
+-- the record at the front has the length that its length field gives
 front_len : (r rest : List ℕ) → IsRecord r → number_at 2 (r ++ rest) 0 + 2 ≡ length r
 front_len r rest is = omega (arith, number_at-append 2 r rest (omega (arith, is.long)), is.len)
 
--- records that stand one after the other are cut apart again
+-- the concatenation of records is cut into these records
 cut_is : (n : ℕ) (records : List (List ℕ)) → AllByRecursion IsRecord records → length (concat records) ≤ n → cut n (concat records) ≡ records
 unfolding cut record_at
 cut_is zero [] each few = refl
@@ -36,13 +36,13 @@ pub records_in_concat : (records : List (List ℕ)) → AllByRecursion IsRecord 
 unfolding records_in
 records_in_concat records each = cut_is (length (concat records)) records each (omega arith)
 
--- no bytes, no records
+-- an empty list of bytes has no records
 pub none_in : (bytes : List ℕ) → length bytes ≡ 0 → records_in bytes ≡ []
 unfolding records_in cut
 none_in [] none = refl
 none_in (b ∷ bytes) none = absurd (omega (arith, none))
 
--- what was found in some bytes are the records in them
+-- if the bytes are these records, they are cut into these records
 pub found_in : (bytes : List ℕ) (records : List (List ℕ)) → Begins bytes records [] → records_in bytes ≡ records
 found_in bytes records begins = ap records_in (begins.parts ∙ append-nil (concat records)) ∙ records_in_concat records begins.each
 
@@ -51,15 +51,15 @@ framed_in bytes records begins short =
     let same = found_in bytes records begins in
     record { each = rw same begins.each; whole = rw same (sym (begins.parts ∙ append-nil (concat records))); short = short }
 
--- records up to the end of the bytes leave nothing
+-- records that reach the end of the bytes leave no rest
 pub ends : (bytes : List ℕ) (records : List (List ℕ)) (start : ℕ) → length bytes ≤ start → Begins bytes records (drop start bytes) → Begins bytes records []
 ends bytes records start past begins = let none : drop start bytes ≡ [] = drop_of_length-le bytes (omega (arith, past)) in rw (← none) begins
 
--- records that fill some bytes stand at the front of them
+-- framed bytes are their records, with no rest
 pub begins_in : (bytes : List ℕ) → IsFramed bytes → Begins bytes (records_in bytes) []
 begins_in bytes framed = record { parts = sym framed.whole ∙ sym (append-nil (concat (records_in bytes))); each = framed.each }
 
--- bytes with a record at their front: that record, and the records after it
+-- nonempty framed bytes are a record, and the records after it
 pub record Splits (bytes : List ℕ) : Type 0 where
   pub long : 4 ≤ number_at 2 bytes 0 + 2
   pub fits : number_at 2 bytes 0 + 2 ≤ length bytes

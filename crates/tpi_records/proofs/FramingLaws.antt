@@ -9,13 +9,13 @@ use Rattle.tpi_records.specs.Records.{IsRecord, IsFlaw, HasFlaw, Begins}
 use Rattle.tpi_records.specs.declared.fault.TpiFault.{TpiFault}
 use Rattle.tpi_records.specs.declared.fault.TpiFault.TheVariants.{Short, Version, HeaderSize, Begin, End, Bytes, RecordShort, RecordLen, RecordCount, Memory}
 
--- ---- records in front of what is left
+-- ---- the records so far, and the bytes after them
 
 AllByRecursion-push : {X : Type 0} (P : X → Type 0) (xs : List X) (y : X) → AllByRecursion P xs → P y → AllByRecursion P (xs ++ y ∷ [])
 AllByRecursion-push P [] y each this = (this, tt)
 AllByRecursion-push P (x ∷ xs) y each this = (each.0, AllByRecursion-push P xs y each.1 this)
 
--- bytes of the length that stands in front of them
+-- bytes whose length is the one in their length field are a record
 pub is_record : (bytes : List ℕ) (start whole : ℕ) → whole ≡ number_at 2 bytes start + 2 → 4 ≤ whole → whole ≤ 65536 → whole % 4 ≡ 0 → start + whole ≤ length bytes → IsRecord (take whole (drop start bytes))
 is_record bytes start whole field long short words inside =
     let all : length (take whole (drop start bytes)) ≡ whole = omega (arith, length-take whole (drop start bytes), length-drop start bytes) in
@@ -26,7 +26,7 @@ is_record bytes start whole field long short words inside =
       len = omega (arith, all, number_at-take 2 bytes start whole (omega arith));
     }
 
--- the records so far, and the one that stands next
+-- one more record: the records so far, and the next one
 pub Begins-more : (bytes : List ℕ) (records : List (List ℕ)) (start whole : ℕ) → Begins bytes records (drop start bytes) → IsRecord (take whole (drop start bytes))
     → Begins bytes (records ++ take whole (drop start bytes) ∷ []) (drop (start + whole) bytes)
 Begins-more bytes records start whole so_far this =
@@ -40,7 +40,7 @@ Begins-more bytes records start whole so_far this =
       each = AllByRecursion-push IsRecord records next so_far.each this;
     }
 
--- ---- the records of some bytes are these and no others
+-- ---- bytes are at most one list of records
 
 same_front : (r s x y : List ℕ) → IsRecord r → IsRecord s → r ++ x ≡ s ++ y → (r ≡ s) × (x ≡ y)
 same_front r s x y is_r is_s e =
@@ -75,7 +75,7 @@ no_flaw r rest index (Bytes _ _) is flaw = flaw
 no_flaw r rest index (RecordCount _ _) is flaw = flaw
 no_flaw r rest index Memory is flaw = flaw
 
--- where records stand, no other records stand in front of a fault
+-- bytes that are records do not also begin with other records and a fault after them
 unflawed : (records front : List (List ℕ)) (rest : List ℕ) (index : ℕ) (fault : TpiFault) → AllByRecursion IsRecord records → AllByRecursion IsRecord front
     → concat records ≡ concat front ++ rest → 0 < length rest → IsFlaw rest index fault → ⊥
 unflawed [] [] rest index fault each_r each_f e some flaw = omega (arith, ap length e)

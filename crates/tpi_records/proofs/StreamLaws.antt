@@ -1,4 +1,4 @@
--- What a stream with records can't be besides.
+-- The records of a stream are unique, and a stream that has records has no fault.
 use Rattle.std.proofs.Common.{◌≡◌, ◌⊎◌, ℕ, None, ◌≤◌, List, [], length, drop, refl, sym, ap, ◌∙◌, arith, inl, inr}
 use Rattle.std.specs.List.{concat, AllByRecursion}
 use Rattle.std.proofs.lemmas.List.{append-nil, take-append-drop, take_at, length-append, length-take, length-drop}
@@ -24,12 +24,12 @@ framed-records stream header records has h =
     let size : length (concat records) ≡ header.record_bytes = omega (arith, has.bytes, h.header.bytes) in
     rw h.parts (take_at (concat records) h.rest header.record_bytes size)
 
--- a stream has no other records
+-- two lists of records of one stream are the same list
 pub one_records : (stream : List ℕ) (rs ss : List (List ℕ)) → HasRecords stream rs → HasRecords stream ss → rs ≡ ss
 one_records stream rs ss has_r has_s =
     one_framing rs ss has_r.each has_s.each (sym (framed-records stream _ rs has_r.header has_r) ∙ framed-records stream _ ss has_r.header has_s)
 
--- the records of a stream lie within it
+-- the records of a stream are no longer than the stream
 pub has_few : (stream : List ℕ) (records : List (List ℕ)) → HasRecords stream records → length (concat records) ≤ length stream
 has_few stream records has = omega (arith, ap length has.parts, length-append (concat records) has.rest, length-drop 56 stream)
 
@@ -42,9 +42,9 @@ no_fault stream records fault has (inr (header, is, inr (found, begins, counted,
     let count : header.count ≡ length records = omega (arith, is.end, has.header.end) in
     differ (count ∙ sym (ap length same))
 
--- ---- what was found
+-- ---- what the reader found
 
--- records in the bytes that a header frames, as many as it says, are the stream's
+-- if the framed bytes are records, and as many as the header says, then they are the records of the stream
 pub counted_records : (stream bytes : List ℕ) (header : Header) (records : List (List ℕ)) → bytes ≡ framed_bytes stream header → HasTpiHeader stream header → Begins bytes records []
     → length records ≡ header.count → HasRecords stream records
 counted_records stream bytes header records is has begins count =
@@ -58,18 +58,18 @@ counted_records stream bytes header records is has begins count =
       each = begins.each;
     }
 
--- a fault of the bytes that a header frames is the stream's
+-- a fault of the framed bytes is a first fault of the stream
 pub framed_fault : (stream bytes : List ℕ) (header : Header) (said : ℕ) (fault : TpiFault) → bytes ≡ framed_bytes stream header → HasTpiHeader stream header → said ≡ header.count
     → HasFlaw bytes fault ⊎ IsMiscounted bytes said fault → IsFirstFault stream fault
 framed_fault stream bytes header said fault is has count flaw = inr (header, has, rw (is, count) at flaw)
 
--- records that are found again are the same
+-- the second pass finds the records of the first
 pub found_again : (stream bytes : List ℕ) (records again : List (List ℕ)) → HasRecords stream records → bytes ≡ concat records → Begins bytes again [] → HasRecords stream again
 found_again stream bytes records again has parts begins =
     let same : again ≡ records = one_framing again records begins.each has.each (sym (append-nil (concat again)) ∙ sym begins.parts ∙ parts) in
     rw same has
 
--- where records stand, only memory can be wanting
+-- bytes that are records have no fault, so the only fault left is out of memory
 pub wants_memory : (bytes : List ℕ) (records : List (List ℕ)) (fault : TpiFault) → AllByRecursion IsRecord records → bytes ≡ concat records → HasFlaw bytes fault ⊎ (fault ≡ Memory) → fault ≡ Memory
 wants_memory bytes records fault each parts (inl flaw) = absurd (framed_unflawed bytes records fault each parts flaw)
 wants_memory bytes records fault each parts (inr memory) = memory

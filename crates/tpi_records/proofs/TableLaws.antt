@@ -17,12 +17,12 @@ pub records_at-push : (bytes starts : List ℕ) (start whole : ℕ) → whole �
 records_at-push bytes starts start whole field =
     map-append (record_at bytes) starts (start ∷ []) ∙ ap (λ (r : List ℕ). records_at bytes starts ++ r ∷ []) (record_at-is bytes start whole field)
 
--- the table so far, and the start of the record that stands next
+-- one more entry: the table so far, and the start of the next record
 pub Begins-push : (bytes starts : List ℕ) (start whole : ℕ) → whole ≡ number_at 2 bytes start + 2 → IsRecord (take whole (drop start bytes)) → Begins bytes (records_at bytes starts) (drop start bytes)
     → Begins bytes (records_at bytes (starts ++ start ∷ [])) (drop (start + whole) bytes)
 Begins-push bytes starts start whole field this so_far = rw (records_at-push bytes starts start whole field) (Begins-more bytes (records_at bytes starts) start whole so_far this)
 
--- ---- what stands in a table
+-- ---- the entries of a table
 
 pub record_there : (bytes starts : List ℕ) (position start : ℕ) → slice_get starts position ≡ Some start → slice_get (records_at bytes starts) position ≡ Some (record_at bytes start)
 record_there bytes starts position start there = slice_get-map (record_at bytes) starts position ∙ rw there refl

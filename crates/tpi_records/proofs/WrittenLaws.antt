@@ -1,4 +1,4 @@
--- A header that was written, read back.
+-- A written header reads back.
 use Rattle.std.proofs.Common.{◌≡◌, ℕ, ◌+◌, ◌*◌, ◌<◌, ◌^◌, List, ◌++◌, length, get_or, arith}
 use Rattle.std.specs.List.{concat}
 use Rattle.std.proofs.lemmas.List.{length-append, drop_at}
@@ -6,7 +6,7 @@ use Rattle.byte_fields.specs.Number.{number_at, word}
 use Rattle.byte_fields.proofs.NumberLaws.{word-words, length-words}
 use Rattle.tpi_records.specs.Written.{header_numbers, header_text, HeadsRecords}
 
--- a number of the header
+-- each number of the header reads back
 number_back : (count bytes : ℕ) (rest : List ℕ) (k : ℕ) → k < 14 → get_or (header_numbers count bytes) k 0 < 2 ^ 32 → number_at 4 (header_text count bytes ++ rest) (4 * k) ≡ get_or (header_numbers count bytes) k 0
 unfolding header_text word
 number_back count bytes rest k lt small = word-words (header_numbers count bytes) rest k lt small
@@ -15,7 +15,7 @@ length-header : (count bytes : ℕ) → length (header_text count bytes) ≡ 56
 unfolding header_text
 length-header count bytes = length-words (header_numbers count bytes)
 
--- what stands behind the header are the records that it announces
+-- the records after the header are those that it announces
 pub heads_records : (count bytes : ℕ) (header : List ℕ) → header ≡ header_text count bytes → 0x1000 + count < 2 ^ 32 → bytes < 2 ^ 32 → HeadsRecords header count bytes
 heads_records count bytes header is few short records rest each counted long =
     let t = header_text count bytes in

@@ -10,7 +10,7 @@ pub record Header : Type 0 where
   pub count : ℕ
   pub record_bytes : ℕ
 
--- the stream begins with a header that says this
+-- the stream begins with a header that says this of the records
 pub record HasTpiHeader (stream : List ℕ) (header : Header) : Type 0 where
   pub long : 56 ≤ length stream
   pub version : number_at 4 stream 0 ≡ 20040203

@@ -4,17 +4,17 @@ use Rattle.std.specs.List.{concat, AllByRecursion}
 use Rattle.byte_fields.specs.Number.{words}
 use Rattle.tpi_records.specs.Records.{IsRecord, HasRecords}
 
--- the numbers of the header: version, its length, the first type index and the one behind the last, the bytes of the records;
--- 0xFFFF twice, for no hash stream and no second one; the length of a key, the number of buckets; and three places and lengths of nothing
+-- the numbers of the header: the version, the header's length, the first type index, the type index after the last record, the length of the records in bytes;
+-- two stream numbers of 0xFFFF, for no hash stream and no auxiliary hash stream; the length of a hash value, the number of hash buckets; and an offset and a length of 0 for each of three absent tables
 abbrev pub header_numbers : ℕ → ℕ → List ℕ
 header_numbers count bytes =
     20040203 ∷ 56 ∷ 0x1000 ∷ (0x1000 + count) ∷ bytes ∷ 0xFFFFFFFF ∷ 4 ∷ 0x3FFFF ∷ 0 ∷ 0 ∷ 0 ∷ 0 ∷ 0 ∷ 0 ∷ []
 
--- the header of a stream with so many records, which have so many bytes together
+-- the header of a stream with `count` records, which have `bytes` bytes together
 unfoldable pub header_text : ℕ → ℕ → List ℕ
 header_text count bytes = words (header_numbers count bytes)
 
--- a stream that begins with this header and goes on with so many records, of so many bytes together, has these records
+-- a stream that begins with this header and continues with `count` records of `bytes` bytes together has these records
 abbrev pub HeadsRecords : List ℕ → ℕ → ℕ → Type 0
 HeadsRecords header count bytes =
     (records : List (List ℕ)) (rest : List ℕ) → AllByRecursion IsRecord records → length records ≡ count → length (concat records) ≡ bytes

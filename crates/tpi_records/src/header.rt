@@ -8,16 +8,19 @@ use crate::fault::TpiFault;
 use byte_fields::u32_at;
 use std::marker::Model;
 
-/// The length of a header in bytes.
+/// The length of a header, in bytes.
 pub(crate) const LENGTH: usize = 56;
 
-/// The version that streams of today have, V80.
+/// The version V80, which current compilers write.
 pub(crate) const VERSION: u32 = 20040203;
 
-/// The first type index: those below it are simple types, which need no record.
+/// The first type index of a record. The type indices below it are simple types.
 pub(crate) const BEGIN: u32 = 0x1000;
 
-/// What the header of a TPI stream says of the records behind it.
+/// What the header of a TPI stream says of the records: how many there are, and their length in
+/// bytes.
+///
+/// Made by [`TpiHeader::read`]. ("The PDB TPI and IPI Streams", "Stream Header".)
 #[derive(Clone, Copy, Debug)]
 pub struct TpiHeader {
     count: u32,
@@ -37,13 +40,21 @@ impl Model for TpiHeader {
 impl TpiHeader {
     /// Reads the header at the front of a TPI stream.
     ///
-    /// The faults are met in the order of [`TpiFault`]'s variants, from `Short` to `Bytes`. The
-    /// records are not looked at: only that their bytes lie within the stream is checked. It
-    /// takes no memory. ("The PDB TPI and IPI Streams", "Stream Header".)
+    /// The faults, in the order in which they are checked:
+    ///
+    /// 1. `Short`: the stream has fewer than 56 bytes.
+    /// 2. `Version`: the version is not 20040203.
+    /// 3. `HeaderSize`: the length of the header is not 56.
+    /// 4. `Begin`: the first type index is not 0x1000.
+    /// 5. `End`: the type index after the last record is below 0x1000.
+    /// 6. `Bytes`: the records pass the end of the stream.
+    ///
+    /// The records themselves are not read. This does not allocate.
+    /// ("The PDB TPI and IPI Streams", "Stream Header".)
     #[tactic(auto, unfolding(crate::specs::Header::header_checks))]
     pub fn read(stream: &[u8]) -> Result<TpiHeader, TpiFault>
         ensures value { IfOk result (HasTpiHeader stream.now) }
-        // Nothing that has a header is refused.
+        // A stream that has a header is never refused.
         ensures found { (header : Header) → HasTpiHeader stream.now header → IsOk result }
         ensures first { Makes result (header_checks stream.now) }
         ensures checked { IfErr result (λ fault. fault ≢ TpiFault.Memory) }
@@ -86,7 +97,7 @@ impl TpiHeader {
         self.count
     }
 
-    /// How many bytes the records have together.
+    /// How many bytes the records have together, by the header.
     pub fn record_bytes(&self) -> u32
         ensures { result ≡ self.now.record_bytes }
     {

@@ -1,4 +1,4 @@
-//! Going over the records of a TPI stream.
+//! The iterator over the records of a TPI stream.
 
 ghost use Rattle.std.specs.Prelude.{◌≡◌, ◌∷◌, ◌<◌, length};
 ghost use Rattle.std.specs.Iterator.{YieldsFirstRef, item_count};
@@ -7,10 +7,9 @@ ghost use Rattle.tpi_records.specs.Records.{IsFramed, records_in};
 use byte_fields::u16_at;
 use std::marker::Model;
 
-/// The records of a TPI stream that are left, in order.
+/// The records of a TPI stream that are still to come, in order.
 ///
-/// Made by [`Records::iter`](crate::Records::iter). It holds the bytes that are left, and the
-/// records are lent from the stream.
+/// Made by [`Records::iter`](crate::Records::iter). Each record is lent from the stream.
 #[derive(Drop)]
 pub struct Iter<'a> {
     left: &'a [u8],
@@ -37,7 +36,7 @@ impl<'a> Iter<'a> {
     }
 }
 
-/// The record at the front of bytes that are records, and the bytes after it.
+/// The first record of `bytes`, and the bytes after it.
 fn split_record(bytes: &[u8]) -> (&[u8], &[u8])
     requires framed { IsFramed bytes.now }
     requires some { 0 < length bytes.now }

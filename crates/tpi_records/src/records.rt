@@ -1,4 +1,4 @@
-//! The type records of a TPI stream, one after the other.
+//! Reads the type records of a TPI stream.
 
 ghost use Rattle.std.specs.Prelude.{◌≡◌, ◌⊎◌, ◌↔◌, ◌+◌, ◌*◌, ◌^◌, ◌<◌, ◌≤◌, IsTrue, option_map, slice_get, length, take, drop, [], List, ℕ, IfOk, IfErr, IfSome};
 ghost use Rattle.std.specs.List.{AllByRecursion, concat};
@@ -13,7 +13,8 @@ use byte_fields::u16_at;
 use std::alloc::{Allocator, Global};
 use std::marker::Model;
 
-/// The length in bytes of the record that begins at `start` and has this type index.
+/// The length in bytes of the record that begins at `start`. Its type index is `index`, which a
+/// fault names.
 fn record_len(bytes: &[u8], start: usize, index: u32) -> Result<usize, TpiFault>
     requires { start < length bytes.now }
     ensures field { IfOk result (λ whole. whole ≡ number_at 2 bytes.now start + 2) }
@@ -47,7 +48,7 @@ fn record_at(bytes: &[u8], start: usize) -> &[u8]
     &bytes[start..start + whole]
 }
 
-/// The bytes that the header frames: those of the records.
+/// The bytes of the records, which the header frames.
 fn framed(stream: &[u8], header: TpiHeader) -> &[u8]
     requires { HasTpiHeader stream.now header }
     ensures value { result.now ≡ framed_bytes stream.now header }
@@ -57,7 +58,7 @@ fn framed(stream: &[u8], header: TpiHeader) -> &[u8]
     &stream[LENGTH..end]
 }
 
-/// Checks that these bytes are records, and as many as the header said.
+/// Checks that `bytes` are `said` records, one after the other.
 fn check_records(bytes: &[u8], said: u32) -> Result<(), TpiFault>
     requires { length bytes.now < 2 ^ 32 }
     ensures value { IfOk result (λ _. (records : List (List ℕ)) × Begins bytes.now records [] × (said ≡ length records)) }
@@ -75,7 +76,7 @@ fn check_records(bytes: &[u8], said: u32) -> Result<(), TpiFault>
     Ok(())
 }
 
-/// The bytes of the records and how many they are, once every check was made.
+/// Makes every check, and returns the bytes of the records and how many records there are.
 fn check(stream: &[u8]) -> Result<(&[u8], u32), TpiFault>
     ensures value { IfOk result (λ found. (records : List (List ℕ)) × HasRecords stream.now records × (found.0.now ≡ concat records) × (found.1 ≡ length records)) }
     ensures short { IfOk result (λ found. length found.0.now < 2 ^ 32) }
@@ -88,7 +89,7 @@ fn check(stream: &[u8]) -> Result<(&[u8], u32), TpiFault>
     Ok((bytes, count))
 }
 
-/// Where each record of these bytes begins. There are `count` of them.
+/// The start of each record of `bytes`. There are `count` records.
 fn record_starts<A: Allocator>(alloc: A, bytes: &[u8], count: u32) -> Result<Vec<u32, A>, TpiFault>
     requires { length bytes.now < 2 ^ 32 }
     ensures framed { IfOk result (λ _. IsFramed bytes.now) }
@@ -100,7 +101,7 @@ fn record_starts<A: Allocator>(alloc: A, bytes: &[u8], count: u32) -> Result<Vec
     let mut start = 0;
     let mut index = BEGIN;
     while start < bytes.len() {
-        // The step of the first pass again, so that both see the same records.
+        // Both passes take the same step, so they see the same records.
         let len = record_len(bytes, start, index)?;
         starts.push(start as u32)?;
         start += len;
@@ -111,7 +112,8 @@ fn record_starts<A: Allocator>(alloc: A, bytes: &[u8], count: u32) -> Result<Vec
 
 /// The type records of a TPI stream, lent from it.
 ///
-/// It keeps the stream and, for each record, where it begins: four bytes a record.
+/// Made by [`Records::read`]. It keeps a reference to the bytes of the records, and the start of
+/// each record in four bytes. ("The PDB TPI and IPI Streams", "Type Records".)
 #[derive(Drop)]
 pub struct Records<'a, A: Allocator = Global> {
     bytes: &'a [u8],
@@ -132,15 +134,23 @@ impl<'a, A: Allocator> Model for Records<'a, A> {
 impl<'a, A: Allocator + Copy> Records<'a, A> {
     /// Reads the records of a TPI stream.
     ///
-    /// The faults are met in the order of [`TpiFault`]'s variants. Every check is made before
-    /// any memory is asked for, and `Memory` is answered only where all of them hold. Bytes
-    /// behind the records are ignored. It reserves four bytes for each record that stands in the
-    /// stream, at once. ("The PDB TPI and IPI Streams", "Type Records".)
+    /// The faults, in the order in which they are checked:
+    ///
+    /// 1. `Short`, `Version`, `HeaderSize`, `Begin`, `End`, `Bytes`: as [`TpiHeader::read`].
+    /// 2. For each record in turn, `RecordShort`: the bytes end within its length field.
+    ///    `RecordLen`: the length field is below two, or the whole record would not be a multiple of
+    ///    four bytes long.
+    ///    `RecordShort`: the bytes end within the record.
+    /// 3. `RecordCount`: the header announces another number of records.
+    /// 4. `Memory`: out of memory for the table. Nothing is allocated before all checks passed.
+    ///
+    /// Bytes after the records are ignored. This allocates four bytes for each record, all at once.
+    /// ("The PDB TPI and IPI Streams", "Type Records".)
     pub fn read(alloc: A, stream: &'a [u8]) -> Result<Records<'a, A>, TpiFault>
         ensures value { IfOk result (HasRecords stream.now) }
-        // Nothing that has records is refused, but for want of memory.
+        // A stream that has records is refused only when out of memory.
         ensures found { (records : List (List ℕ)) → HasRecords stream.now records → IfErr result (λ fault. fault ≡ TpiFault.Memory) }
-        // Want of memory is answered only where the stream has no fault.
+        // The fault is `Memory` only where the stream has no fault.
         ensures first { IfErr result (λ fault. IsFirstFault stream.now fault
             ⊎ ((fault ≡ TpiFault.Memory) × ((records : List (List ℕ)) × HasRecords stream.now records))) }
         ensures few { IfOk result (λ records. 4 * length records ≤ length stream.now) }
@@ -156,13 +166,13 @@ impl<'a, A: Allocator> Records<'a, A> {
     pub fn len(&self) -> usize
         ensures value { result ≡ length self.now }
         ensures each { AllByRecursion IsRecord self.now }
-        // The type index of each record fits a u32.
+        // So the type index of each record fits in a u32.
         ensures few { result < 2 ^ 30 }
     {
         self.starts.len()
     }
 
-    /// How many bytes the records have together, their length fields included.
+    /// How many bytes the records have together, with their length fields.
     pub fn bytes_len(&self) -> u32
         ensures { result ≡ length (concat self.now) }
     {
@@ -176,9 +186,9 @@ impl<'a, A: Allocator> Records<'a, A> {
         self.starts.is_empty()
     }
 
-    /// The record at a position, whole: from its length field on.
+    /// The record at this position, from 0: the whole record, with its length field.
     ///
-    /// Positions count from 0; at one that no record has there is nothing. It takes no memory.
+    /// `None` where there is no such record. This does not allocate.
     #[tactic(auto, using(crate::proofs::TableLaws::record_there))]
     pub fn get(&self, position: usize) -> Option<&'a [u8]>
         ensures value { option_map (λ r. r.now) result ≡ slice_get self.now position }
@@ -188,9 +198,9 @@ impl<'a, A: Allocator> Records<'a, A> {
         Some(record_at(self.bytes, start))
     }
 
-    /// The records in order, each whole.
+    /// The records in order. Each one is lent whole, with its length field.
     ///
-    /// It takes no memory.
+    /// This does not allocate.
     pub fn iter(&self) -> Iter<'a>
         ensures { result ≡ self.now }
     {

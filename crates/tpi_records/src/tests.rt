@@ -1,11 +1,11 @@
-//! What no clause says: the texts of the faults, that a call succeeds, and refused growth.
+//! What no clause says: the texts of the faults, that a call succeeds, and out of memory.
 
 use crate::{Records, TpiFault, TpiHeader, tpi_header_bytes};
 use linked_list_allocator::LocalHeap;
 use std::alloc::Allocator;
 use std::test::Fail;
 
-/// Two records behind a header: a pointer to int, and an int with modifiers.
+/// A header and two records: a pointer to int, and an int with modifiers.
 const STREAM: [u8; 80] = [
     0x0B, 0xCA, 0x31, 0x01, 0x38, 0x00, 0x00, 0x00, 0x00, 0x10, 0x00, 0x00, 0x02, 0x10, 0x00, 0x00,
     0x18, 0x00, 0x00, 0x00, 0xFF, 0xFF, 0xFF, 0xFF, 0x04, 0x00, 0x00, 0x00, 0xFF, 0xFF, 0x03, 0x00,
@@ -87,7 +87,7 @@ fn an_end_that_is_too_large(rt: HostRuntime) {
 
 #[test]
 fn growth_is_refused(rt: HostRuntime) -> Result<(), Fail> {
-    // 64 records of a word each: a table of 256 bytes
+    // 64 records of four bytes each need a table of 256 bytes.
     let mut stream = [0u8; 312];
     stream[..56].copy_from_slice(&STREAM[..56]);
     stream[12] = 0x40;

@@ -4,7 +4,7 @@ use Rattle.msf_streams.specs.Image.{joined}
 use Rattle.msf_streams.proofs.PutLaws.{length_more, length_all}
 use Rattle.msf_streams.proofs.write.joined_len.Goals as goal
 
--- what stands for a part where there is none
+-- a placeholder for a position where there is no part
 abbrev no_part : Bor (List ℕ)
 no_part = record { ref_ptr = (0, 0); now = [] }
 

@@ -2,7 +2,7 @@ use Rattle.std.proofs.Common.{◌≡◌, Some, sym, ap, ◌∙◌, arith, refl, 
 use Rattle.msf_blocks.specs.Layout.{block_of}
 use Rattle.msf_blocks.specs.Superblock.{Fields}
 use Rattle.msf_streams.proofs.PieceLaws.{piece_here}
-use Rattle.msf_streams.proofs.lent.piece.Goals as goal
+use Rattle.msf_streams.proofs.streams.piece.Goals as goal
 
 pub returns-clause-some : goal.returns-clause-some
 returns-clause-some g c =
