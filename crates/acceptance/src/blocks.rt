@@ -1,7 +1,7 @@
 //! Numbers of blocks, and the free block maps.
 
-use crate::{put, sample};
 use msf_blocks::{MsfFault, Superblock, free_bit, is_block_size, is_map_block, nth_block};
+use samples::{put, sample};
 use std::test::Fail;
 
 #[test]

@@ -1,12 +1,10 @@
 //! Images: their lengths, their bytes, and writers that are refused memory or room.
 
-ghost use Rattle.std.specs.Prelude.{None};
-
-use crate::put;
 use linked_list_allocator::LocalHeap;
 use msf_blocks::{Out, Sink};
 use msf_streams::{WriteFault, image_len, write_image, write_parts};
 use pdb_info::{Settings, guid_of, info_bytes};
+use samples::{Narrow, put};
 use std::alloc::{Allocator, Global};
 use std::test::Fail;
 use tpi_records::tpi_header_bytes;
@@ -55,31 +53,6 @@ fn expected(alloc: Global) -> Result<Vec<u8>, Fail> {
     Ok(file)
 }
 
-/// Takes at most `step` bytes at a call, and `room` bytes in all.
-#[derive(Drop)]
-struct Narrow {
-    taken: Vec<u8>,
-    step: usize,
-    room: usize,
-    broken: bool,
-}
-
-impl Sink for Narrow {
-    ghost taken = { λ _. None };
-
-    ghost is_broken = { λ s. s.broken };
-
-    fn put(&mut self, bytes: &[u8]) -> usize {
-        let count = bytes.len().min(self.room).min(self.step);
-        if self.taken.extend_from_slice(&bytes[..count]).is_err() || count == 0 {
-            self.broken = true;
-            return 0;
-        }
-        self.room -= count;
-        count
-    }
-}
-
 /// Settings with blocks of this size.
 fn settings_of(block_size: u32) -> Result<Settings, Fail> {
     let guid = guid_of([
@@ -115,12 +88,7 @@ fn write_narrow<A: Allocator + Copy>(
     room: usize,
 ) -> Result<(Narrow, Option<WriteFault>), Fail> {
     let settings = settings_of(4096)?;
-    let mut out = Narrow {
-        taken: Vec::new(global),
-        step,
-        room,
-        broken: false,
-    };
+    let mut out = Narrow::new(global, step, room);
     let info = info_bytes(&settings);
     let types = tpi_header_bytes(0, 0);
     let fault = write_two(alloc, &settings, &info, &types, &mut out).err();

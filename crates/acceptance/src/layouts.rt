@@ -1,8 +1,8 @@
 //! The layout of the sample, and refused growth.
 
-use crate::{put, sample};
 use linked_list_allocator::LocalHeap;
 use msf_blocks::{In, Layout, MsfFault, Out, Sink, Source, put_all};
+use samples::{put, sample};
 use std::alloc::Allocator;
 use std::test::Fail;
 

@@ -1,4 +1,4 @@
-//! For the benchmark `bench/write`: writes a PDB file to standard output, whose stream of types has
+//! For the benchmark `bench/image`: writes a PDB file to standard output, whose stream of types has
 //! a header that announces no records, and so many bytes in all.
 #![tactic(auto)]
 

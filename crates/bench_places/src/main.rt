@@ -1,4 +1,4 @@
-//! For the benchmark `bench/leaves`: checks all type records of a PDB file and walks their places,
+//! For the benchmark `bench/places`: checks all type records of a PDB file and walks their places,
 //! as often as it is told.
 //!
 //! Its words are a file and how often. It prints how many records there are, and the sum of all

@@ -32,7 +32,7 @@ impl NameMap {
         ensures { named result ≡ named_in (buffer_of stream.now) (pair_at stream.now k) }
     {
         let offset = self.pairs_offset + 8 * k as usize;
-        let text = name_at(self.buffer(stream), u32_at(stream, offset)).unwrap();
+        let text = name_at(self.buffer(stream), u32_at(stream, offset)).unwrap_or_default();
         Name {
             text,
             stream: u32_at(stream, offset + 4),

@@ -1,5 +1,5 @@
 -- What an accepted file can't be besides.
-use Rattle.std.proofs.Common.{◌≡◌, ◌⊎◌, ℕ, List, Some, length, ap, ◌∙◌, arith, inl, inr}
+use Rattle.std.proofs.Common.{◌≡◌, ◌⊎◌, ◌<◌, ◌≤◌, ℕ, List, Some, length, ap, ◌∙◌, arith, inl, inr}
 use Rattle.std.specs.Prelude.{Result, Ok, Err, IfErr}
 use Rattle.byte_fields.specs.Bytes.{AreBytes}
 use Rattle.msf_blocks.specs.Layout.{LayoutView, HasLayout}
@@ -10,8 +10,11 @@ use Rattle.tpi_records.specs.declared.fault.TpiFault.{TpiFault}
 use Rattle.tpi_records.specs.declared.fault.TpiFault.TheVariants as tpi
 use Rattle.tpi_records.proofs.StreamLaws.{one_records, no_fault}
 use Rattle.type_trees.proofs.CycleLaws.{types_sound}
-use Rattle.pdb_merge.specs.Accepted.{IsAccepted, HasInfoFault, HasTypeStream, HasPdbFault}
-use Rattle.pdb_merge.specs.Fault.{of_tpi}
+use Rattle.type_trees.specs.Checked.{IsTypeFault}
+use Rattle.type_trees.specs.declared.fault.TypeFault.{TypeFault}
+use Rattle.type_trees.specs.declared.fault.TypeFault.TheVariants as types
+use Rattle.pdb_merge.specs.Accepted.{IsAccepted, HasTypeRecords, ListsRecords, HasLongInfo, HasInfoFault, HasStreamFault, HasRecordsFault, HasPdbFault}
+use Rattle.pdb_merge.specs.Fault.{of_tpi, of_type}
 use Rattle.pdb_merge.specs.declared.fault.PdbFault.{PdbFault}
 use Rattle.pdb_merge.specs.declared.fault.PdbFault.TheVariants as fault
 use Rattle.msf_blocks.proofs.OneLayoutLaws.{one_layout}
@@ -22,64 +25,99 @@ use Rattle.pdb_merge.proofs.StreamLaws.{is_listed}
 -- a fault of stream 1 is the file's
 pub info_refused : {A : Type 0} (file : List ℕ) (layout : LayoutView) (inner : PdbFault A) → HasLayout file layout → HasInfoFault file layout inner → HasPdbFault file inner
 info_refused file layout (fault.Msf inner) has refused = absurd refused
-info_refused file layout (fault.NoStream s) has refused = (layout, has, inl refused)
-info_refused file layout (fault.Info inner) has refused = (layout, has, refused.0, refused.1)
+info_refused file layout (fault.Stream inner) has refused = (layout, has, inl refused)
+info_refused file layout (fault.Info inner) has refused = (layout, has, inl refused)
 info_refused file layout (fault.Tpi inner) has refused = absurd refused
 info_refused file layout (fault.Type inner) has refused = absurd refused
 info_refused file layout fault.Memory has refused = absurd refused
 
--- a fault of stream 2 is the file's
-pub stream_refused : {A : Type 0} (file stream : List ℕ) (inner : TpiFault) (outer : PdbFault A) → HasTypeStream file stream → outer ≡ of_tpi inner
-    → IsFirstFault stream inner ⊎ ((inner ≡ tpi.Memory) × ((records : List (List ℕ)) × HasRecords stream records)) → HasPdbFault file outer ⊎ (outer ≡ fault.Memory)
-stream_refused file stream tpi.Memory outer has made refused = inr made
-stream_refused file stream inner outer has made (inl first) = inl (rw made (stream, has, first))
-stream_refused file stream inner outer has made (inr want) = inr (made ∙ ap of_tpi want.0)
+-- a fault of the bytes of stream 2 is one of stream 2
+pub stream_refused : {A : Type 0} (file : List ℕ) (layout : LayoutView) (stream : List ℕ) (inner : TpiFault) (outer : PdbFault A) → stream_text file layout 2 ≡ Some stream → outer ≡ of_tpi inner
+    → IsFirstFault stream inner ⊎ ((inner ≡ tpi.Memory) × ((records : List (List ℕ)) × HasRecords stream records)) → HasStreamFault file layout outer ⊎ (outer ≡ fault.Memory)
+stream_refused file layout stream tpi.Memory outer is made refused = inr made
+stream_refused file layout stream inner outer is made (inl first) = inl (rw made (stream, is, first))
+stream_refused file layout stream inner outer is made (inr want) = inr (made ∙ ap of_tpi want.0)
+
+-- a fault of the records is the file's
+pub type_refused : {A : Type 0} (file : List ℕ) (layout : LayoutView) (records : List (List ℕ)) (inner : TypeFault A) (outer : PdbFault A) → HasLayout file layout → HasLongInfo file layout
+    → ListsRecords file layout records → outer ≡ of_type inner → IsTypeFault records inner → HasPdbFault file outer ⊎ (outer ≡ fault.Memory)
+type_refused file layout records types.Memory outer has info lists made refused = inr made
+type_refused file layout records inner outer has info lists made (inl first) = inl (rw made (records, record { layout = layout; has_layout = has; lists = lists }, info, first))
+type_refused file layout records inner outer has info lists made (inr want) = inr (made ∙ ap of_type want.0)
 
 -- ---- accepted files
 
--- of a file, one list of bytes stands in a stream, whatever its layout is taken to be
-same_text : (file : List ℕ) (some other : LayoutView) (s : ℕ) (xs ys : List ℕ) → some ≡ other → stream_text file some s ≡ Some xs → stream_text file other s ≡ Some ys → xs ≡ ys
-same_text file some other s xs ys same is_x is_y = let there = rw same at is_x in cc
+-- a layout has one list of type records
+one_listed : (file : List ℕ) (layout : LayoutView) (some others : List (List ℕ)) → ListsRecords file layout some → ListsRecords file layout others → some ≡ others
+one_listed file layout some others s o =
+    let same : s.stream ≡ o.stream = let there = s.is_stream in let here = o.is_stream in cc in
+    one_records s.stream some others s.has_records (rw same o.has_records)
 
--- a file of bytes has one stream of type records
-one_stream : (file xs ys : List ℕ) → AreBytes file → HasTypeStream file xs → HasTypeStream file ys → xs ≡ ys
-one_stream file xs ys bytes has_x has_y =
-    same_text file has_x.layout has_y.layout 2 xs ys (one_layout file has_x.layout has_y.layout bytes has_x.has_layout has_y.has_layout) has_x.is_stream has_y.is_stream
+-- a file of bytes has one list of type records
+pub one_list_read : (file : List ℕ) (some others : List (List ℕ)) → AreBytes file → HasTypeRecords file some → HasTypeRecords file others → some ≡ others
+one_list_read file some others bytes s o =
+    let same = one_layout file s.layout o.layout bytes s.has_layout o.has_layout in
+    one_listed file o.layout some others (rw same at s.lists) o.lists
 
 -- a file is accepted with one list of records alone
 pub one_list : (file : List ℕ) (some others : List (List ℕ)) → IsAccepted file some → IsAccepted file others → some ≡ others
-one_list file some others is_s is_o =
-    one_records is_s.stream some others is_s.has_records (rw (one_stream file is_s.stream is_o.stream is_s.bytes is_s.has_stream is_o.has_stream) is_o.has_records)
+one_list file some others is_s is_o = one_list_read file some others is_s.bytes is_s.has is_o.has
+
+-- a stream 1 of enough bytes has no fault
+info_unrefused : {A : Type 0} (file : List ℕ) (layout : LayoutView) (inner : PdbFault A) → HasLongInfo file layout → HasInfoFault file layout inner → ⊥
+info_unrefused file layout (fault.Stream inner) (info, there, long) (few, is) = omega (arith, is_listed file layout 1 info there, few)
+info_unrefused file layout (fault.Info inner) (info, there, long) ((text, here, short), is) = let same : info ≡ text = cc in omega (arith, long, short, ap length same)
+info_unrefused file layout inner info refused = absurd refused
+
+-- a stream 2 that has records has no fault
+stream_unrefused : {A : Type 0} (file : List ℕ) (layout : LayoutView) (records : List (List ℕ)) (inner : PdbFault A) → ListsRecords file layout records → HasStreamFault file layout inner → ⊥
+stream_unrefused file layout records (fault.Stream inner) lists (few, is) = omega (arith, is_listed file layout 2 lists.stream lists.is_stream, few)
+stream_unrefused file layout records (fault.Tpi inner) lists (stream, there, first) =
+    let here = lists.is_stream in
+    let same : lists.stream ≡ stream = cc in
+    no_fault stream records inner (rw same at lists.has_records) first
+stream_unrefused file layout records inner lists refused = absurd refused
+
+-- a file that has type records has no fault on the way to them
+pub records_unrefused : {A : Type 0} (file : List ℕ) (records : List (List ℕ)) (inner : PdbFault A) → AreBytes file → HasTypeRecords file records → HasRecordsFault file inner → ⊥
+records_unrefused file records (fault.Msf inner) bytes is refused = let none = layout_holds file is.layout bytes is.has_layout in absurd cc
+records_unrefused {A = A} file records (fault.Stream inner) bytes is (layout, has, refused) =
+    stream_unrefused {A = A} file layout records (fault.Stream inner) (rw (one_layout file is.layout layout bytes is.has_layout has) at is.lists) refused
+records_unrefused {A = A} file records (fault.Tpi inner) bytes is (layout, has, refused) =
+    stream_unrefused {A = A} file layout records (fault.Tpi inner) (rw (one_layout file is.layout layout bytes is.has_layout has) at is.lists) refused
+records_unrefused file records (fault.Info inner) bytes is (layout, has, refused) = absurd refused
+records_unrefused file records (fault.Type inner) bytes is (layout, has, refused) = absurd refused
+records_unrefused file records fault.Memory bytes is (layout, has, refused) = absurd refused
+
+-- no stream of an accepted file has a fault
+streams_unrefused : {A : Type 0} (file : List ℕ) (records : List (List ℕ)) (inner : PdbFault A) → IsAccepted file records
+    → (layout : LayoutView) × HasLayout file layout × (HasInfoFault file layout inner ⊎ (HasLongInfo file layout × HasStreamFault file layout inner)) → ⊥
+streams_unrefused file records inner is (layout, has, inl refused) =
+    info_unrefused file layout inner (rw (one_layout file is.has.layout layout is.bytes is.has.has_layout has) at is.info) refused
+streams_unrefused file records inner is (layout, has, inr (info, refused)) =
+    stream_unrefused file layout records inner (rw (one_layout file is.has.layout layout is.bytes is.has.has_layout has) at is.has.lists) refused
 
 -- an accepted file has no fault
 pub accepted_unrefused : {A : Type 0} (file : List ℕ) (records : List (List ℕ)) (inner : PdbFault A) → IsAccepted file records → HasPdbFault file inner → ⊥
-accepted_unrefused file records (fault.Msf inner) is refused = let none = layout_holds file is.has_stream.layout is.bytes is.has_stream.has_layout in absurd cc
-accepted_unrefused file records (fault.NoStream s) is (layout, has, inl (one, few)) =
-    let path = is.has_stream in
-    let same = one_layout file path.layout layout is.bytes path.has_layout has in
-    let listed = is_listed file path.layout 1 path.has_info.0 path.has_info.1 in
-    let count = ap (λ (l : LayoutView). length l.streams) same in
-    omega (arith, listed, count, few)
-accepted_unrefused file records (fault.NoStream s) is (layout, has, inr (two, info, few)) =
-    let path = is.has_stream in
-    let same = one_layout file path.layout layout is.bytes path.has_layout has in
-    let listed = is_listed file path.layout 2 is.stream path.is_stream in
-    let count = ap (λ (l : LayoutView). length l.streams) same in
-    omega (arith, listed, count, few)
-accepted_unrefused file records (fault.Info inner) is (layout, has, (info, there, short), e) =
-    let path = is.has_stream in
-    let same = one_layout file path.layout layout is.bytes path.has_layout has in
-    let text = same_text file path.layout layout 1 path.has_info.0 info same path.has_info.1 there in
-    omega (arith, path.has_info.2, ap length text, short)
-accepted_unrefused file records (fault.Tpi inner) is (stream, has, first) =
-    no_fault stream records inner (rw (← one_stream file is.stream stream is.bytes is.has_stream has) is.has_records) first
-accepted_unrefused file records (fault.Type inner) is (stream, found, has, has_records, first) =
-    let text = one_stream file is.stream stream is.bytes is.has_stream has in
-    let list = one_records stream records found (rw (← text) is.has_records) has_records in
-    types_sound found inner (rw (← list) is.types) first
-accepted_unrefused file records fault.Memory is refused = absurd refused
+accepted_unrefused file records (fault.Msf inner) is refused = let none = layout_holds file is.has.layout is.bytes is.has.has_layout in absurd cc
+accepted_unrefused file records (fault.Type inner) is (found, has, info, first) =
+    let list = one_list_read file records found is.bytes is.has has in
+    types_sound found inner (rw list at is.types) first
+accepted_unrefused {A = A} file records (fault.Stream inner) is refused = streams_unrefused {A = A} file records (fault.Stream inner) is refused
+accepted_unrefused {A = A} file records (fault.Info inner) is refused = streams_unrefused {A = A} file records (fault.Info inner) is refused
+accepted_unrefused {A = A} file records (fault.Tpi inner) is refused = streams_unrefused {A = A} file records (fault.Tpi inner) is refused
+accepted_unrefused {A = A} file records fault.Memory is refused = streams_unrefused {A = A} file records fault.Memory is refused
 
--- where an accepted file is refused, memory was wanting
+-- ---- out of memory
+
+-- where a file that has type records is refused, it was out of memory
+pub records_want : {T A : Type 0} (file : List ℕ) (records : List (List ℕ)) (answer : Result T (PdbFault A)) → AreBytes file → HasTypeRecords file records
+    → IfErr answer (λ e. HasRecordsFault file e ⊎ (e ≡ fault.Memory)) → IfErr answer (λ e. e ≡ fault.Memory)
+records_want file records (Ok value) bytes is refused = tt
+records_want file records (Err e) bytes is (inl refused) = absurd (records_unrefused file records e bytes is refused)
+records_want file records (Err e) bytes is (inr memory) = memory
+
+-- where an accepted file is refused, it was out of memory
 pub wants_memory : {T A : Type 0} (file : List ℕ) (records : List (List ℕ)) (answer : Result T (PdbFault A)) → IsAccepted file records
     → IfErr answer (λ e. HasPdbFault file e ⊎ (e ≡ fault.Memory)) → IfErr answer (λ e. e ≡ fault.Memory)
 wants_memory file records (Ok types) is refused = tt

@@ -28,7 +28,7 @@ records_bytes stream records bytes has = bytes_each records (bytes_first (concat
 
 -- those of an accepted file are
 accepted_bytes : (file : List ℕ) (records : List (List ℕ)) → IsAccepted file records → AllByRecursion AreBytes records
-accepted_bytes file records is = records_bytes is.stream records (stream_is_bytes file is.has_stream.layout 2 is.stream is.bytes is.has_stream.is_stream) is.has_records
+accepted_bytes file records is = records_bytes is.has.lists.stream records (stream_is_bytes file is.has.layout 2 is.has.lists.stream is.bytes is.has.lists.is_stream) is.has.lists.has_records
 
 -- so is the blank of a tree that stands in records of bytes
 standing_bytes : (records : List (List ℕ)) (i : ℕ) (t : Tree) → AllByRecursion AreBytes records → Stands records i t → AreBytes (blank_of t)

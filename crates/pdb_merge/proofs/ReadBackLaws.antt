@@ -53,14 +53,12 @@ accepted_back settings records are few each bytes types =
     let info = info_text settings.age settings.guid in
     record {
       bytes = merged_bytes settings records are bytes;
-      stream = type_stream records;
-      has_stream = record {
+      has = record {
         layout = image_layout settings.block_size (map length (merged_texts settings records));
         has_layout = back.layout;
-        has_info = (info, back.streams 1, omega (arith, length-info settings.age settings.guid are.guid_long));
-        is_stream = back.streams 2;
+        lists = record { stream = type_stream records; is_stream = back.streams 2; has_records = stream_holds records each (omega (arith, few, are.limit_fits)) };
       };
-      has_records = stream_holds records each (omega (arith, few, are.limit_fits));
+      info = (info, back.streams 1, omega (arith, length-info settings.age settings.guid are.guid_long));
       types = types;
     }
 

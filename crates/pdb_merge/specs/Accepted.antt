@@ -1,5 +1,6 @@
 -- Which files are accepted, and with which types.
 use Rattle.std.specs.Prelude.{ℕ, ◌≡◌, ◌<◌, ◌≤◌, ◌⊎◌, List, Some, length}
+use Rattle.msf_streams.specs.declared.fault.StreamFault.TheVariants.{NoStream}
 use Rattle.byte_fields.specs.Bytes.{AreBytes}
 use Rattle.byte_fields.specs.Check.{first_failing}
 use Rattle.msf_blocks.specs.Layout.{LayoutView, HasLayout, layout_checks}
@@ -18,33 +19,44 @@ HasLongInfo file layout = (info : List ℕ) × (stream_text file layout 1 ≡ So
 abbrev pub HasShortInfo : List ℕ → LayoutView → Type 0
 HasShortInfo file layout = (info : List ℕ) × (stream_text file layout 1 ≡ Some info) × (length info < 28)
 
--- this is the stream of type records of the file: its stream 2, where the file has a layout and a stream 1 of at least 28 bytes
-pub record HasTypeStream (file stream : List ℕ) : Type 0 where
+-- a file with this layout has these type records: those of its stream 2
+pub record ListsRecords (file : List ℕ) (layout : LayoutView) (records : List (List ℕ)) : Type 0 where
+  pub stream : List ℕ
+  pub is_stream : stream_text file layout 2 ≡ Some stream
+  pub has_records : HasRecords stream records
+
+-- the file has a layout, and these type records
+pub record HasTypeRecords (file : List ℕ) (records : List (List ℕ)) : Type 0 where
   pub layout : LayoutView
   pub has_layout : HasLayout file layout
-  pub has_info : HasLongInfo file layout
-  pub is_stream : stream_text file layout 2 ≡ Some stream
+  pub lists : ListsRecords file layout records
 
--- the file is accepted with these records: it is made of bytes, and has a stream of type records, which has just these records, and they are types
+-- the file is accepted with these records: it is made of bytes, it has these type records and a stream 1 of at least 28 bytes, and the records are types
 pub record IsAccepted (file : List ℕ) (records : List (List ℕ)) : Type 0 where
   pub bytes : AreBytes file
-  pub stream : List ℕ
-  pub has_stream : HasTypeStream file stream
-  pub has_records : HasRecords stream records
+  pub has : HasTypeRecords file records
+  pub info : HasLongInfo file has.layout
   pub types : AreTypes records
 
 -- this is the fault of stream 1: that it isn't there, or that it is short
 abbrev pub HasInfoFault : {A : Type 0} → List ℕ → LayoutView → PdbFault A → Type 0
-HasInfoFault file layout (fault.NoStream s) = (s ≡ 1) × (length layout.streams < 2)
+HasInfoFault file layout (fault.Stream inner) = (length layout.streams ≤ 1) × (inner ≡ NoStream 1)
 HasInfoFault file layout (fault.Info inner) = HasShortInfo file layout × (inner ≡ InfoShort)
 HasInfoFault file layout _ = ⊥
 
--- this is the first fault of the file on the way to its types: of its layout; that it has no stream 1; that stream 1 is short; that it has no stream 2; of stream 2; of a record; a cycle of records
+-- this is the first fault of stream 2: that it isn't there, or of its bytes
+abbrev pub HasStreamFault : {A : Type 0} → List ℕ → LayoutView → PdbFault A → Type 0
+HasStreamFault file layout (fault.Stream inner) = (length layout.streams ≤ 2) × (inner ≡ NoStream 2)
+HasStreamFault file layout (fault.Tpi inner) = (stream : List ℕ) × (stream_text file layout 2 ≡ Some stream) × IsFirstFault stream inner
+HasStreamFault file layout _ = ⊥
+
+-- this is the first fault of the file on the way to its type records: of its layout, else of stream 2
+abbrev pub HasRecordsFault : {A : Type 0} → List ℕ → PdbFault A → Type 0
+HasRecordsFault file (fault.Msf inner) = first_failing (layout_checks file) ≡ Some inner
+HasRecordsFault file inner = (layout : LayoutView) × HasLayout file layout × HasStreamFault file layout inner
+
+-- this is the first fault of the file on the way to its types: of its layout, else of stream 1, else of stream 2, else of a record, else a cycle of records
 abbrev pub HasPdbFault : {A : Type 0} → List ℕ → PdbFault A → Type 0
 HasPdbFault file (fault.Msf inner) = first_failing (layout_checks file) ≡ Some inner
-HasPdbFault file (fault.NoStream s) =
-    (layout : LayoutView) × HasLayout file layout × (((s ≡ 1) × (length layout.streams < 2)) ⊎ ((s ≡ 2) × HasLongInfo file layout × (length layout.streams < 3)))
-HasPdbFault file (fault.Info inner) = (layout : LayoutView) × HasLayout file layout × HasShortInfo file layout × (inner ≡ InfoShort)
-HasPdbFault file (fault.Tpi inner) = (stream : List ℕ) × HasTypeStream file stream × IsFirstFault stream inner
-HasPdbFault file (fault.Type inner) = (stream : List ℕ) × (records : List (List ℕ)) × HasTypeStream file stream × HasRecords stream records × HasTypeFault records inner
-HasPdbFault file fault.Memory = ⊥
+HasPdbFault file (fault.Type inner) = (records : List (List ℕ)) × (has : HasTypeRecords file records) × HasLongInfo file has.layout × HasTypeFault records inner
+HasPdbFault file inner = (layout : LayoutView) × HasLayout file layout × (HasInfoFault file layout inner ⊎ (HasLongInfo file layout × HasStreamFault file layout inner))

@@ -26,8 +26,8 @@ of_msf inner = fault.Msf inner
 
 -- of its streams
 abbrev pub of_stream : {A : Type 0} → StreamFault → PdbFault A
-of_stream (streams.NoStream s) = fault.NoStream s
 of_stream streams.Memory = fault.Memory
+of_stream inner = fault.Stream inner
 
 -- of the info stream
 abbrev pub of_info : {A : Type 0} → InfoFault → PdbFault A

@@ -15,16 +15,16 @@ use type_trees::{JoinFault, TypeFault};
 
 /// The first fault of a file on the way to its types.
 ///
-/// The container comes first, then stream 1, then stream 2 and its records. Want of memory is
+/// The container comes first, then stream 1, then stream 2 and its records. Out of memory is
 /// `Memory` wherever it was met: the faults inside the others never are it.
 #[derive(Debug, PartialEq, Eq, Drop, Error)]
 pub enum PdbFault<A: Allocator = Global> {
     /// The container is refused.
     #[error("{0}")]
     Msf(MsfFault),
-    /// The container has no stream of this number, which is 1 or 2.
-    #[error("11 NoStream {0}")]
-    NoStream(u32),
+    /// The container lacks a stream.
+    #[error("{0}")]
+    Stream(StreamFault),
     /// The info stream is refused.
     #[error("{0}")]
     Info(InfoFault),
@@ -63,8 +63,8 @@ impl<A: Allocator> From<StreamFault> for PdbFault<A> {
 
     fn from(fault: StreamFault) -> PdbFault<A> {
         match fault {
-            StreamFault::NoStream(s) => PdbFault::NoStream(s),
             StreamFault::Memory => PdbFault::Memory,
+            fault => PdbFault::Stream(fault),
         }
     }
 }

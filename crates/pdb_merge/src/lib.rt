@@ -37,6 +37,6 @@ pub use fault::{AddFault, MergeFault, OutFault, PdbFault};
 pub use files::merge_files;
 pub use merge::Merge;
 pub use merged::merge_to;
-pub use read::read_types;
+pub use read::{read_records, read_types};
 pub use summary::Summary;
 pub use written::write_merged;

@@ -1,14 +1,14 @@
-//! The types of a file.
+//! The type records of a file, and its types.
 
-ghost use Rattle.std.specs.Prelude.{◌≡◌, ◌⊎◌, ℕ, List, None, OnOk, IfOk, IfErr};
+ghost use Rattle.std.specs.Prelude.{◌≡◌, ◌⊎◌, ◌*◌, ◌≤◌, ℕ, List, None, length, OnOk, IfOk, IfErr};
 ghost use Rattle.byte_fields.specs.Check.{first_failing};
 ghost use Rattle.msf_blocks.specs.Layout.{layout_checks};
-ghost use Rattle.pdb_merge.specs.Accepted.{IsAccepted, HasPdbFault, HasTypeStream, HasLongInfo, HasInfoFault};
+ghost use Rattle.pdb_merge.specs.Accepted.{IsAccepted, HasPdbFault, HasTypeRecords, ListsRecords, HasRecordsFault, HasStreamFault, HasLongInfo, HasInfoFault};
 
 use crate::buffer::Buffer;
 use crate::fault::PdbFault;
 use msf_blocks::Layout;
-use msf_streams::gather;
+use msf_streams::{StreamFault, gather};
 use pdb_info::InfoFault;
 use std::alloc::Allocator;
 use tpi_records::Records;
@@ -23,13 +23,13 @@ const TPI_STREAM: u32 = 2;
 /// How many bytes the header of the info stream has.
 const INFO_LENGTH: u32 = 28;
 
-/// Checks that stream 1 has the bytes of a header. What they say isn't looked at.
+/// Checks that stream 1 has the bytes of a header. What they say is not looked at.
 fn check_info<A: Allocator>(layout: &Layout<A>) -> Result<(), PdbFault<A>>
     ensures value { OnOk result ((file : List ℕ) → HasLongInfo file layout.now) }
     ensures first { IfErr result (λ fault. (file : List ℕ) → HasInfoFault file layout.now fault) }
 {
     let Some(size) = layout.size(INFO_STREAM) else {
-        return Err(PdbFault::NoStream(INFO_STREAM));
+        return Err(PdbFault::Stream(StreamFault::NoStream(INFO_STREAM)));
     };
     if size < INFO_LENGTH {
         return Err(PdbFault::Info(InfoFault::InfoShort));
@@ -37,56 +37,90 @@ fn check_info<A: Allocator>(layout: &Layout<A>) -> Result<(), PdbFault<A>>
     Ok(())
 }
 
-/// The bytes of stream 2 of a file whose stream 1 has the bytes of a header.
-///
-/// They are kept in memory of `keep`, and the layout in memory of `alloc`.
-fn type_stream<A: Allocator + Copy>(
-    alloc: A,
-    keep: A,
-    file: &[u8],
-) -> Result<Vec<u8, A>, PdbFault<A>>
-    ensures value { IfOk result (λ stream. HasTypeStream file.now stream.items) }
-    ensures first { IfErr result (λ fault. HasPdbFault file.now fault ⊎ (fault ≡ PdbFault.Memory)) }
-    ensures memory { IfErr result (λ fault. fault ≡ PdbFault.Memory → first_failing (layout_checks file.now) ≡ None) }
-{
-    let layout = Layout::read(alloc, file)?;
-    check_info(&layout)?;
-    let stream = gather(keep, file, &layout, TPI_STREAM)?;
-    Ok(stream)
-}
-
 impl<A: Allocator + Copy> Buffer<A> {
-    /// Stores the bytes of a file's types in place of what was held, and lends the types.
+    /// Gives up what was held.
+    fn clear(&mut self) {
+        self.bytes = Vec::new(self.alloc);
+    }
+
+    /// Stores the bytes of stream 2 of a file with this layout, and lends its records.
+    fn stream_records(
+        &mut self,
+        alloc: A,
+        file: &[u8],
+        layout: &Layout<A>,
+    ) -> Result<Records<'_, A>, PdbFault<A>>
+        requires { layout.now.superblock.num_blocks * layout.now.superblock.block_size ≤ length file.now }
+        ensures value { IfOk result (ListsRecords file.now layout.now) }
+        ensures first { IfErr result (λ fault. HasStreamFault file.now layout.now fault ⊎ (fault ≡ PdbFault.Memory)) }
+    {
+        self.bytes = gather(self.alloc, file, layout, TPI_STREAM)?;
+        Ok(Records::read(alloc, &self.bytes)?)
+    }
+
+    /// Stores the stream of a file's type records in place of what was held, and lends the records.
+    fn records(&mut self, alloc: A, file: &[u8]) -> Result<Records<'_, A>, PdbFault<A>>
+        ensures value { IfOk result (HasTypeRecords file.now) }
+        ensures first { IfErr result (λ fault. HasRecordsFault file.now fault ⊎ (fault ≡ PdbFault.Memory)) }
+    {
+        self.clear();
+        let layout = Layout::read(alloc, file)?;
+        self.stream_records(alloc, file, &layout)
+    }
+
+    /// Stores the stream of a file's types in place of what was held, and lends the types.
     fn types(&mut self, alloc: A, file: &[u8]) -> Result<Types<'_, A>, PdbFault<A>>
         ensures value { IfOk result (IsAccepted file.now) }
         ensures first { IfErr result (λ fault. HasPdbFault file.now fault ⊎ (fault ≡ PdbFault.Memory)) }
         ensures memory { IfErr result (λ fault. fault ≡ PdbFault.Memory → first_failing (layout_checks file.now) ≡ None) }
     {
-        self.bytes = Vec::new(self.alloc);
-        self.bytes = type_stream(alloc, self.alloc, file)?;
-        let records = Records::read(alloc, &self.bytes)?;
+        self.clear();
+        let layout = Layout::read(alloc, file)?;
+        check_info(&layout)?;
+        let records = self.stream_records(alloc, file, &layout)?;
         Ok(Types::check(alloc, records)?)
     }
 }
 
-/// Reads the types of a file: the records of its stream 2, which are lent from the buffer.
+/// Reads the type records of a file: those of its stream 2, which are lent from the buffer.
+///
+/// The faults come in this order: those of the container; a container without a stream 2; those of
+/// that stream. Nothing else of the file is looked at. What the buffer held is given up first;
+/// after a refusal it may be handed in again. The bytes of the stream are allocated by the
+/// allocator of the buffer, all else by `alloc`.
+pub fn read_records<'a, A: Allocator + Copy>(
+    alloc: A,
+    file: &'a [u8],
+    buffer: &'a mut Buffer<A>,
+) -> Result<Records<'a, A>, PdbFault<A>>
+    ensures value { IfOk result (HasTypeRecords file.now) }
+    // A file that has type records is refused only for out of memory.
+    ensures found { (records : List (List ℕ)) → HasTypeRecords file.now records → IfErr result (λ fault. fault ≡ PdbFault.Memory) }
+    ensures first { IfErr result (λ fault. HasRecordsFault file.now fault ⊎ (fault ≡ PdbFault.Memory)) }
+{
+    buffer.records(alloc, file)
+}
+
+/// Reads the types of a file: its type records, which are lent from the buffer, and which are
+/// checked.
 ///
 /// The faults come in this order: those of the container; a container without a stream 1; a
 /// stream 1 with fewer bytes than a header, of which nothing else is looked at; a container
 /// without a stream 2; those of that stream; those of its records, in order, of each its leaf and
 /// then its references; and last a cycle of references. What the buffer held is given up first,
 /// so that the streams of two files are never in memory at once; after a refusal it may be handed
-/// in again. Its bytes come from its own allocator, all else from `alloc`.
+/// in again. The bytes of the stream are allocated by the allocator of the buffer, all else by
+/// `alloc`.
 pub fn read_types<'a, A: Allocator + Copy>(
     alloc: A,
     file: &'a [u8],
     buffer: &'a mut Buffer<A>,
 ) -> Result<Types<'a, A>, PdbFault<A>>
     ensures value { IfOk result (IsAccepted file.now) }
-    // Nothing that is accepted is refused, but for want of memory.
+    // A file that is accepted is refused only for out of memory.
     ensures found { (records : List (List ℕ)) → IsAccepted file.now records → IfErr result (λ fault. fault ≡ PdbFault.Memory) }
     ensures first { IfErr result (λ fault. HasPdbFault file.now fault ⊎ (fault ≡ PdbFault.Memory)) }
-    // Want of memory is answered only where the container has no fault.
+    // Out of memory is answered only where the container has no fault.
     ensures memory { IfErr result (λ fault. fault ≡ PdbFault.Memory → first_failing (layout_checks file.now) ≡ None) }
 {
     buffer.types(alloc, file)

@@ -6,12 +6,12 @@ mod merging;
 mod sizes;
 
 use crate::{Buffer, MergeFault, PdbFault, read_types};
-use acceptance::{put, sample};
 use cv_leaves::LeafFault;
 use linked_list_allocator::LocalHeap;
 use msf_blocks::MsfFault;
 use msf_streams::StreamFault;
 use pdb_info::InfoFault;
+use samples::{put, sample};
 use std::alloc::{Allocator, Global};
 use std::test::Fail;
 use tpi_records::TpiFault;
@@ -41,11 +41,15 @@ const ROWS: [Row; 13] = [
     (0, b"", Ok((2, 24, 1))),
     (0, b"m", Err(PdbFault::Msf(MsfFault::Magic))),
     // one stream, two streams, and two of which the last is short
-    (2048, b"\x01", Err(PdbFault::NoStream(1))),
+    (
+        2048,
+        b"\x01",
+        Err(PdbFault::Stream(StreamFault::NoStream(1))),
+    ),
     (
         2048,
         b"\x02\0\0\0\0\0\0\0\x34\0\0\0\x05",
-        Err(PdbFault::NoStream(2)),
+        Err(PdbFault::Stream(StreamFault::NoStream(2))),
     ),
     (
         2048,
@@ -100,7 +104,7 @@ fn each_fault_has_its_text(rt: HostRuntime) -> Result<(), Fail> {
     };
     for (fault, text) in [
         (PdbFault::Msf(MsfFault::Magic), "2 Magic"),
-        (PdbFault::NoStream(1), "11 NoStream 1"),
+        (PdbFault::Stream(StreamFault::NoStream(1)), "11 NoStream 1"),
         (PdbFault::Info(InfoFault::InfoShort), "12 InfoShort"),
         (PdbFault::Tpi(TpiFault::Short), "16 TpiShort"),
         (PdbFault::Type(leaf), "index 0x1001: 25 Leaf 0x150a"),

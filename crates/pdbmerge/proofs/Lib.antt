@@ -1,7 +1,1 @@
-pub mod InputLaws
-pub mod MergeLaws
-pub mod RecordsLaws
-pub mod StreamsLaws
-pub mod TextLaws
 pub mod IndexLaws
-pub mod TypesLaws

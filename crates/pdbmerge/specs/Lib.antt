@@ -1,14 +1,3 @@
-pub mod Checked
-pub mod Fault
 pub mod Index
-pub mod Info
-pub mod Input
 pub mod Line
-pub mod Merge
 pub mod Program
-pub mod Record
-pub mod Records
-pub mod Run
-pub mod Streams
-pub mod Text
-pub mod Types

@@ -2,7 +2,7 @@
 use Rattle.std.specs.Prelude.{◌≢◌}
 use Rattle.pdbmerge.specs.declared.ProgramFault.{ProgramFault}
 use Rattle.pdbmerge.specs.declared.ProgramFault.TheVariants.{ReadOne}
-use Rattle.pdbmerge.specs.declared.input.ReadFault.TheVariants as reads
+use Rattle.pdb_commands.specs.declared.input.ReadFault.TheVariants as reads
 
 -- out of memory is a fault of the run, and never of reading one of several files
 abbrev pub IsOnce : ProgramFault → Type 0

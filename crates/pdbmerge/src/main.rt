@@ -1,44 +1,28 @@
 //! The command `pdbmerge`: merges the types of Program Database (PDB) files, and shows what files
 //! hold.
 //!
-//! `line` reads the words and `input` a file; each command has a file of its own. A command that
-//! shows makes its whole text before any of it is written; `merge` writes into an `output`, which
-//! is created at its first write. What a command refuses, it refuses with a fault of
-//! `fault`. This file joins these to the system: arguments, files, the standard streams and the
-//! exit status.
+//! `line` reads the arguments, `index` a type index among them; `output` is a file that is created
+//! at its first write. The commands are those of `pdb_commands`. This file joins these to the
+//! system: arguments, files, the standard streams and the exit status.
 #![tactic(auto)]
 
 ghost use Rattle.std.specs.Prelude.{◌≡◌, IfErr};
 ghost use Rattle.pdbmerge.specs.Program.{IsOnce};
 ghost use Rattle.pdbmerge.specs.declared.ProgramFault.TheVariants.{Run};
-ghost use Rattle.pdbmerge.specs.declared.fault.RunFault.TheVariants.{Memory};
+ghost use Rattle.pdb_commands.specs.declared.fault.RunFault.TheVariants.{Memory};
 
-mod check;
-mod fault;
 mod index;
-mod info;
-mod input;
 mod line;
-mod merge;
 mod output;
-mod record;
-mod records;
-mod show;
-mod streams;
-mod text;
-mod types;
 
-use check::run_check;
-use fault::RunFault;
-use info::run_info;
-use input::{ReadFault, read_all};
 use line::{Line, LineFault, USAGE, read_line};
-use merge::run_merge;
 use msf_blocks::{In, Out, put_all};
 use output::NewFile;
+use pdb_commands::{
+    ReadFault, RunFault, read_all, run_check, run_info, run_merge, run_record, run_records,
+    run_streams, run_types,
+};
 use pdb_info::Settings;
-use record::run_record;
-use records::run_records;
 use std::alloc::{AllocError, AllocFailed};
 use std::hash::{BuildHasher, BuildHasherDefault, FoldHasher, RandomState};
 use std::io::{self, ErrorKind, writer};
@@ -46,9 +30,7 @@ use std::process::ExitCode;
 use std::random::RandomSource;
 use std::rt::{Env, Files};
 use std::{env, fs};
-use streams::run_streams;
 use thiserror::Error;
-use types::run_types;
 
 /// Why the program didn't do what the words ask for.
 #[derive(Debug, PartialEq, Eq, Drop, Error)]

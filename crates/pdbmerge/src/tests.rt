@@ -1,9 +1,3 @@
-//! What no clause says: rows of bytes and the texts that are wanted, that calls succeed with
-//! ample memory, and what readers, writers and heaps that fail lead to.
+//! What no clause says: what the arguments mean.
 
-mod growth;
 mod lines;
-mod merge;
-mod reading;
-mod shown;
-mod writing;

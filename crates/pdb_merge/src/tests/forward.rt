@@ -1,9 +1,10 @@
 //! Records that name later ones, and cycles.
 
-use super::merging::{LIMIT, M, P, Q0, Q1, Q2, Q3, file_of, file_with, hasher, merged, settings};
+use super::merging::{LIMIT, M, P, Q0, Q1, Q2, Q3, file_of, hasher, merged, settings};
 use crate::{Buffer, merge_files, merge_to, read_types};
 use linked_list_allocator::LocalHeap;
 use msf_blocks::Out;
+use samples::pdb;
 use std::alloc::{Allocator, Global};
 use std::test::Fail;
 
@@ -79,8 +80,8 @@ fn chain(alloc: Global, pointers: u32, forward: bool) -> Result<Vec<u8>, Fail> {
 
 #[test]
 fn a_forward_chain_merges_as_the_chain_turned_round(rt: HostRuntime) -> Result<(), Fail> {
-    let forward = file_with(rt.alloc(), 10_000, &chain(rt.alloc(), 9_999, true)?)?;
-    let turned = file_with(rt.alloc(), 10_000, &chain(rt.alloc(), 9_999, false)?)?;
+    let forward = pdb(rt.alloc(), 10_000, &chain(rt.alloc(), 9_999, true)?)?;
+    let turned = pdb(rt.alloc(), 10_000, &chain(rt.alloc(), 9_999, false)?)?;
     let levels = said(rt.alloc(), rt.alloc(), &forward)?;
     assert_eq!(rt; levels.as_str(), "10000");
     let (of_forward, first) = merged(rt.alloc(), &[forward.as_slice()], LIMIT)?;
@@ -156,8 +157,8 @@ fn merges_are_refused_growth_in_turn(rt: HostRuntime) -> Result<(), Fail> {
 
 #[test]
 fn a_merge_of_a_chain_is_refused_growth_in_turn(rt: HostRuntime) -> Result<(), Fail> {
-    let forward = file_with(rt.alloc(), 10_000, &chain(rt.alloc(), 9_999, true)?)?;
-    let turned = file_with(rt.alloc(), 10_000, &chain(rt.alloc(), 9_999, false)?)?;
+    let forward = pdb(rt.alloc(), 10_000, &chain(rt.alloc(), 9_999, true)?)?;
+    let turned = pdb(rt.alloc(), 10_000, &chain(rt.alloc(), 9_999, false)?)?;
     let mut refused = 0u32;
     for size in 0..48usize {
         let heap = LocalHeap::new(rt.alloc(), 131_072 * size)?;

@@ -1,21 +1,18 @@
 //! Merging: what is written for some lists of files, the faults, sinks that break, and growth
 //! that is refused.
 
-ghost use Rattle.std.specs.Prelude.{None};
-
 use crate::{
     AddFault, Buffer, Merge, MergeFault, OutFault, PdbFault, Summary, merge_files, merge_to,
     write_merged,
 };
-use acceptance::sample;
 use linked_list_allocator::LocalHeap;
-use msf_blocks::{MsfFault, Out, Sink};
-use msf_streams::{WriteFault, write_image};
-use pdb_info::{Settings, guid_of, info_bytes};
+use msf_blocks::{MsfFault, Out};
+use msf_streams::WriteFault;
+use pdb_info::{Settings, guid_of};
+use samples::{Narrow, pdb, sample};
 use std::alloc::{Allocator, Global};
 use std::hash::{BuildHasherDefault, FoldHasher};
 use std::test::Fail;
-use tpi_records::tpi_header_bytes;
 use type_trees::Canon;
 
 /// How many bytes the types of a file may have together, where nothing else is said.
@@ -113,39 +110,9 @@ fn joined(alloc: Global, records: &[&[u8]]) -> Result<Vec<u8>, Fail> {
     Ok(bytes)
 }
 
-/// Writes a file with these streams 1 and 2.
-#[tactic(auto, using(msf_blocks::proofs::SizeLaws::size_4096))]
-fn write_two<'a>(
-    alloc: Global,
-    info: &'a [u8],
-    types: &'a [u8],
-    file: &mut Vec<u8>,
-) -> Result<(), WriteFault> {
-    let block_size = 4096;
-    write_image(
-        alloc,
-        block_size,
-        &[&[], info, types, &[], &[]],
-        &mut Out::new(file),
-    )
-}
-
 /// A file with these records.
 pub(super) fn file_of(alloc: Global, records: &[&[u8]]) -> Result<Vec<u8>, Fail> {
-    file_with(alloc, records.len(), &joined(alloc, records)?)
-}
-
-/// A file with the bytes of this many records.
-pub(super) fn file_with(alloc: Global, count: usize, bytes: &[u8]) -> Result<Vec<u8>, Fail> {
-    if count > 20_000 || bytes.len() > 10_000_000 {
-        return Err("too many records for a test".into());
-    }
-    let mut types = Vec::new(alloc);
-    types.extend_from_slice(&tpi_header_bytes(count as u32, bytes.len() as u32))?;
-    types.extend_from_slice(bytes)?;
-    let mut file = Vec::new(alloc);
-    write_two(alloc, &info_bytes(&settings(LIMIT)?), &types, &mut file)?;
-    Ok(file)
+    pdb(alloc, records.len(), &joined(alloc, records)?)
 }
 
 /// Merges files, and says what was answered and written.
@@ -294,53 +261,14 @@ fn a_merge_goes_on_after_a_refusal(rt: HostRuntime) -> Result<(), Fail> {
     Ok(())
 }
 
-/// Takes so many bytes in all, and at most `step` at a time; then it is broken. It doesn't tell
-/// its bytes, and keeps them only where it has a list for them.
-#[derive(Drop)]
-struct Narrow {
-    taken: Option<Vec<u8>>,
-    count: usize,
-    room: usize,
-    step: usize,
-    broken: bool,
-}
-
-impl Sink for Narrow {
-    ghost taken = { λ _. None };
-
-    ghost is_broken = { λ s. s.broken };
-
-    fn put(&mut self, bytes: &[u8]) -> usize {
-        let count = bytes.len().min(self.room).min(self.step);
-        let kept = match &mut self.taken {
-            Some(taken) => taken.extend_from_slice(&bytes[..count]).is_ok(),
-            None => true,
-        };
-        if !kept || count == 0 {
-            self.broken = true;
-            return 0;
-        }
-        self.room -= count;
-        self.count = self.count.saturating_add(count);
-        count
-    }
-}
-
 /// Merges a file into a sink that takes so many bytes, and says whether it broke.
 fn merged_into(
     alloc: Global,
     file: &[u8],
     room: usize,
     step: usize,
-    taken: Option<Vec<u8>>,
 ) -> Result<(Narrow, bool), Fail> {
-    let mut out = Narrow {
-        taken,
-        count: 0,
-        room,
-        step,
-        broken: false,
-    };
+    let mut out = Narrow::new(alloc, step, room);
     let answer = merge_to(alloc, &[file], &settings(LIMIT)?, &mut out, hasher());
     Ok((out, answer == Err(OutFault::Write)))
 }
@@ -349,8 +277,8 @@ fn merged_into(
 fn sinks_that_break_after_each_byte(rt: HostRuntime) -> Result<(), Fail> {
     let want = file_of(rt.alloc(), &[])?;
     for room in 0..want.len() {
-        let (out, broke) = merged_into(rt.alloc(), &want, room, usize::MAX, None)?;
-        assert!(rt; broke && out.count == room);
+        let (out, broke) = merged_into(rt.alloc(), &want, room, usize::MAX)?;
+        assert!(rt; broke && out.taken.len() == room && want.starts_with(&out.taken));
     }
     Ok(())
 }
@@ -360,18 +288,11 @@ fn sinks_keep_the_first_bytes(rt: HostRuntime) -> Result<(), Fail> {
     let want = file_of(rt.alloc(), &[])?;
     for step in [1, 5000, usize::MAX] {
         for room in [0, 1, 55, 56, 4095, 4096, 4097, 12287, 28671] {
-            let taken = Some(Vec::new(rt.alloc()));
-            let (out, broke) = merged_into(rt.alloc(), &want, room, step, taken)?;
-            assert!(rt;
-                broke
-                    && out
-                        .taken
-                        .is_some_and(|taken| want.starts_with(&taken) && taken.len() == room)
-            );
+            let (out, broke) = merged_into(rt.alloc(), &want, room, step)?;
+            assert!(rt; broke && want.starts_with(&out.taken) && out.taken.len() == room);
         }
-        let taken = Some(Vec::new(rt.alloc()));
-        let (out, broke) = merged_into(rt.alloc(), &want, want.len(), step, taken)?;
-        assert!(rt; !broke && out.taken.is_some_and(|taken| taken == want));
+        let (out, broke) = merged_into(rt.alloc(), &want, want.len(), step)?;
+        assert!(rt; !broke && out.taken == want);
     }
     Ok(())
 }

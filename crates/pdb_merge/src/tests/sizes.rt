@@ -1,9 +1,10 @@
 //! Merging into blocks of each size.
 
-use super::merging::{GUID, LIMIT, M, P, Q0, Q1, V, file_of, file_with, hasher};
+use super::merging::{GUID, LIMIT, M, P, Q0, Q1, V, file_of, hasher};
 use crate::{Buffer, MergeFault, OutFault, Summary, merge_to, read_types};
 use msf_blocks::Out;
 use pdb_info::{Settings, guid_of};
+use samples::pdb;
 use std::alloc::Global;
 use std::test::Fail;
 
@@ -70,7 +71,7 @@ fn large_file(alloc: Global, last: u32) -> Result<Vec<u8>, Fail> {
         push_shape(&mut records, 65_536, number)?;
     }
     push_shape(&mut records, last, 127)?;
-    file_with(alloc, 128, &records)
+    pdb(alloc, 128, &records)
 }
 
 #[test]

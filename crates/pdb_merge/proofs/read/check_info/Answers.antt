@@ -3,7 +3,7 @@ use Rattle.pdb_merge.proofs.StreamLaws.{long_info, short_info, not_listed}
 use Rattle.pdb_merge.proofs.read.check_info.Goals as goal
 
 pub returns-in_default-clause-first : goal.returns-in_default-clause-first
-returns-in_default-clause-first g c = λ file. (refl, not_listed c.size.result c.args.layout.now.streams 1 c.size.ensures c.in_default.is)
+returns-in_default-clause-first g c = λ file. (omega (arith, not_listed c.size.result c.args.layout.now.streams 1 c.size.ensures c.in_default.is), refl)
 
 pub returns-then-size-lt-INFO_LENGTH-clause-first :
     goal.returns-then-size-lt-INFO_LENGTH-clause-first

@@ -1,21 +1,40 @@
-use Rattle.std.proofs.Common.{arith}
+use Rattle.std.proofs.Common.{arith, inl}
 use Rattle.std.proofs.lemmas.Result.{err_from_is_err_and}
-use Rattle.pdb_merge.proofs.AcceptedLaws.{stream_refused}
-use Rattle.pdb_merge.proofs.MemoryLaws.{layout_sound}
+use Rattle.pdb_merge.proofs.AcceptedLaws.{info_refused, type_refused}
+use Rattle.pdb_merge.proofs.MemoryLaws.{layout_want, layout_sound}
 use Rattle.pdb_merge.proofs.buffer.Buffer.types.Goals as goal
 
-pub returns-in_err-records-clause-first : goal.returns-in_err-records-clause-first
-returns-in_err-records-clause-first g c =
-    let p = err_from_is_err_and c.from_residual-in_err-records.result c.from_residual-in_err-records.ensures.1 in
-    rw p.1
-    (stream_refused c.args.file.now c.in_ok-self-inside.field-0.items c.in_err-records.field-0.0 p.0 c.in_ok-self-inside.ensures.value p.2 (rw c.deref.ensures.value at c.in_err-records.ensures.first))
+pub returns-in_err-layout-clause-memory : goal.returns-in_err-layout-clause-memory
+returns-in_err-layout-clause-memory g c =
+    let p = err_from_is_err_and c.from_residual.result c.from_residual.ensures.1 in
+    rw p.1 (layout_want c.args.file.now c.in_err-layout.field-0.0 p.0 p.2 c.in_err-layout.ensures.first)
+
+pub returns-in_err-check_info-clause-first : goal.returns-in_err-check_info-clause-first
+returns-in_err-check_info-clause-first g c =
+    let p = err_from_is_err_and c.from_residual-in_err-check_info.result c.from_residual-in_err-check_info.ensures.1 in
+    rw (p.1, p.2) (inl (info_refused c.args.file.now c.in_ok-layout.layout c.in_err-check_info.field-0.0 c.in_ok-layout.ensures.value (c.in_err-check_info.ensures.first c.args.file.now)))
+
+pub returns-in_err-check_info-clause-memory : goal.returns-in_err-check_info-clause-memory
+returns-in_err-check_info-clause-memory g c = layout_sound c.args.file.now c.in_ok-layout.layout c.from_residual-in_err-check_info.result (λ i. omega (arith, c.type_inv.file i)) c.in_ok-layout.ensures.value
 
 pub returns-in_err-records-clause-memory : goal.returns-in_err-records-clause-memory
-returns-in_err-records-clause-memory g c =
-    let has = c.in_ok-self-inside.ensures.value in
-    layout_sound c.args.file.now has.layout c.from_residual-in_err-records.result (λ i. omega (arith, c.type_inv.file i)) has.has_layout
+returns-in_err-records-clause-memory g c = layout_sound c.args.file.now c.in_ok-layout.layout c.from_residual-in_err-records.result (λ i. omega (arith, c.type_inv.file i)) c.in_ok-layout.ensures.value
+
+pub returns-in_err-check-clause-first : goal.returns-in_err-check-clause-first
+returns-in_err-check-clause-first g c =
+    let p = err_from_is_err_and c.from_residual-in_err-check.result c.from_residual-in_err-check.ensures.1 in
+    rw p.1
+    (type_refused c.args.file.now c.in_ok-layout.layout c.in_ok-records.records c.in_err-check.field-0.0 p.0 c.in_ok-layout.ensures.value (c.in_ok-check_info.ensures.value c.args.file.now) c.in_ok-records.ensures.value p.2 c.in_err-check.ensures.first)
 
 pub returns-in_err-check-clause-memory : goal.returns-in_err-check-clause-memory
-returns-in_err-check-clause-memory g c =
-    let has = c.in_ok-self-inside.ensures.value in
-    layout_sound c.args.file.now has.layout c.from_residual-in_err-check.result (λ i. omega (arith, c.type_inv.file i)) has.has_layout
+returns-in_err-check-clause-memory g c = layout_sound c.args.file.now c.in_ok-layout.layout c.from_residual-in_err-check.result (λ i. omega (arith, c.type_inv.file i)) c.in_ok-layout.ensures.value
+
+pub returns-clause-value : goal.returns-clause-value
+returns-clause-value g c =
+    rw c.in_ok-check.ensures.value.0
+    (record {
+      bytes = λ i. omega (arith, c.type_inv.file i);
+      has = record { layout = c.in_ok-layout.layout; has_layout = c.in_ok-layout.ensures.value; lists = c.in_ok-records.ensures.value };
+      info = c.in_ok-check_info.ensures.value c.args.file.now;
+      types = c.in_ok-check.ensures.value.1;
+    })

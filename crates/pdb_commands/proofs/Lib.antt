@@ -1,0 +1,6 @@
+pub mod InputLaws
+pub mod MergeLaws
+pub mod RecordsLaws
+pub mod StreamsLaws
+pub mod TextLaws
+pub mod TypesLaws

@@ -1,0 +1,23 @@
+-- What the command `check` prints.
+use Rattle.std.specs.Prelude.{ℕ, ◌≡◌, List, ◌∷◌, ◌++◌, length, codes}
+use Rattle.std.specs.List.{concat}
+use Rattle.type_trees.specs.Depth.{HasLevels}
+use Rattle.pdb_merge.specs.Accepted.{IsAccepted, HasPdbFault}
+use Rattle.pdb_commands.specs.Text.{word_line}
+use Rattle.pdb_commands.specs.declared.fault.RunFault.{RunFault}
+use Rattle.pdb_commands.specs.declared.fault.RunFault.TheVariants.{Pdb}
+
+-- what is printed of so many records, of so many bytes together, on so many levels
+unfoldable pub checked_lines : ℕ → ℕ → ℕ → List ℕ
+checked_lines records bytes levels =
+    codes "accepted" ++ 10 ∷ word_line (codes "records") records ++ word_line (codes "bytes") bytes ++ word_line (codes "levels") levels
+
+-- `check` prints this text for the file: that it is accepted, and how many records, bytes and levels of types it has
+abbrev pub ShowsChecked : List ℕ → List ℕ → Type 0
+ShowsChecked file text =
+    (records : List (List ℕ)) × (levels : ℕ) × IsAccepted file records × HasLevels records levels × (text ≡ checked_lines (length records) (length (concat records)) levels)
+
+-- this is the first fault of the file on the way to its types
+abbrev pub HasNoAccepted : {A : Type 0} → List ℕ → RunFault A → Type 0
+HasNoAccepted file (Pdb fault) = HasPdbFault file fault
+HasNoAccepted file _ = ⊥

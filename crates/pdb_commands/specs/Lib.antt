@@ -1,0 +1,11 @@
+pub mod Checked
+pub mod Fault
+pub mod Info
+pub mod Input
+pub mod Merge
+pub mod Record
+pub mod Records
+pub mod Run
+pub mod Streams
+pub mod Text
+pub mod Types

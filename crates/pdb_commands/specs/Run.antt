@@ -1,0 +1,48 @@
+-- How a showing command answers: it reads a file whole, makes a text of it and prints that, or is refused.
+use Rattle.std.specs.Prelude.{ℕ, ◌≡◌, ◌<◌, ◌⊎◌, Bool, true, List, length, take, Option, Result, OnOk, IfErr}
+use Rattle.std.specs.Io.KnownBytes.{Appends}
+use Rattle.pdb_commands.specs.Input.{GivesAll, IsNotRead}
+use Rattle.pdb_commands.specs.declared.input.ReadFault.{ReadFault}
+use Rattle.pdb_commands.specs.declared.fault.RunFault.{RunFault}
+use Rattle.pdb_commands.specs.declared.fault.RunFault.TheVariants.{Read, Memory, Write}
+
+-- the source gave a file, and the sink took the text that shows it
+abbrev pub Prints : (List ℕ → List ℕ → Type 0) → ℕ → Option (List ℕ) → Option (List ℕ) → Option (List ℕ) → Option (List ℕ) → Type 0
+Prints Shows limit left_before left_after taken_before taken_after =
+    (file : List ℕ) × (text : List ℕ) × GivesAll left_before left_after limit file × Shows file text × Appends taken_before taken_after text
+
+-- the source gave a file, and the sink took a proper prefix of the text that shows it
+abbrev pub PrintsPart : (List ℕ → List ℕ → Type 0) → ℕ → Option (List ℕ) → Option (List ℕ) → Option (List ℕ) → Option (List ℕ) → Type 0
+PrintsPart Shows limit left_before left_after taken_before taken_after =
+    (file : List ℕ) × (text : List ℕ) × (count : ℕ) × GivesAll left_before left_after limit file × Shows file text × (count < length text) × Appends taken_before taken_after (take count text)
+
+-- the source gave a file that is refused with this fault
+abbrev pub GivesRefused : {A : Type 0} → (List ℕ → RunFault A → Type 0) → ℕ → Option (List ℕ) → Option (List ℕ) → RunFault A → Type 0
+GivesRefused Refuses limit left_before left_after fault = (file : List ℕ) × GivesAll left_before left_after limit file × Refuses file fault
+
+-- where the fault is one of reading, this holds of it
+abbrev pub IfRead : {A : Type 0} → (ReadFault → Type 0) → RunFault A → Type 0
+IfRead P (Read fault) = P fault
+IfRead P _ = Unit {0}
+
+-- where the fault is one of the file, this holds of it
+abbrev pub IfOfFile : {A : Type 0} → (RunFault A → Type 0) → RunFault A → Type 0
+IfOfFile P (Read fault) = Unit {0}
+IfOfFile P Memory = Unit {0}
+IfOfFile P Write = Unit {0}
+IfOfFile P fault = P fault
+
+-- a fault that can come of making the text
+abbrev pub IsOfText : {A : Type 0} → RunFault A → Type 0
+IsOfText (Read fault) = ⊥
+IsOfText Write = ⊥
+IsOfText _ = Unit {0}
+
+-- how a command that shows a file answers: it prints what shows the file, or is refused by reading or by the file's first fault; a sink that breaks took the first bytes of the text, and after any other refusal it is as it was
+pub record Answers {A W T : Type 0} (Shows : List ℕ → List ℕ → Type 0) (Refuses : List ℕ → RunFault A → Type 0) (limit : ℕ) (left_before left_after : Option (List ℕ)) (source_broken : Bool)
+    (taken : W → Option (List ℕ)) (is_broken : W → Bool) (before after : W) (result : Result T (RunFault A)) : Type 0 where
+  pub value : OnOk result (Prints Shows limit left_before left_after (taken before) (taken after))
+  pub read : IfErr result (IfRead (IsNotRead left_before left_after source_broken limit))
+  pub first : IfErr result (IfOfFile (GivesRefused Refuses limit left_before left_after))
+  pub write : IfErr result (λ fault. fault ≡ Write → (is_broken after ≡ true) × PrintsPart Shows limit left_before left_after (taken before) (taken after))
+  pub untouched : IfErr result (λ fault. (fault ≡ Write) ⊎ (after ≡ before))

@@ -1,0 +1,116 @@
+//! Why a command is refused.
+
+ghost use Rattle.std.specs.Prelude.{◌≡◌};
+ghost use Rattle.pdb_commands.specs.Fault.{of_read, of_info, of_pdb, of_merge, of_out};
+ghost use Rattle.pdb_commands.specs.declared.fault.RunFault.TheVariants.{Memory, Write};
+
+use crate::input::ReadFault;
+use cv_leaves::LeafFault;
+use msf_blocks::NotTaken;
+use pdb_info::InfoFault;
+use pdb_merge::{MergeFault, OutFault, PdbFault};
+use std::alloc::{AllocError, Allocator, Global};
+use thiserror::Error;
+
+/// Why a command is refused.
+///
+/// Out of memory is `Memory` wherever it was met: the faults inside the others never are it.
+#[derive(Debug, PartialEq, Eq, Drop, Error)]
+pub enum RunFault<A: Allocator = Global> {
+    /// The input wasn't read to its end.
+    #[error("{0}")]
+    Read(ReadFault),
+    /// The file is refused: its container, a stream that it lacks, or its type records.
+    #[error("{0}")]
+    Pdb(PdbFault<A>),
+    /// The info stream is refused.
+    #[error("{0}")]
+    Info(InfoFault),
+    /// The files can't be merged.
+    #[error("{0}")]
+    Merge(MergeFault<A>),
+    /// No type record has this index.
+    #[error("39 NoRecord {0:#x}")]
+    NoRecord(u32),
+    /// The record of this index has a leaf that is refused.
+    #[error("index {index:#x}: {fault}")]
+    Leaf { index: u32, fault: LeafFault },
+    /// A growth was refused.
+    #[error("33 Memory")]
+    Memory,
+    /// The text or the file wasn't taken whole.
+    #[error("36 Write")]
+    Write,
+}
+
+impl<A: Allocator> From<AllocError> for RunFault<A> {
+    ghost from_gives = { λ _ fault. fault ≡ Memory };
+
+    fn from(_error: AllocError) -> RunFault<A> {
+        RunFault::Memory
+    }
+}
+
+impl<A: Allocator> From<NotTaken> for RunFault<A> {
+    ghost from_gives = { λ _ fault. fault ≡ Write };
+
+    fn from(_error: NotTaken) -> RunFault<A> {
+        RunFault::Write
+    }
+}
+
+impl<A: Allocator> From<ReadFault> for RunFault<A> {
+    ghost from_gives = { λ inner fault. fault ≡ of_read inner };
+
+    fn from(fault: ReadFault) -> RunFault<A> {
+        match fault {
+            ReadFault::Memory => RunFault::Memory,
+            fault => RunFault::Read(fault),
+        }
+    }
+}
+
+impl<A: Allocator> From<InfoFault> for RunFault<A> {
+    ghost from_gives = { λ inner fault. fault ≡ of_info inner };
+
+    fn from(fault: InfoFault) -> RunFault<A> {
+        match fault {
+            InfoFault::Memory => RunFault::Memory,
+            fault => RunFault::Info(fault),
+        }
+    }
+}
+
+impl<A: Allocator> From<PdbFault<A>> for RunFault<A> {
+    ghost from_gives = { λ inner fault. fault ≡ of_pdb inner };
+
+    fn from(fault: PdbFault<A>) -> RunFault<A> {
+        match fault {
+            PdbFault::Memory => RunFault::Memory,
+            fault => RunFault::Pdb(fault),
+        }
+    }
+}
+
+impl<A: Allocator> From<MergeFault<A>> for RunFault<A> {
+    ghost from_gives = { λ inner fault. fault ≡ of_merge inner };
+
+    fn from(fault: MergeFault<A>) -> RunFault<A> {
+        match fault {
+            MergeFault::Memory => RunFault::Memory,
+            fault => RunFault::Merge(fault),
+        }
+    }
+}
+
+impl<A: Allocator> From<OutFault<A>> for RunFault<A> {
+    ghost from_gives = { λ inner fault. fault ≡ of_out inner };
+
+    fn from(fault: OutFault<A>) -> RunFault<A> {
+        match fault {
+            OutFault::Merge(fault) => RunFault::from(fault),
+            OutFault::Memory => RunFault::Memory,
+            OutFault::Write => RunFault::Write,
+        }
+    }
+}

@@ -1,0 +1,136 @@
+//! The command `info`: what identifies a file.
+
+ghost use Rattle.std.specs.Prelude.{◌≡◌, ◌⊎◌, ◌++◌, map, Some, true, OnOk, IfOk, IfErr, string_bytes};
+ghost use Rattle.std.specs.List.{flat_map};
+ghost use Rattle.msf_blocks.specs.Layout.{LayoutView, HasLayout};
+ghost use Rattle.msf_streams.specs.Stream.{stream_text};
+ghost use Rattle.pdb_info.specs.Name.{named};
+ghost use Rattle.pdb_commands.specs.Run.{Answers};
+ghost use Rattle.pdb_commands.specs.Info.{ShowsInfo, HasNoInfo, HasNoInfoStream, signature_line, guid_line, header_lines, name_line, feature_line};
+
+use crate::fault::RunFault;
+use crate::show::{Show, run};
+use crate::streams::read_layout;
+use crate::text::{push_index, push_quoted, push_word};
+use msf_blocks::{Sink, Source};
+use msf_streams::gather;
+use pdb_info::{InfoHeader, Name};
+use pdb_merge::PdbFault;
+use std::alloc::{AllocError, Allocator};
+use uuid::Uuid;
+
+/// The stream that identifies a file.
+const INFO_STREAM: u32 = 1;
+
+/// Adds the line of the signature.
+#[tactic(auto, unfolding(crate::specs::Info::signature_line))]
+fn push_signature<A: Allocator>(text: &mut String<A>, signature: u32) -> Result<(), AllocError>
+    ensures { OnOk result (string_bytes text.new ≡ string_bytes text.old ++ signature_line signature) }
+{
+    text.push_str("signature ")?;
+    push_index(text, signature)?;
+    text.push_str("\n")?;
+    Ok(())
+}
+
+/// Adds the line of the GUID.
+#[tactic(auto, unfolding(crate::specs::Info::guid_line))]
+fn push_guid<A: Allocator>(text: &mut String<A>, guid: Uuid) -> Result<(), AllocError>
+    ensures { OnOk result (string_bytes text.new ≡ string_bytes text.old ++ guid_line guid) }
+{
+    let mut buffer = Uuid::encode_buffer();
+    text.push_str("guid ")?;
+    text.push_str(guid.hyphenated().encode_lower(&mut buffer))?;
+    text.push_str("\n")?;
+    Ok(())
+}
+
+/// Adds the lines of the header.
+#[tactic(auto, unfolding(crate::specs::Info::header_lines))]
+fn push_header<A: Allocator>(text: &mut String<A>, header: &InfoHeader) -> Result<(), AllocError>
+    ensures { OnOk result (string_bytes text.new ≡ string_bytes text.old ++ header_lines header.now) }
+{
+    push_word(text, "version", header.version())?;
+    push_signature(text, header.signature())?;
+    push_word(text, "age", header.age())?;
+    push_guid(text, header.guid())?;
+    Ok(())
+}
+
+/// Adds the line of a named stream.
+#[tactic(auto, unfolding(crate::specs::Info::name_line))]
+fn push_name<A: Allocator>(text: &mut String<A>, name: &Name<'_>) -> Result<(), AllocError>
+    ensures { OnOk result (string_bytes text.new ≡ string_bytes text.old ++ name_line (named name.now)) }
+{
+    let stream = name.stream;
+    text.push_str("name ")?;
+    push_quoted(text, name.text)?;
+    writeln!(text, " {stream}")?;
+    Ok(())
+}
+
+/// Adds the lines of all named streams.
+fn push_names<A: Allocator>(text: &mut String<A>, names: &[Name<'_>]) -> Result<(), AllocError>
+    ensures { OnOk result (string_bytes text.new ≡ string_bytes text.old ++ flat_map name_line (map named names.now)) }
+{
+    for name in names {
+        push_name(text, name)?;
+    }
+    Ok(())
+}
+
+/// Adds the lines of all feature codes.
+fn push_features<A: Allocator>(text: &mut String<A>, features: &[u32]) -> Result<(), AllocError>
+    ensures { OnOk result (string_bytes text.new ≡ string_bytes text.old ++ flat_map feature_line features.now) }
+{
+    for feature in features {
+        push_word(text, "feature", *feature)?;
+    }
+    Ok(())
+}
+
+/// The bytes of stream 1 of a file.
+fn info_stream<A: Allocator + Copy>(alloc: A, file: &[u8]) -> Result<Vec<u8, A>, PdbFault<A>>
+    ensures value { IfOk result (λ stream. (layout : LayoutView) × HasLayout file.now layout × (stream_text file.now layout 1 ≡ Some stream.items)) }
+    ensures first { IfErr result (λ fault. HasNoInfoStream file.now fault ⊎ (fault ≡ PdbFault.Memory)) }
+{
+    let layout = read_layout(alloc, file)?;
+    Ok(gather(alloc, file, &layout, INFO_STREAM)?)
+}
+
+/// The command `info`.
+#[derive(Clone, Copy, Debug)]
+struct Info;
+
+impl<A: Allocator + Copy> Show<A> for Info {
+    ghost shows = { λ _. ShowsInfo };
+
+    ghost refuses = { λ _. HasNoInfo };
+
+    fn text(&self, alloc: A, file: &[u8]) -> Result<String<A>, RunFault<A>> {
+        let stream = info_stream(alloc, file)?;
+        let info = pdb_info::Info::read(alloc, &stream)?;
+        let mut text = String::new(alloc);
+        push_header(&mut text, info.header())?;
+        push_names(&mut text, info.names())?;
+        push_features(&mut text, info.features())?;
+        Ok(text)
+    }
+}
+
+/// Runs the command `info`: the version, the signature, the age and the GUID, a line for each
+/// named stream in the order of the buckets, and one for each feature code.
+///
+/// The faults come in this order: those of reading; those of the container; a container without
+/// a stream 1; those of that stream; and that the text wasn't taken whole. All of the input is
+/// read, and the whole text is made, before any of it is written.
+pub fn run_info<R: Source, W: Sink, A: Allocator + Copy>(
+    alloc: A,
+    input: &mut R,
+    limit: u32,
+    out: &mut W,
+) -> Result<(), RunFault<A>>
+    ensures { Answers ShowsInfo HasNoInfo limit (R.left input.old) (R.left input.new) (R.is_broken input.new) W.taken W.is_broken out.old out.new result }
+{
+    run(alloc, &Info, input, limit, out)
+}

@@ -1,0 +1,80 @@
+//! The command `merge`: one file with the types of all files, each once.
+
+ghost use Rattle.std.specs.Prelude.{◌≡◌, ◌≢◌, ◌⊎◌, ◌++◌, true, ℕ, List, OnOk, IfOk, IfErr, string_bytes};
+ghost use Rattle.std.specs.Io.KnownBytes.{Appends};
+ghost use Rattle.msf_streams.specs.Image.{texts_of};
+ghost use Rattle.msf_streams.specs.Woven.{AppendsPart};
+ghost use Rattle.pdb_info.specs.Settings.{record_limit};
+ghost use Rattle.pdb_merge.specs.Merged.{WrotePart};
+ghost use Rattle.pdb_merge.specs.Union.{SameFiles, CanMerge};
+ghost use Rattle.pdb_merge.specs.declared.fault.MergeFault.{MergeFault};
+ghost use Rattle.pdb_commands.specs.Merge.{summary_lines, IsNotMerged, WroteWhole, WroteAndReported, WroteAndBrokeOff};
+
+use crate::fault::RunFault;
+use crate::text::push_word;
+use msf_blocks::{Sink, put_all};
+use pdb_info::Settings;
+use pdb_merge::{Summary, merge_to};
+use std::alloc::{AllocError, Allocator};
+use std::hash::BuildHasher;
+
+/// Appends the number of types, of their bytes and of the bytes of the file, one per line.
+#[tactic(auto, unfolding(crate::specs::Merge::summary_lines))]
+fn push_summary<A: Allocator>(text: &mut String<A>, summary: &Summary) -> Result<(), AllocError>
+    ensures { OnOk result (string_bytes text.new ≡ string_bytes text.old ++ summary_lines summary.now) }
+{
+    push_word(text, "types", summary.types)?;
+    push_word(text, "bytes", summary.bytes)?;
+    push_word(text, "file", summary.length)?;
+    Ok(())
+}
+
+/// Makes the report on a written file, and writes it.
+fn report_on<V: Sink, A: Allocator>(
+    alloc: A,
+    summary: &Summary,
+    report: &mut V,
+) -> Result<(), RunFault<A>>
+    ensures value { OnOk result (Appends (V.taken report.old) (V.taken report.new) (summary_lines summary.now)) }
+    ensures fault { IfErr result (λ fault. (fault ≡ RunFault.Memory) ⊎ (fault ≡ RunFault.Write)) }
+    ensures write { result ≡ Err RunFault.Write → (V.is_broken report.new ≡ true) × AppendsPart (V.taken report.old) (V.taken report.new) (summary_lines summary.now) }
+    ensures untouched { result ≡ Err RunFault.Memory → report.new ≡ report.old }
+{
+    let mut text = String::new(alloc);
+    push_summary(&mut text, summary)?;
+    put_all(report, text.as_bytes())?;
+    Ok(())
+}
+
+/// Runs the command `merge`: writes one file with the types of all files into `out`, and then a
+/// report into `report`: how many types it has, how many bytes their records have together, and
+/// how long the file is, each on a line.
+///
+/// A file that can't be merged is refused as by [`pdb_merge::merge_files`], with its position,
+/// and nothing is written then. After `Write` one of the sinks is broken: `out`, which has taken
+/// the first bytes of the file, or `report`, and then `out` holds the whole file.
+pub fn run_merge<W: Sink, V: Sink, S: BuildHasher + Drop, A: Allocator + Copy>(
+    alloc: A,
+    files: &[&[u8]],
+    settings: &Settings,
+    out: &mut W,
+    report: &mut V,
+    hasher: S,
+) -> Result<(), RunFault<A>>
+    ensures value { OnOk result (WroteAndReported (texts_of files.now) settings.now (W.taken out.old) (W.taken out.new) (V.taken report.old) (V.taken report.new)) }
+    ensures can { OnOk result (CanMerge (texts_of files.now) (record_limit settings.now)) }
+    // Files that can be merged are refused only where memory is, or by a sink.
+    ensures found { CanMerge (texts_of files.now) (record_limit settings.now) → IfErr result (λ fault. (fault ≡ RunFault.Memory) ⊎ (fault ≡ RunFault.Write)) }
+    ensures first { IfErr result (IsNotMerged (texts_of files.now) (record_limit settings.now)) }
+    // Files that are refused are refused in any order.
+    ensures any_order { IfErr result (λ fault. (inner : MergeFault A) → fault ≡ RunFault.Merge inner
+        → (others : List (List ℕ)) → SameFiles (texts_of files.now) others → CanMerge others (record_limit settings.now) → ⊥) }
+    ensures write { result ≡ Err RunFault.Write → ((W.is_broken out.new ≡ true) × WrotePart (texts_of files.now) settings.now (W.taken out.old) (W.taken out.new) × (report.new ≡ report.old))
+        ⊎ ((V.is_broken report.new ≡ true) × WroteAndBrokeOff (texts_of files.now) settings.now (W.taken out.old) (W.taken out.new) (V.taken report.old) (V.taken report.new)) }
+    // Without memory, nothing was written, or the whole file and no report.
+    ensures memory { result ≡ Err RunFault.Memory → (report.new ≡ report.old) × ((out.new ≡ out.old) ⊎ WroteWhole (texts_of files.now) settings.now (W.taken out.old) (W.taken out.new)) }
+    ensures untouched { IfErr result (λ fault. (inner : MergeFault A) → fault ≡ RunFault.Merge inner → (out.new ≡ out.old) × (report.new ≡ report.old)) }
+{
+    let summary = merge_to(alloc, files, settings, out, hasher)?;
+    report_on(alloc, &summary, report)
+}

@@ -1,0 +1,144 @@
+//! The command `record`: one type record of a file, with what it names.
+
+ghost use Rattle.std.specs.Prelude.{◌≡◌, ◌≤◌, ◌+◌, ◌^◌, ◌⊎◌, ◌++◌, List, ℕ, true, OnOk, IfOk, IfErr, IfSome, option_map, string_bytes, length};
+ghost use Rattle.std.specs.List.{flat_map};
+ghost use Rattle.cv_leaves.specs.HasPlaces.{HasPlaces, IsChecked};
+ghost use Rattle.cv_leaves.specs.Name.{name_of};
+ghost use Rattle.pdb_commands.specs.Record.{ShowsRecord, HasNoRecord, record_of, bytes_line, place_line, name_lines};
+ghost use Rattle.pdb_commands.specs.Run.{Answers};
+
+use crate::fault::RunFault;
+use crate::records::FIRST_INDEX;
+use crate::show::{Show, run};
+use crate::text::{push_index, push_quoted};
+use byte_fields::u16_at;
+use cv_leaves::{check, places, ref_at, type_name};
+use msf_blocks::{Sink, Source};
+use pdb_merge::{Buffer, read_records};
+use std::alloc::{AllocError, Allocator};
+use tpi_records::Records;
+
+/// The record of a type index.
+#[tactic(auto, unfolding(crate::specs::Record::record_of))]
+fn record_of<'a, A: Allocator>(records: &Records<'a, A>, index: u32) -> Option<&'a [u8]>
+    ensures value { option_map (λ r. r.now) result ≡ record_of records.now index }
+    ensures long { IfSome result (λ r. (4 ≤ length r.now) × (length r.now ≤ 2 ^ 16)) }
+{
+    let bytes = records.get(index.checked_sub(FIRST_INDEX)? as usize)?;
+    // The proof learns here that the length field is below 2^16.
+    let _ = u16_at(bytes, 0);
+    Some(bytes)
+}
+
+/// Adds the line of the bytes, in hexadecimal.
+#[tactic(auto, unfolding(crate::specs::Record::bytes_line))]
+fn push_bytes<A: Allocator + Copy>(
+    alloc: A,
+    text: &mut String<A>,
+    bytes: &[u8],
+) -> Result<(), AllocError>
+    ensures { OnOk result (string_bytes text.new ≡ string_bytes text.old ++ bytes_line bytes.now) }
+{
+    text.push_str(&hex::encode(alloc, bytes)?)?;
+    text.push_str("\n")?;
+    Ok(())
+}
+
+/// Adds the line of a place.
+#[tactic(auto, unfolding(crate::specs::Record::place_line))]
+fn push_place<A: Allocator>(
+    text: &mut String<A>,
+    bytes: &[u8],
+    place: usize,
+) -> Result<(), AllocError>
+    requires { place + 8 ≤ length bytes.now }
+    ensures { OnOk result (string_bytes text.new ≡ string_bytes text.old ++ place_line bytes.now place) }
+{
+    write!(text, "{place} ")?;
+    push_index(text, ref_at(bytes, place))?;
+    text.push_str("\n")?;
+    Ok(())
+}
+
+/// Adds the lines of all places.
+fn push_places<A: Allocator>(text: &mut String<A>, bytes: &[u8]) -> Result<(), AllocError>
+    requires long { (4 ≤ length bytes.now) × (length bytes.now ≤ 2 ^ 16) }
+    requires checked { IsChecked bytes.now }
+    ensures { OnOk result ((at : List ℕ) × HasPlaces bytes.now at × (string_bytes text.new ≡ string_bytes text.old ++ flat_map (place_line bytes.now) at)) }
+{
+    for place in places(bytes) {
+        push_place(text, bytes, place)?;
+    }
+    Ok(())
+}
+
+/// Adds the line of the name, where there is one.
+#[tactic(auto, unfolding(crate::specs::Record::name_lines))]
+fn push_name<A: Allocator>(text: &mut String<A>, bytes: &[u8]) -> Result<(), AllocError>
+    requires long { (4 ≤ length bytes.now) × (length bytes.now ≤ 2 ^ 16) }
+    ensures { OnOk result (string_bytes text.new ≡ string_bytes text.old ++ name_lines (name_of bytes.now)) }
+{
+    if let Some(name) = type_name(bytes) {
+        text.push_str("name ")?;
+        push_quoted(text, name)?;
+        text.push_str("\n")?;
+    }
+    Ok(())
+}
+
+/// The text of a record.
+fn record_text<A: Allocator + Copy>(alloc: A, bytes: &[u8]) -> Result<String<A>, AllocError>
+    requires long { (4 ≤ length bytes.now) × (length bytes.now ≤ 2 ^ 16) }
+    requires checked { IsChecked bytes.now }
+    ensures { IfOk result (λ text. (at : List ℕ) × HasPlaces bytes.now at × (string_bytes text ≡ bytes_line bytes.now ++ flat_map (place_line bytes.now) at ++ name_lines (name_of bytes.now))) }
+{
+    let mut text = String::new(alloc);
+    push_bytes(alloc, &mut text, bytes)?;
+    push_places(&mut text, bytes)?;
+    push_name(&mut text, bytes)?;
+    Ok(text)
+}
+
+/// The command `record`.
+#[derive(Clone, Copy, Debug)]
+struct Record {
+    index: u32,
+}
+
+impl<A: Allocator + Copy> Show<A> for Record {
+    ghost shows = { λ c. ShowsRecord c.index };
+
+    ghost refuses = { λ c. HasNoRecord c.index };
+
+    fn text(&self, alloc: A, file: &[u8]) -> Result<String<A>, RunFault<A>> {
+        let index = self.index;
+        let mut buffer = Buffer::new(alloc);
+        let records = read_records(alloc, file, &mut buffer)?;
+        let Some(bytes) = record_of(&records, index) else {
+            return Err(RunFault::NoRecord(index));
+        };
+        if let Err(fault) = check(bytes) {
+            return Err(RunFault::Leaf { index, fault });
+        }
+        Ok(record_text(alloc, bytes)?)
+    }
+}
+
+/// Runs the command `record`: the bytes of the record of a type index in hexadecimal, a line for
+/// each place with the type index that stands there, and its name where it has one.
+///
+/// The faults come in this order: those of reading; those of the container; a container without
+/// a stream 2; those of that stream; that no record has the index; those of the record's leaf; and
+/// that the text wasn't taken whole. All of the input is read, and the whole text is made, before
+/// any of it is written.
+pub fn run_record<R: Source, W: Sink, A: Allocator + Copy>(
+    alloc: A,
+    input: &mut R,
+    limit: u32,
+    index: u32,
+    out: &mut W,
+) -> Result<(), RunFault<A>>
+    ensures { Answers (ShowsRecord index) (HasNoRecord index) limit (R.left input.old) (R.left input.new) (R.is_broken input.new) W.taken W.is_broken out.old out.new result }
+{
+    run(alloc, &Record { index }, input, limit, out)
+}

@@ -1,0 +1,86 @@
+//! The command `records`: a line for each type record of a file.
+
+ghost use Rattle.std.specs.Prelude.{◌≡◌, ◌⊎◌, ◌++◌, true, OnOk, IfOk, IfErr, string_bytes};
+ghost use Rattle.tpi_records.specs.Records.{IsRecord};
+ghost use Rattle.pdb_commands.specs.Records.{ShowsRecords, HasNoTypeRecords, record_line, record_lines};
+ghost use Rattle.pdb_commands.specs.Run.{Answers};
+
+use crate::fault::RunFault;
+use crate::show::{Show, run};
+use crate::text::{push_index, push_kind};
+use cv_leaves::kind_of;
+use msf_blocks::{Sink, Source};
+use pdb_merge::{Buffer, read_records};
+use std::alloc::{AllocError, Allocator};
+
+/// The type index of the first record.
+pub const FIRST_INDEX: u32 = 0x1000;
+
+/// Adds the line of a record, which is whole: it begins with its length field.
+#[tactic(auto, unfolding(crate::specs::Records::record_line, cv_leaves::specs::Checks::kind_of))]
+fn push_record<A: Allocator>(
+    text: &mut String<A>,
+    index: u32,
+    bytes: &[u8],
+) -> Result<(), AllocError>
+    requires { IsRecord bytes.now }
+    ensures { OnOk result (string_bytes text.new ≡ string_bytes text.old ++ record_line index bytes.now) }
+{
+    let kind = kind_of(bytes);
+    let size = bytes.len();
+    push_index(text, index)?;
+    text.push_str(" ")?;
+    push_kind(text, kind)?;
+    writeln!(text, " {size}")
+}
+
+/// The lines of all records.
+fn record_lines<A: Allocator + Copy>(
+    alloc: A,
+    records: &tpi_records::Records<'_, A>,
+) -> Result<String<A>, AllocError>
+    ensures { IfOk result (λ text. string_bytes text ≡ record_lines 0x1000 records.now) }
+{
+    let mut text = String::new(alloc);
+    // The proof learns here that the indices of all records are below 2^32.
+    let _ = records.len();
+    let mut index = FIRST_INDEX;
+    for bytes in records.iter() {
+        push_record(&mut text, index, bytes)?;
+        index += 1;
+    }
+    Ok(text)
+}
+
+/// The command `records`.
+#[derive(Clone, Copy, Debug)]
+struct Records;
+
+impl<A: Allocator + Copy> Show<A> for Records {
+    ghost shows = { λ _. ShowsRecords };
+
+    ghost refuses = { λ _. HasNoTypeRecords };
+
+    fn text(&self, alloc: A, file: &[u8]) -> Result<String<A>, RunFault<A>> {
+        let mut buffer = Buffer::new(alloc);
+        let records = read_records(alloc, file, &mut buffer)?;
+        Ok(record_lines(alloc, &records)?)
+    }
+}
+
+/// Runs the command `records`: for each type record a line with its type index, its kind and its
+/// size in bytes, its length field included.
+///
+/// The faults come in this order: those of reading; those of the container; a container without
+/// a stream 2; those of that stream; and that the text wasn't taken whole. All of the input is
+/// read, and the whole text is made, before any of it is written.
+pub fn run_records<R: Source, W: Sink, A: Allocator + Copy>(
+    alloc: A,
+    input: &mut R,
+    limit: u32,
+    out: &mut W,
+) -> Result<(), RunFault<A>>
+    ensures { Answers ShowsRecords HasNoTypeRecords limit (R.left input.old) (R.left input.new) (R.is_broken input.new) W.taken W.is_broken out.old out.new result }
+{
+    run(alloc, &Records, input, limit, out)
+}

@@ -1,0 +1,44 @@
+//! How every command that shows a file runs.
+
+ghost use Rattle.std.specs.Prelude.{◌≡◌, ◌⊎◌, ℕ, List, true, OnOk, IfOk, IfErr, string_bytes};
+ghost use Rattle.pdb_commands.specs.Run.{Answers, IsOfText};
+ghost use Rattle.pdb_commands.specs.declared.fault.RunFault.{RunFault};
+
+use crate::fault::RunFault;
+use crate::input::read_all;
+use msf_blocks::{Sink, Source, put_all};
+use std::alloc::Allocator;
+
+/// A command that shows a file: it makes a text of the file's bytes.
+pub trait Show<A: Allocator + Copy> {
+    /// The command prints this text for this file.
+    ghost shows: { Self → List ℕ → List ℕ → Type 0 };
+
+    /// The command refuses this file with this fault, the first that it meets.
+    ghost refuses: { Self → List ℕ → RunFault A → Type 0 };
+
+    /// Makes the whole text.
+    fn text(&self, alloc: A, file: &[u8]) -> Result<String<A>, RunFault<A>>
+        ensures value { IfOk result (λ text. shows self.now file.now (string_bytes text)) }
+        ensures first { IfErr result (λ fault. refuses self.now file.now fault ⊎ (fault ≡ RunFault.Memory)) }
+        // It neither reads nor writes.
+        ensures pure { IfErr result IsOfText };
+}
+
+/// Runs a command: reads all of the input, makes the whole text, then writes it.
+///
+/// So whatever is refused, but for the writing itself, is refused before anything was written.
+pub fn run<C: Show<A>, R: Source, W: Sink, A: Allocator + Copy>(
+    alloc: A,
+    command: &C,
+    input: &mut R,
+    limit: u32,
+    out: &mut W,
+) -> Result<(), RunFault<A>>
+    ensures { Answers (C.shows command.now) (C.refuses command.now) limit (R.left input.old) (R.left input.new) (R.is_broken input.new) W.taken W.is_broken out.old out.new result }
+{
+    let file = read_all(alloc, input, limit)?;
+    let text = command.text(alloc, &file)?;
+    put_all(out, text.as_bytes())?;
+    Ok(())
+}

@@ -1,0 +1,140 @@
+//! What `merge` writes and reports, its faults, a report that can't be written, and growth that is
+//! refused.
+
+use crate::fault::RunFault;
+use crate::merge::run_merge;
+use linked_list_allocator::LocalHeap;
+use msf_blocks::Out;
+use pdb_info::{Settings, guid_of};
+use samples::{put, sample};
+use std::alloc::{Allocator, Global};
+use std::hash::{BuildHasherDefault, FoldHasher};
+use std::test::Fail;
+
+/// What is reported of the file with the types of the sample.
+const REPORT: &str = "types 2\nbytes 24\nfile 28672\n";
+
+/// How long that file is, in bytes.
+const LENGTH: usize = 28672;
+
+/// What was answered, written and reported.
+type Answer<A = Global> = (Result<(), RunFault<A>>, Vec<u8>, Vec<u8>);
+
+/// Runs the command on files.
+fn ran<A: Allocator + Copy>(
+    alloc: A,
+    global: Global,
+    files: &[&[u8]],
+    limit: u32,
+) -> Result<Answer<A>, Fail> {
+    let settings = Settings::new(guid_of([7; 16]), 1, limit, 4096).ok_or("no settings")?;
+    let hasher: BuildHasherDefault<FoldHasher> = BuildHasherDefault::new();
+    let mut file = Vec::new(global);
+    let mut report = Vec::new(global);
+    let answer = run_merge(
+        alloc,
+        files,
+        &settings,
+        &mut Out::new(&mut file),
+        &mut Out::new(&mut report),
+        hasher,
+    );
+    Ok((answer, file, report))
+}
+
+#[test]
+fn the_report(rt: HostRuntime) -> Result<(), Fail> {
+    let sample = sample(rt.alloc())?;
+    let (answer, file, report) = ran(rt.alloc(), rt.alloc(), &[&sample, &sample], 24)?;
+    assert_eq!(rt; answer, Ok(()));
+    assert_eq!(rt; file.len(), LENGTH);
+    assert_eq!(rt; report.as_slice(), REPORT.as_bytes());
+    let (answer, _, report) = ran(rt.alloc(), rt.alloc(), &[], 0)?;
+    assert_eq!(rt; answer, Ok(()));
+    assert_eq!(rt;
+        report.as_slice(),
+        b"types 0\nbytes 0\nfile 28672\n".as_slice()
+    );
+    Ok(())
+}
+
+/// The text of the fault of two files, of which nothing is written.
+fn fault_of<'a>(
+    alloc: Global,
+    first: &'a [u8],
+    second: &'a [u8],
+    limit: u32,
+) -> Result<String, Fail> {
+    let (answer, file, report) = ran(alloc, alloc, &[first, second], limit)?;
+    if !file.is_empty() || !report.is_empty() {
+        return Err("something was written".into());
+    }
+    Ok(answer.err().ok_or("it was merged")?.to_string(alloc)?)
+}
+
+#[test]
+fn faults_name_their_file(rt: HostRuntime) -> Result<(), Fail> {
+    let sample = sample(rt.alloc())?;
+    let zeros = vec![in rt.alloc(); 0u8; 56]?;
+    let text = fault_of(rt.alloc(), &sample, &zeros, 24)?;
+    assert_eq!(rt; text.as_str(), "file 1: 2 Magic");
+    let text = fault_of(rt.alloc(), &sample, &zeros, 23)?;
+    assert_eq!(rt; text.as_str(), "file 0: 32 TooLarge bytes 24");
+    let text = fault_of(rt.alloc(), &zeros, &sample, 0)?;
+    assert_eq!(rt; text.as_str(), "file 0: 2 Magic");
+    // The first record names itself.
+    let mut cycle = samples::sample(rt.alloc())?;
+    put(&mut cycle, 3132, b"\0\x10");
+    let text = fault_of(rt.alloc(), &sample, &cycle, 24)?;
+    assert_eq!(rt; text.as_str(), "file 1: 34 Cycle 0x1000");
+    Ok(())
+}
+
+#[test]
+fn a_report_that_is_not_taken(rt: HostRuntime) -> Result<(), Fail> {
+    let sample = sample(rt.alloc())?;
+    let settings = Settings::new(guid_of([7; 16]), 1, 24, 4096).ok_or("no settings")?;
+    let hasher: BuildHasherDefault<FoldHasher> = BuildHasherDefault::new();
+    let (_, want, _) = ran(rt.alloc(), rt.alloc(), &[&sample], 24)?;
+    for room in 0..REPORT.len() {
+        let mut file = Vec::new(rt.alloc());
+        let mut report = [0u8; 32];
+        let answer = run_merge(
+            rt.alloc(),
+            &[&sample],
+            &settings,
+            &mut Out::new(&mut file),
+            &mut Out::new(&mut report[..room]),
+            hasher,
+        );
+        assert_eq!(rt; answer, Err(RunFault::Write));
+        assert!(rt; file == want);
+        assert_eq!(rt; &report[..room], &REPORT.as_bytes()[..room]);
+    }
+    Ok(())
+}
+
+#[test]
+fn merges_on_small_heaps(rt: HostRuntime) -> Result<(), Fail> {
+    // The first record names the second, so that the types are put in order.
+    let mut forward = sample(rt.alloc())?;
+    put(&mut forward, 3132, b"\x01\x10");
+    let mut refused = 0u32;
+    let mut unreported = 0u32;
+    for size in 0..1024usize {
+        let heap = LocalHeap::new(rt.alloc(), 16 * size)?;
+        let (answer, file, report) = ran(&heap, rt.alloc(), &[&forward], 24)?;
+        if answer.is_ok() {
+            assert!(rt; file.len() == LENGTH && report.as_slice() == REPORT.as_bytes());
+            continue;
+        }
+        assert!(rt; matches!(answer, Err(RunFault::Memory)));
+        assert!(rt; report.is_empty() && (file.is_empty() || file.len() == LENGTH));
+        refused = refused.saturating_add(1);
+        if !file.is_empty() {
+            unreported = unreported.saturating_add(1);
+        }
+    }
+    assert!(rt; 8 < refused && refused < 1024 && unreported < refused);
+    Ok(())
+}

@@ -1,0 +1,69 @@
+//! How numbers and texts are printed.
+
+ghost use Rattle.std.specs.Prelude.{◌≡◌, ◌++◌, OnOk, string_bytes};
+ghost use Rattle.pdb_commands.specs.Text.{index_text, is_plain, kind_text, quoted, quoted_byte, word_line};
+
+use std::alloc::{AllocError, Allocator};
+
+/// Adds a type index: `0x` and lower case hexadecimal digits without leading zeros.
+pub fn push_index<A: Allocator>(text: &mut String<A>, index: u32) -> Result<(), AllocError>
+    ensures { OnOk result (string_bytes text.new ≡ string_bytes text.old ++ index_text index) }
+{
+    write!(text, "0x{index:x}")
+}
+
+/// Adds the kind of a record: `0x` and four lower case hexadecimal digits.
+pub fn push_kind<A: Allocator>(text: &mut String<A>, kind: u16) -> Result<(), AllocError>
+    ensures { OnOk result (string_bytes text.new ≡ string_bytes text.old ++ kind_text kind) }
+{
+    let high = kind / 256;
+    let low = kind % 256;
+    write!(text, "0x{high:02x}{low:02x}")
+}
+
+/// Adds a word and its number, on a line.
+#[tactic(auto, unfolding(crate::specs::Text::word_line))]
+pub fn push_word<A: Allocator>(
+    text: &mut String<A>,
+    word: &str,
+    number: u32,
+) -> Result<(), AllocError>
+    ensures { OnOk result (string_bytes text.new ≡ string_bytes text.old ++ word_line word.now number) }
+{
+    text.push_str(word)?;
+    writeln!(text, " {number}")
+}
+
+/// Whether a byte stands for itself within quotes.
+#[tactic(auto, unfolding(crate::specs::Text::is_plain))]
+fn is_plain(byte: u8) -> bool
+    ensures { result ≡ is_plain byte }
+{
+    (0x20..=0x7E).contains(&byte) && byte != b'"' && byte != b'\\'
+}
+
+/// Adds a byte as it stands within quotes.
+fn push_quoted_byte<A: Allocator>(text: &mut String<A>, byte: u8) -> Result<(), AllocError>
+    ensures { OnOk result (string_bytes text.new ≡ string_bytes text.old ++ quoted_byte byte) }
+{
+    if is_plain(byte) {
+        text.push(char::from(byte))?;
+    } else {
+        write!(text, "\\x{byte:02x}")?;
+    }
+    Ok(())
+}
+
+/// Adds a text in quotes. Its bytes may be any: those that aren't printable ASCII, the quote and
+/// the backslash are written by their numbers.
+#[tactic(auto, unfolding(crate::specs::Text::quoted))]
+pub fn push_quoted<A: Allocator>(text: &mut String<A>, bytes: &[u8]) -> Result<(), AllocError>
+    ensures { OnOk result (string_bytes text.new ≡ string_bytes text.old ++ quoted bytes.now) }
+{
+    text.push_str("\"")?;
+    for byte in bytes {
+        push_quoted_byte(text, *byte)?;
+    }
+    text.push_str("\"")?;
+    Ok(())
+}

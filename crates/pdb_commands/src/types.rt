@@ -1,0 +1,174 @@
+//! The command `types`: a line for each type record of a file, with what it names.
+
+ghost use Rattle.std.specs.Prelude.{◌≡◌, ◌≤◌, ◌+◌, ◌^◌, ◌⊎◌, ◌∷◌, ◌++◌, List, ℕ, Some, true, OnOk, IfOk, IfErr, string_bytes, length};
+ghost use Rattle.std.specs.List.{flat_map};
+ghost use Rattle.std.specs.Fmt.{decimal};
+ghost use Rattle.byte_fields.specs.Check.{first_failing};
+ghost use Rattle.tpi_records.specs.Records.{IsRecord};
+ghost use Rattle.cv_leaves.specs.Checks.{record_checks};
+ghost use Rattle.cv_leaves.specs.HasPlaces.{HasPlaces, IsChecked};
+ghost use Rattle.cv_leaves.specs.Name.{name_of};
+ghost use Rattle.cv_leaves.specs.declared.fault.LeafFault.{LeafFault};
+ghost use Rattle.pdb_commands.specs.Run.{Answers};
+ghost use Rattle.pdb_commands.specs.Text.{index_text};
+ghost use Rattle.pdb_commands.specs.Types.{ShowsTypes, HasNoTypes, AreTypeLines, HasLeafFault, type_line, reference, quoted_name, leaf_name};
+
+use crate::fault::RunFault;
+use crate::records::FIRST_INDEX;
+use crate::show::{Show, run};
+use crate::text::{push_index, push_quoted};
+use byte_fields::u16_at;
+use cv_leaves::{check, kind_of, leaf_text, places, ref_at, type_name};
+use msf_blocks::{Sink, Source};
+use pdb_merge::{Buffer, read_records};
+use std::alloc::{AllocError, Allocator};
+use tpi_records::Records;
+
+/// Adds what the leaf of a record is called.
+#[tactic(auto, unfolding(crate::specs::Types::leaf_name))]
+fn push_leaf<A: Allocator>(text: &mut String<A>, bytes: &[u8]) -> Result<(), AllocError>
+    requires { 4 ≤ length bytes.now }
+    ensures { OnOk result (string_bytes text.new ≡ string_bytes text.old ++ leaf_name bytes.now) }
+{
+    if let Some(leaf) = leaf_text(kind_of(bytes)) {
+        text.push_str(leaf)?;
+    }
+    Ok(())
+}
+
+/// Adds the type index of a record, its leaf and its size.
+fn push_head<A: Allocator>(text: &mut String<A>, index: u32, bytes: &[u8]) -> Result<(), AllocError>
+    requires { 4 ≤ length bytes.now }
+    ensures { OnOk result (string_bytes text.new ≡ string_bytes text.old ++ (index_text index ++ 32 ∷ leaf_name bytes.now ++ 32 ∷ decimal (length bytes.now))) }
+{
+    let size = bytes.len();
+    push_index(text, index)?;
+    text.push_str(" ")?;
+    push_leaf(text, bytes)?;
+    write!(text, " {size}")
+}
+
+/// Adds the type index at a place, behind a blank.
+fn push_reference<A: Allocator>(
+    text: &mut String<A>,
+    bytes: &[u8],
+    place: usize,
+) -> Result<(), AllocError>
+    requires { place + 8 ≤ length bytes.now }
+    ensures { OnOk result (string_bytes text.new ≡ string_bytes text.old ++ reference bytes.now place) }
+{
+    text.push_str(" ")?;
+    push_index(text, ref_at(bytes, place))
+}
+
+/// Adds the type indices at all places.
+fn push_references<A: Allocator>(text: &mut String<A>, bytes: &[u8]) -> Result<(), AllocError>
+    requires long { (4 ≤ length bytes.now) × (length bytes.now ≤ 2 ^ 16) }
+    requires checked { IsChecked bytes.now }
+    ensures { OnOk result ((at : List ℕ) × HasPlaces bytes.now at × (string_bytes text.new ≡ string_bytes text.old ++ flat_map (reference bytes.now) at)) }
+{
+    for place in places(bytes) {
+        push_reference(text, bytes, place)?;
+    }
+    Ok(())
+}
+
+/// Adds the name in quotes, behind a blank, where there is one.
+#[tactic(auto, unfolding(crate::specs::Types::quoted_name))]
+fn push_name<A: Allocator>(text: &mut String<A>, bytes: &[u8]) -> Result<(), AllocError>
+    requires { (4 ≤ length bytes.now) × (length bytes.now ≤ 2 ^ 16) }
+    ensures { OnOk result (string_bytes text.new ≡ string_bytes text.old ++ quoted_name (name_of bytes.now)) }
+{
+    if let Some(name) = type_name(bytes) {
+        text.push_str(" ")?;
+        push_quoted(text, name)?;
+    }
+    Ok(())
+}
+
+/// Adds the line of a record whose leaf was checked.
+#[tactic(auto, unfolding(crate::specs::Types::type_line))]
+fn push_line<A: Allocator>(text: &mut String<A>, index: u32, bytes: &[u8]) -> Result<(), AllocError>
+    requires long { (4 ≤ length bytes.now) × (length bytes.now ≤ 2 ^ 16) }
+    requires checked { IsChecked bytes.now }
+    ensures { OnOk result ((at : List ℕ) × HasPlaces bytes.now at × (string_bytes text.new ≡ string_bytes text.old ++ type_line index bytes.now at)) }
+{
+    push_head(text, index, bytes)?;
+    push_references(text, bytes)?;
+    push_name(text, bytes)?;
+    text.push_str("\n")?;
+    Ok(())
+}
+
+/// Checks the leaf of a record, and adds its line.
+fn push_type<A: Allocator>(
+    text: &mut String<A>,
+    index: u32,
+    bytes: &[u8],
+) -> Result<(), RunFault<A>>
+    requires { IsRecord bytes.now }
+    ensures value { OnOk result ((at : List ℕ) × HasPlaces bytes.now at × (string_bytes text.new ≡ string_bytes text.old ++ type_line index bytes.now at)) }
+    ensures first { IfErr result (λ fault. ((inner : LeafFault) × (fault ≡ RunFault.Leaf index inner) × (first_failing (record_checks bytes.now) ≡ Some inner)) ⊎ (fault ≡ RunFault.Memory)) }
+{
+    // The proof learns here that the length field is below 2^16.
+    let _ = u16_at(bytes, 0);
+    if let Err(fault) = check(bytes) {
+        return Err(RunFault::Leaf { index, fault });
+    }
+    push_line(text, index, bytes)?;
+    Ok(())
+}
+
+/// The lines of all records.
+fn type_lines<A: Allocator + Copy>(
+    alloc: A,
+    records: &Records<'_, A>,
+) -> Result<String<A>, RunFault<A>>
+    ensures value { IfOk result (λ text. AreTypeLines 0x1000 records.now (string_bytes text)) }
+    ensures first { IfErr result (λ fault. ((index : ℕ) × (inner : LeafFault) × (fault ≡ RunFault.Leaf index inner) × HasLeafFault records.now index inner) ⊎ (fault ≡ RunFault.Memory)) }
+{
+    let mut text = String::new(alloc);
+    // The proof learns here that the indices of all records are below 2^32.
+    let _ = records.len();
+    let mut index = FIRST_INDEX;
+    for bytes in records.iter() {
+        push_type(&mut text, index, bytes)?;
+        index += 1;
+    }
+    Ok(text)
+}
+
+/// The command `types`.
+#[derive(Clone, Copy, Debug)]
+struct Types;
+
+impl<A: Allocator + Copy> Show<A> for Types {
+    ghost shows = { λ _. ShowsTypes };
+
+    ghost refuses = { λ _. HasNoTypes };
+
+    fn text(&self, alloc: A, file: &[u8]) -> Result<String<A>, RunFault<A>> {
+        let mut buffer = Buffer::new(alloc);
+        let records = read_records(alloc, file, &mut buffer)?;
+        type_lines(alloc, &records)
+    }
+}
+
+/// Runs the command `types`: for each type record a line with its type index, what its leaf is
+/// called, its size in bytes, the type indices that it names in the order of their places, and its
+/// name in quotes where it has one.
+///
+/// The faults come in this order: those of reading; those of the container; a container without
+/// a stream 2; those of that stream; that of the first record whose leaf is at fault; and that the
+/// text wasn't taken whole. All of the input is read, and the whole text is made, before any of it
+/// is written.
+pub fn run_types<R: Source, W: Sink, A: Allocator + Copy>(
+    alloc: A,
+    input: &mut R,
+    limit: u32,
+    out: &mut W,
+) -> Result<(), RunFault<A>>
+    ensures { Answers ShowsTypes HasNoTypes limit (R.left input.old) (R.left input.new) (R.is_broken input.new) W.taken W.is_broken out.old out.new result }
+{
+    run(alloc, &Types, input, limit, out)
+}

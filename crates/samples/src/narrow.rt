@@ -1,0 +1,45 @@
+//! A sink with little room.
+
+ghost use Rattle.std.specs.Prelude.{None};
+
+use msf_blocks::Sink;
+use std::alloc::Global;
+
+/// Takes at most `step` bytes a call and `room` bytes in all, and is broken then.
+///
+/// A test sees what it took; clauses do not.
+#[derive(Drop)]
+pub struct Narrow {
+    pub taken: Vec<u8>,
+    pub step: usize,
+    pub room: usize,
+    pub broken: bool,
+}
+
+impl Narrow {
+    /// A sink that has taken nothing yet.
+    pub fn new(alloc: Global, step: usize, room: usize) -> Narrow {
+        Narrow {
+            taken: Vec::new(alloc),
+            step,
+            room,
+            broken: false,
+        }
+    }
+}
+
+impl Sink for Narrow {
+    ghost taken = { λ _. None };
+
+    ghost is_broken = { λ s. s.broken };
+
+    fn put(&mut self, bytes: &[u8]) -> usize {
+        let count = bytes.len().min(self.room).min(self.step);
+        if self.taken.extend_from_slice(&bytes[..count]).is_err() || count == 0 {
+            self.broken = true;
+            return 0;
+        }
+        self.room -= count;
+        count
+    }
+}
