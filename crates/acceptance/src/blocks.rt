@@ -30,7 +30,7 @@ fn data_blocks_of_512(rt: HostRuntime) -> Result<(), Fail> {
     Ok(())
 }
 
-/// Whether a block is free in these bytes, or the fault of their superblock.
+/// Whether block `n` of a file is free, or the fault of its superblock.
 fn bit(file: &[u8], n: u32) -> Result<Option<bool>, MsfFault> {
     let superblock = Superblock::read(file)?;
     Ok(free_bit(file, &superblock, n))
@@ -44,7 +44,7 @@ fn bits_of_the_free_block_maps(rt: HostRuntime) -> Result<(), Fail> {
     put(&mut file, 512, b"\x40");
     assert_eq!(rt; bit(&file, 6), Ok(Some(true)));
     assert_eq!(rt; bit(&file, 5), Ok(Some(false)));
-    // Two blocks, the second of which is the block map: map 2 isn't in the file.
+    // There are two blocks, and the second is the block map. Map 2 is not in the file.
     put(&mut file, 36, b"\x02\0\0\0\x02\0\0\0");
     put(&mut file, 52, b"\x01");
     assert_eq!(rt; bit(&file, 0), Ok(None));
@@ -53,8 +53,8 @@ fn bits_of_the_free_block_maps(rt: HostRuntime) -> Result<(), Fail> {
 
 #[test]
 fn bits_of_a_map_in_use(rt: HostRuntime) -> Result<(), Fail> {
-    // Seven blocks of 4,096 bytes, as a file without types has them: all in use, and all that
-    // follow marked as free.
+    // Seven blocks of 4,096 bytes, as in a file without types. All of them are in use, and all
+    // that follow are marked as free.
     let mut file = vec![in rt.alloc(); 0u8; 28672]?;
     put(
         &mut file,

@@ -1,4 +1,4 @@
-//! Images: their lengths, their bytes, and writers that are refused memory or room.
+//! Images: their lengths, their bytes, and writers that are out of memory or have too little room.
 
 use linked_list_allocator::LocalHeap;
 use msf_blocks::{Out, Sink};
@@ -12,7 +12,7 @@ use tpi_records::tpi_header_bytes;
 /// The length of the file without types, in bytes: seven blocks of 4,096.
 const LENGTH: usize = 28672;
 
-/// What the file without types has that isn't zero, and where.
+/// The bytes of the file without types that are not zero, each part with its offset.
 const PARTS: [(usize, &[u8]); 10] = [
     // block 0: the superblock
     (0, b"Microsoft C/C++ MSF 7.00\x0d\x0a\x1aDS\0\0\0"),
@@ -44,7 +44,7 @@ const PARTS: [(usize, &[u8]); 10] = [
     (24596, b"\xff\xff\xff\xff\x04\0\0\0\xff\xff\x03\x00"),
 ];
 
-/// The file without types, from its table.
+/// The file without types, made from its table.
 fn expected(alloc: Global) -> Result<Vec<u8>, Fail> {
     let mut file = vec![in alloc; 0u8; LENGTH]?;
     for (at, bytes) in PARTS {
@@ -62,7 +62,8 @@ fn settings_of(block_size: u32) -> Result<Settings, Fail> {
     Ok(Settings::new(guid, 1, 1_073_741_824, block_size).ok_or("no settings")?)
 }
 
-/// How long the image is with this stream 2 and an info stream, in blocks of this size.
+/// The length of the image with an info stream and a stream 2 of `types` bytes, in blocks of this
+/// size.
 fn len_of(block_size: u32, types: u32) -> Result<Option<u32>, Fail> {
     let settings = settings_of(block_size)?;
     Ok(image_len(&[0, 52, types, 0, 0], settings.block_size()))
@@ -150,7 +151,8 @@ fn maps_of_small_blocks(rt: HostRuntime) -> Result<(), Fail> {
     let types = vec![in rt.alloc(); 0u8; 2_071_552]?;
     let file = image_of(rt.alloc(), 512, &types)?;
     assert_eq!(rt; file.len(), 2_097_664);
-    // All blocks that the first map block speaks of are in use, and one of the second.
+    // All blocks that have a bit in the first map block are in use, and one that has its bit in the
+    // second.
     for (place, first, others) in [
         (512, 0, 0),
         (1_024, 0xFF, 0xFF),
@@ -207,7 +209,7 @@ fn write_three<'a, W: Sink>(
     )
 }
 
-/// So many bytes, of which those that stand side by side differ.
+/// `len` bytes. Any two that are next to each other differ.
 fn numbered(alloc: Global, len: usize) -> Result<Vec<u8>, Fail> {
     let mut bytes = Vec::new(alloc);
     for number in (0..=250u8).cycle().take(len) {
@@ -331,7 +333,7 @@ fn growth_is_refused_before_anything_is_written(rt: HostRuntime) -> Result<(), F
     Ok(())
 }
 
-/// The image of a stream 2 that passes the map blocks of the second interval by one byte.
+/// The image of a stream 2 that has one byte after the map blocks of the second interval.
 fn long_image(alloc: Global) -> Result<Vec<u8>, Fail> {
     let types = vec![in alloc; 0xABu8; 16_744_449]?;
     let mut file = Vec::with_capacity(alloc, 16_793_600)?;
@@ -350,7 +352,7 @@ fn maps_without_meaning_are_free(rt: HostRuntime) -> Result<(), Fail> {
         (4096, 4608, 0),
         (4608, 4609, 0xF0),
         (4609, 12288, 0xFF),
-        // The last block in front of the maps, the maps, and the one behind them.
+        // The last block before the maps, the maps, and the block after them.
         (16_777_216, 16_781_312, 0xAB),
         (16_781_312, 16_789_504, 0xFF),
         (16_789_504, 16_789_505, 0xAB),

@@ -1,4 +1,4 @@
-//! The layout of the sample, and refused growth.
+//! The layout of the sample, and out of memory.
 
 use linked_list_allocator::LocalHeap;
 use msf_blocks::{In, Layout, MsfFault, Out, Sink, Source, put_all};

@@ -1,7 +1,7 @@
 //! Tests over all the libraries: what no clause says, at their public calls.
 //!
 //! The rows come from the tables of the formats and from other programs, never from this one.
-//! The tests of merging stand in `pdb_merge`, those of the commands in `pdb_commands`.
+//! The tests of merging are in `pdb_merge`, those of the commands in `pdb_commands`.
 #![tactic(auto)]
 
 #[cfg(test)]

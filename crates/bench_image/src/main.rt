@@ -1,5 +1,5 @@
-//! For the benchmark `bench/image`: writes a PDB file to standard output, whose stream of types has
-//! a header that announces no records, and so many bytes in all.
+//! For the benchmark `bench/image`: writes a PDB file to standard output. Its TPI stream has a
+//! header that announces no records, and as many bytes in all as the first argument says.
 #![tactic(auto)]
 
 use msf_blocks::Out;
@@ -12,7 +12,8 @@ use std::rt::Env;
 use tpi_records::tpi_header_bytes;
 use uuid::Uuid;
 
-/// A stream of so many bytes, or of a header where these are fewer.
+/// A TPI stream of `size` bytes: a header, then zeros. Where `size` is less than the header's
+/// length, the stream is the header alone.
 fn type_stream<R: AllocGlobal>(rt: &R, size: usize) -> Option<Vec<u8>> {
     let mut stream = Vec::new(rt.alloc());
     stream.extend_from_slice(&tpi_header_bytes(0, 0)).ok()?;
@@ -22,8 +23,8 @@ fn type_stream<R: AllocGlobal>(rt: &R, size: usize) -> Option<Vec<u8>> {
     Some(stream)
 }
 
-/// Writes the file whose size of stream 2 is the first argument, in blocks of the second, as many
-/// times as the third says.
+/// Writes the file. The arguments are the size of stream 2 in bytes, the size of a block in bytes,
+/// and how many times the file is written.
 fn write<R: Env + Print + AllocGlobal>(rt: &R) -> Option<()> {
     let mut arguments = env::args(rt).ok()?.skip(1);
     let size = arguments.next()?.parse::<u32>().ok()?;

@@ -1,7 +1,7 @@
 //! For the benchmark `bench/places`: checks all type records of a PDB file and walks their places,
-//! as often as it is told.
+//! a number of times.
 //!
-//! Its words are a file and how often. It prints how many records there are, and the sum of all
+//! Its arguments are the file and this number. It prints the number of records, and the sum of all
 //! places of all turns.
 #![tactic(auto)]
 
@@ -35,8 +35,8 @@ fn places_in_all<A: Allocator>(records: &Records<'_, A>) -> u64 {
     sum
 }
 
-/// Walks the places of all records of a file so many times; how many records there are, and the
-/// sum of the places.
+/// Walks the places of all records of a file `turns` times. Returns the number of records, and the
+/// sum of all places of all turns.
 fn walk(alloc: Global, file: &[u8], turns: u32) -> Option<(usize, u64)> {
     let layout = Layout::read(alloc, file).ok()?;
     let stream = gather(alloc, file, &layout, 2).ok()?;
@@ -48,7 +48,7 @@ fn walk(alloc: Global, file: &[u8], turns: u32) -> Option<(usize, u64)> {
     Some((records.len(), sum))
 }
 
-/// The answer for the words of the command line.
+/// The answer for the arguments of the command line.
 fn answer<R: Env + Files + AllocGlobal>(rt: &R) -> Option<(usize, u64)> {
     let mut words = env::args(rt).ok()?.skip(1);
     let file = fs::read(rt, words.next()?.as_str()).ok()?;

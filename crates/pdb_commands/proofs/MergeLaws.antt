@@ -11,7 +11,7 @@ use Rattle.pdb_commands.specs.declared.fault.RunFault.TheVariants.{Merge}
 one_inside : {A : Type 0} (a b : MergeFault A) → Merge a ≡ Merge b → a ≡ b
 one_inside a b same = cc
 
--- a fault of merging is inside where the command answers one, and it isn't that there is no memory
+-- where the command has a fault of merging, that fault came from merging, and it is not out of memory
 pub merge_inside : {A : Type 0} (fault : OutFault A) (inner : MergeFault A) → of_out fault ≡ Merge inner → (fault ≡ outs.Merge inner) × (inner ≢ merges.Memory)
 merge_inside (outs.Merge (merges.Refused file refused)) inner is = let one = one_inside (merges.Refused file refused) inner is in (ap outs.Merge one, λ memory. cc)
 merge_inside (outs.Merge (merges.TooLarge file bytes)) inner is = let one = one_inside (merges.TooLarge file bytes) inner is in (ap outs.Merge one, λ memory. cc)

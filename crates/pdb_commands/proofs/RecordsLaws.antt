@@ -12,11 +12,11 @@ unfolding record_lines
 lines_more text new index bytes left others all so_far split added =
     rw added (append_assoc text (record_line index bytes) (record_lines (index + 1) others)) ∙ rw split at so_far
 
--- what holds of all holds of the others
+-- what holds of all records holds of the others
 pub each_left : (left others : List (List ℕ)) (bytes : List ℕ) → left ≡ bytes ∷ others → AllByRecursion IsRecord left → AllByRecursion IsRecord others
 each_left left others bytes split each = (rw split at each).1
 
--- where none are left, the text is whole
+-- where no records are left, the text is complete
 pub lines_whole : (text : List ℕ) (index : ℕ) (left : List (List ℕ)) (all : List ℕ) → text ++ record_lines index left ≡ all → left ≡ [] → text ≡ all
 unfolding record_lines
 lines_whole text index left all so_far none = sym (append-nil text) ∙ rw none at so_far

@@ -21,15 +21,15 @@ range_at n i lt = ap (λ (xs : List ℕ). get_or xs i 0) (sym (map-id (range_wit
 range_long : (n : ℕ) → length (range_with_len 0 n) ≡ n
 range_long n = ap length (sym (map-id (range_with_len 0 n))) ∙ length-map-range_with_len (λ (k : ℕ). k) 0 n
 
--- one that counts
+-- a number that counts
 pub count_yes : (p : ℕ → Bool) (n i : ℕ) → i < n → p i ≡ true → count_by p (take (i + 1) (range_with_len 0 n)) ≡ count_by p (take i (range_with_len 0 n)) + 1
 count_yes p n i lt e = count_by_more_yes p (range_with_len 0 n) i 0 (omega (arith, range_long n)) (rw (range_at n i lt) e)
 
--- one that doesn't
+-- a number that does not count
 pub count_no : (p : ℕ → Bool) (n i : ℕ) → i < n → p i ≡ false → count_by p (take (i + 1) (range_with_len 0 n)) ≡ count_by p (take i (range_with_len 0 n))
 count_no p n i lt e = count_by_more_no p (range_with_len 0 n) i 0 (omega (arith, range_long n)) (rw (range_at n i lt) e)
 
--- all have been looked at
+-- all numbers were looked at
 pub count_whole : (p : ℕ → Bool) (n i count : ℕ) → count ≡ count_by p (take i (range_with_len 0 n)) → n ≤ i → count ≡ count_by p (range_with_len 0 n)
 count_whole p n i count so_far all =
     let whole : take i (range_with_len 0 n) ≡ range_with_len 0 n = take_all i (range_with_len 0 n) (omega (arith, range_long n)) in
@@ -61,18 +61,18 @@ blocks_more text new before stream k block there so_far added =
     let next = take_next (blocks_in stream) blank_number k block (sym (listed_block stream k) ∙ there) in
     added ∙ rw (so_far, next) (append_assoc before (flat_map blank_number (take k (blocks_in stream))) (blank_number block))
 
--- where the list ends, no more are left
+-- where the list ends, no blocks are left
 pub blocks_end : (text before : List ℕ) (stream : Option Listed) (k count : ℕ) → block_in stream k ≡ None → k ≤ count → text ≡ before ++ flat_map blank_number (take k (blocks_in stream))
     → text ≡ before ++ flat_map blank_number (take count (blocks_in stream))
 blocks_end text before stream k count none le so_far = rw (take_past (blocks_in stream) k count (sym (listed_block stream k) ∙ none) le) so_far
 
--- five parts that are added in turn
+-- five parts that are appended one after the other
 pub five_parts : (t0 t1 t2 t3 t4 t5 a b c d e : List ℕ) → t1 ≡ t0 ++ a → t2 ≡ t1 ++ b → t3 ≡ t2 ++ c → t4 ≡ t3 ++ d → t5 ≡ t4 ++ e → t5 ≡ t0 ++ (a ++ b ++ c ++ d ++ e)
 five_parts t0 t1 t2 t3 t4 t5 a b c d e e1 e2 e3 e4 e5 = rw (e5, e4, e3, e2, e1) (simp append_assoc)
 
 -- ---- the lines of streams
 
--- a line that is added part by part
+-- a line that is appended part by part
 pub line_whole : (fields : Fields) (streams : List Listed) (s size count : ℕ) (t0 t1 t2 t3 t4 : List ℕ) → All (IsListed fields) streams → size ≡ unwrap_or (option_map (λ l. bytes_of l.size) (slice_get streams s)) 0
     → count ≡ blocks_for fields.block_size size → t1 ≡ t0 ++ decimal s → t2 ≡ t1 ++ blank_number size → t3 ≡ t2 ++ flat_map blank_number (take count (blocks_in (slice_get streams s))) → t4 ≡ t3 ++ 10 ∷ []
     → IfSome (slice_get streams s) (λ stream. t4 ≡ t0 ++ stream_line s stream)

@@ -1,4 +1,4 @@
--- What stands within quotes.
+-- Bytes within quotes.
 use Rattle.std.proofs.Common.{◌≡◌, ◌<◌, ℕ, true, arith}
 use Rattle.std.proofs.lemmas.Bool.Decides.{nat_tests}
 use Rattle.pdb_commands.specs.Text.{is_plain}

@@ -7,7 +7,7 @@ use Rattle.pdb_commands.specs.Types.{AreTypeLines, type_line}
 
 -- ---- lines
 
--- with the lines of these records behind it, the text is the lines of all
+-- with the lines of these records after it, the text is the lines of all
 abbrev pub Begins : List (List ℕ) → List ℕ → ℕ → List (List ℕ) → Type 0
 Begins all text index left = (back : List ℕ) → AreTypeLines index left back → AreTypeLines 0x1000 all (text ++ back)
 
@@ -17,7 +17,7 @@ pub types_more : (all : List (List ℕ)) (text new : List ℕ) (index : ℕ) (by
 types_more all text new index bytes left others so_far split (at, has, added) back lines =
     rw (added, append_assoc text (type_line index bytes at) back) (so_far (type_line index bytes at ++ back) (rw split (at, back, has, lines, refl)))
 
--- where no records are left, the text is whole
+-- where no records are left, the text is complete
 pub types_whole : (all : List (List ℕ)) (text : List ℕ) (index : ℕ) (left : List (List ℕ)) → Begins all text index left → left ≡ [] → AreTypeLines 0x1000 all text
 types_whole all text index left so_far none = rw (append-nil text) at (so_far [] (rw none refl))
 
@@ -27,7 +27,7 @@ types_whole all text index left so_far none = rw (append-nil text) at (so_far []
 abbrev pub Checked : List (List ℕ) → List (List ℕ) → ℕ → Type 0
 Checked all left index = (before : List (List ℕ)) × (all ≡ before ++ left) × AllByRecursion IsChecked before × (index ≡ 0x1000 + length before)
 
--- what holds of these records and of one more holds of both
+-- what holds of each of these records and of one more holds of each of them together
 each_and : (before : List (List ℕ)) (bytes : List ℕ) → AllByRecursion IsChecked before → IsChecked bytes → AllByRecursion IsChecked (before ++ bytes ∷ [])
 each_and [] bytes each one = (one, tt)
 each_and (first ∷ others) bytes each one = (each.0, each_and others bytes each.1 one)

@@ -7,12 +7,12 @@ use Rattle.pdb_commands.specs.Text.{word_line}
 use Rattle.pdb_commands.specs.declared.fault.RunFault.{RunFault}
 use Rattle.pdb_commands.specs.declared.fault.RunFault.TheVariants.{Pdb}
 
--- what is printed of so many records, of so many bytes together, on so many levels
+-- what is printed of types that have this number of records, of bytes together and of levels
 unfoldable pub checked_lines : ℕ → ℕ → ℕ → List ℕ
 checked_lines records bytes levels =
     codes "accepted" ++ 10 ∷ word_line (codes "records") records ++ word_line (codes "bytes") bytes ++ word_line (codes "levels") levels
 
--- `check` prints this text for the file: that it is accepted, and how many records, bytes and levels of types it has
+-- `check` prints this text for the file: that it is accepted, and the number of records, of bytes and of levels of its types
 abbrev pub ShowsChecked : List ℕ → List ℕ → Type 0
 ShowsChecked file text =
     (records : List (List ℕ)) × (levels : ℕ) × IsAccepted file records × HasLevels records levels × (text ≡ checked_lines (length records) (length (concat records)) levels)

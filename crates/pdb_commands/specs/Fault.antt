@@ -1,4 +1,4 @@
--- The fault of a command that a fault of a layer below becomes: out of memory is one, wherever it was met.
+-- The faults of crates below, as faults of a command. Out of memory is always `Memory`.
 use Rattle.pdb_info.specs.declared.fault.InfoFault.{InfoFault}
 use Rattle.pdb_info.specs.declared.fault.InfoFault.TheVariants as infos
 use Rattle.pdb_merge.specs.declared.fault.PdbFault.{PdbFault}
@@ -12,27 +12,27 @@ use Rattle.pdb_commands.specs.declared.input.ReadFault.TheVariants as reads
 use Rattle.pdb_commands.specs.declared.fault.RunFault.{RunFault}
 use Rattle.pdb_commands.specs.declared.fault.RunFault.TheVariants.{Read, Info, Pdb, Merge, Memory, Write}
 
--- of reading
+-- a fault of reading
 abbrev pub of_read : {A : Type 0} → ReadFault → RunFault A
 of_read reads.Memory = Memory
 of_read fault = Read fault
 
--- of the info stream
+-- a fault of the info stream
 abbrev pub of_info : {A : Type 0} → InfoFault → RunFault A
 of_info infos.Memory = Memory
 of_info fault = Info fault
 
--- of a file
+-- a fault of a file
 abbrev pub of_pdb : {A : Type 0} → PdbFault A → RunFault A
 of_pdb pdb.Memory = Memory
 of_pdb fault = Pdb fault
 
--- of merging
+-- a fault of merging
 abbrev pub of_merge : {A : Type 0} → MergeFault A → RunFault A
 of_merge merges.Memory = Memory
 of_merge fault = Merge fault
 
--- of merging, or of writing the file
+-- a fault of merging, or of writing the file
 abbrev pub of_out : {A : Type 0} → OutFault A → RunFault A
 of_out (outs.Merge fault) = of_merge fault
 of_out outs.Memory = Memory

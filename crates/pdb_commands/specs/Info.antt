@@ -17,7 +17,7 @@ use Rattle.pdb_commands.specs.Text.{index_text, quoted, word_line}
 use Rattle.pdb_commands.specs.declared.fault.RunFault.{RunFault}
 use Rattle.pdb_commands.specs.declared.fault.RunFault.TheVariants.{Info, Pdb}
 
--- this is the info stream of the file: its stream 1
+-- `info` is what the info stream of the file says; the info stream is stream 1
 pub record HasInfoStream (file : List ℕ) (info : InfoView) : Type 0 where
   pub layout : LayoutView
   pub has_layout : HasLayout file layout
@@ -54,12 +54,12 @@ abbrev pub ShowsInfo : List ℕ → List ℕ → Type 0
 ShowsInfo file text =
     (info : InfoView) × HasInfoStream file info × (text ≡ header_lines info.header ++ flat_map name_line info.names ++ flat_map feature_line info.features)
 
--- this is the first fault of the file on the way to the bytes of its info stream: of its layout, else that it has no stream 1
+-- this is the first fault of the file on the way to the bytes of its info stream: a fault of its layout, else that it has no stream 1
 abbrev pub HasNoInfoStream : {A : Type 0} → List ℕ → PdbFault A → Type 0
 HasNoInfoStream file (pdb.Stream fault) = (layout : LayoutView) × HasLayout file layout × (length layout.streams ≤ 1) × (fault ≡ NoStream 1)
 HasNoInfoStream file fault = HasLayoutFault file fault
 
--- this is the first fault of the file on the way to its info stream: of its layout, else that it has no stream 1, else of that stream
+-- this is the first fault of the file on the way to its info stream: a fault of its layout, else that it has no stream 1, else a fault of that stream
 abbrev pub HasNoInfo : {A : Type 0} → List ℕ → RunFault A → Type 0
 HasNoInfo file (Pdb fault) = HasNoInfoStream file fault
 HasNoInfo file (Info fault) = (layout : LayoutView) × (stream : List ℕ) × HasLayout file layout × (stream_text file layout 1 ≡ Some stream) × (first_failing (info_checks stream) ≡ Some fault)

@@ -4,13 +4,13 @@ use Rattle.std.specs.Io.KnownBytes.{Consumes, IsAtEnd}
 use Rattle.pdb_commands.specs.declared.input.ReadFault.{ReadFault}
 use Rattle.pdb_commands.specs.declared.input.ReadFault.TheVariants.{Read, TooLong, Memory}
 
--- the source had these bytes left and no more, and they are within the limit
+-- the source had just these bytes left, and they are at most `limit` bytes
 pub record GivesAll (old new : Option (List ℕ)) (limit : ℕ) (bytes : List ℕ) : Type 0 where
   pub came : Consumes old new bytes
   pub ended : IsAtEnd new
   pub short : length bytes ≤ limit
 
--- the source isn't read to its end: it is broken, or more bytes came than the limit allows
+-- this is why the source is not read to its end: it is broken, or more bytes came than the limit allows
 abbrev pub IsNotRead : Option (List ℕ) → Option (List ℕ) → Bool → ℕ → ReadFault → Type 0
 IsNotRead old new broken limit Read = broken ≡ true
 IsNotRead old new broken limit TooLong = (bytes : List ℕ) × (limit < length bytes) × Consumes old new bytes

@@ -11,25 +11,25 @@ use Rattle.pdb_commands.specs.Text.{word_line}
 use Rattle.pdb_commands.specs.declared.fault.RunFault.{RunFault}
 use Rattle.pdb_commands.specs.declared.fault.RunFault.TheVariants.{Merge, Memory, Write}
 
--- what is reported of a written file: how many types it has, how many bytes they have together, and how long it is
+-- the report on a written file: how many types it has, how many bytes they have together, and how long the file is
 unfoldable pub summary_lines : Summary → List ℕ
 summary_lines summary = word_line (codes "types") summary.types ++ word_line (codes "bytes") summary.bytes ++ word_line (codes "file") summary.length
 
--- one sink took the file of the types of some files
+-- a sink took the file of the types of some files
 abbrev pub WroteWhole : List (List ℕ) → SettingsView → Option (List ℕ) → Option (List ℕ) → Type 0
 WroteWhole files settings old new = (summary : Summary) × Wrote files settings old new summary
 
--- one sink took that file, and the other one the report on it
+-- one sink took that file, and the other sink took the report on it
 abbrev pub WroteAndReported : List (List ℕ) → SettingsView → Option (List ℕ) → Option (List ℕ) → Option (List ℕ) → Option (List ℕ) → Type 0
 WroteAndReported files settings old new told_before told_after =
     (summary : Summary) × Wrote files settings old new summary × Appends told_before told_after (summary_lines summary)
 
--- one sink took that file, and the other one the first bytes of the report, and not all of them
+-- one sink took that file, and the other sink took the first bytes of the report, but not all of them
 abbrev pub WroteAndBrokeOff : List (List ℕ) → SettingsView → Option (List ℕ) → Option (List ℕ) → Option (List ℕ) → Option (List ℕ) → Type 0
 WroteAndBrokeOff files settings old new told_before told_after =
     (summary : Summary) × Wrote files settings old new summary × AppendsPart told_before told_after (summary_lines summary)
 
--- this is why the command is refused: the files are, by this fault; or there is no memory; or a sink broke
+-- this is why the command is refused: the files are refused with this fault, or it is out of memory, or a sink broke
 abbrev pub IsNotMerged : {A : Type 0} → List (List ℕ) → ℕ → RunFault A → Type 0
 IsNotMerged files limit (Merge inner) = Stops files limit inner × (inner ≢ merge.Memory)
 IsNotMerged files limit Memory = Unit {0}

@@ -14,7 +14,7 @@ use Rattle.pdb_commands.specs.Text.{index_text, quoted}
 use Rattle.pdb_commands.specs.declared.fault.RunFault.{RunFault}
 use Rattle.pdb_commands.specs.declared.fault.RunFault.TheVariants.{NoRecord, Leaf}
 
--- the record of this type index among these, the first of which has the index 0x1000
+-- the record that has this type index; the first of these records has the index 0x1000
 unfoldable pub record_of : List (List ℕ) → ℕ → Option (List ℕ)
 record_of records index = if nat_le 0x1000 index then slice_get records (index - 0x1000) else None
 
@@ -22,7 +22,7 @@ record_of records index = if nat_le 0x1000 index then slice_get records (index -
 unfoldable pub bytes_line : List ℕ → List ℕ
 bytes_line bytes = encode_lower bytes ++ 10 ∷ []
 
--- the line of a place of a record: the place, and the type index that stands there
+-- the line of a place of a record: the place, and the type index at it
 unfoldable pub place_line : List ℕ → ℕ → List ℕ
 place_line bytes place = decimal place ++ 32 ∷ index_text (number_at 4 (body_of bytes) place) ++ 10 ∷ []
 
@@ -31,7 +31,7 @@ unfoldable pub name_lines : Option (List ℕ) → List ℕ
 name_lines None = []
 name_lines (Some name) = codes "name " ++ quoted name ++ 10 ∷ []
 
--- `record` prints this text for the file and the type index: the bytes of its record, the places in it, its name
+-- `record` prints this text for the file and the type index: the bytes of the record, its places, its name
 pub record ShowsRecord (index : ℕ) (file text : List ℕ) : Type 0 where
   pub records : List (List ℕ)
   pub has_records : HasTypeRecords file records
@@ -41,7 +41,7 @@ pub record ShowsRecord (index : ℕ) (file text : List ℕ) : Type 0 where
   pub has_places : HasPlaces bytes places
   pub lines : text ≡ bytes_line bytes ++ flat_map (place_line bytes) places ++ name_lines (name_of bytes)
 
--- this is the first fault on the way to the record of this type index: of the file's type records, else that none has the index, else of that record
+-- this is the first fault on the way to the record of this type index: a fault of the file's type records, else that none has the index, else a fault of that record
 abbrev pub HasNoRecord : {A : Type 0} → ℕ → List ℕ → RunFault A → Type 0
 HasNoRecord index file (NoRecord missing) = (records : List (List ℕ)) × HasTypeRecords file records × (missing ≡ index) × (record_of records index ≡ None)
 HasNoRecord index file (Leaf at fault) = (records : List (List ℕ)) × (bytes : List ℕ) × HasTypeRecords file records × (at ≡ index) × (record_of records index ≡ Some bytes) × (first_failing (record_checks bytes) ≡ Some fault)

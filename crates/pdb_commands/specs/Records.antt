@@ -11,7 +11,7 @@ use Rattle.pdb_commands.specs.declared.fault.RunFault.TheVariants.{Pdb}
 unfoldable pub record_line : ℕ → List ℕ → List ℕ
 record_line index bytes = index_text index ++ 32 ∷ kind_text (number_at 2 bytes 2) ++ 32 ∷ decimal (length bytes) ++ 10 ∷ []
 
--- the lines of records in order, the first of which has this type index
+-- the lines of records in order; the first record has this type index
 unfoldable pub record_lines : ℕ → List (List ℕ) → List ℕ
 record_lines index [] = []
 record_lines index (bytes ∷ others) = record_line index bytes ++ record_lines (index + 1) others

@@ -34,7 +34,7 @@ blank_number number = 32 ∷ decimal number
 unfoldable pub stream_line : ℕ → Listed → List ℕ
 stream_line s stream = decimal s ++ blank_number (bytes_of stream.size) ++ flat_map blank_number stream.blocks ++ 10 ∷ []
 
--- the lines of streams in order, the first of which has this number
+-- the lines of streams in order; the first stream has this number
 unfoldable pub stream_lines : ℕ → List Listed → List ℕ
 stream_lines s [] = []
 stream_lines s (stream ∷ others) = stream_line s stream ++ stream_lines (s + 1) others
@@ -48,7 +48,7 @@ abbrev pub HasLayoutFault : {A : Type 0} → List ℕ → PdbFault A → Type 0
 HasLayoutFault file (pdb.Msf fault) = first_failing (layout_checks file) ≡ Some fault
 HasLayoutFault file _ = ⊥
 
--- this is the first fault of the file on the way to its layout, as the command answers it
+-- this is the first fault of the file on the way to its layout, as a fault of the command
 abbrev pub HasNoLayout : {A : Type 0} → List ℕ → RunFault A → Type 0
 HasNoLayout file (Pdb fault) = HasLayoutFault file fault
 HasNoLayout file _ = ⊥

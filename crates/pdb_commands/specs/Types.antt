@@ -16,24 +16,24 @@ use Rattle.pdb_commands.specs.Text.{index_text, quoted}
 use Rattle.pdb_commands.specs.declared.fault.RunFault.{RunFault}
 use Rattle.pdb_commands.specs.declared.fault.RunFault.TheVariants.{Leaf}
 
--- a reference behind a blank: the type index at a place of a record
+-- a space and a reference: the type index at a place of a record
 abbrev pub reference : List ℕ → ℕ → List ℕ
 reference bytes place = 32 ∷ index_text (number_at 4 (body_of bytes) place)
 
--- a name in quotes behind a blank, where there is one
+-- a space and a name in quotes, where there is a name
 unfoldable pub quoted_name : Option (List ℕ) → List ℕ
 quoted_name None = []
 quoted_name (Some name) = 32 ∷ quoted name
 
--- what the leaf of a record is called
+-- the name of the leaf of a record
 unfoldable pub leaf_name : List ℕ → List ℕ
 leaf_name bytes = option_map_or (λ l. l.text) (leaf_of (kind_of bytes)) []
 
--- the line of a record with these places: its type index, its leaf, its size in bytes, each reference, its name
+-- the line of a record with these places: its type index, the name of its leaf, its size in bytes, each reference, its name
 unfoldable pub type_line : ℕ → List ℕ → List ℕ → List ℕ
 type_line index bytes places = index_text index ++ 32 ∷ leaf_name bytes ++ 32 ∷ decimal (length bytes) ++ flat_map (reference bytes) places ++ quoted_name (name_of bytes) ++ 10 ∷ []
 
--- the text is the lines of these records in order, the first of which has this type index
+-- the text is the lines of these records in order; the first record has this type index
 abbrev pub AreTypeLines : ℕ → List (List ℕ) → List ℕ → Type 0
 AreTypeLines index [] text = text ≡ []
 AreTypeLines index (bytes ∷ others) text =
@@ -43,13 +43,13 @@ AreTypeLines index (bytes ∷ others) text =
 abbrev pub ShowsTypes : List ℕ → List ℕ → Type 0
 ShowsTypes file text = (records : List (List ℕ)) × HasTypeRecords file records × AreTypeLines 0x1000 records text
 
--- of these records the first whose leaf is at fault has this type index and this fault
+-- the first of these records whose leaf is at fault has this type index and this fault
 abbrev pub HasLeafFault : List (List ℕ) → ℕ → LeafFault → Type 0
 HasLeafFault records index fault =
     (before : List (List ℕ)) × (bytes : List ℕ) × (after : List (List ℕ)) × (records ≡ before ++ bytes ∷ after)
     × AllByRecursion IsChecked before × (index ≡ 0x1000 + length before) × (first_failing (record_checks bytes) ≡ Some fault)
 
--- this is the first fault on the way to the types: of the file's type records, else of the first record whose leaf is at fault
+-- this is the first fault on the way to the types: a fault of the file's type records, else that of the first record whose leaf is at fault
 abbrev pub HasNoTypes : {A : Type 0} → List ℕ → RunFault A → Type 0
 HasNoTypes file (Leaf index fault) = (records : List (List ℕ)) × HasTypeRecords file records × HasLeafFault records index fault
 HasNoTypes file fault = HasNoTypeRecords file fault

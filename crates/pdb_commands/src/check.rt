@@ -11,7 +11,7 @@ use msf_blocks::{Sink, Source};
 use pdb_merge::{Buffer, read_types};
 use std::alloc::{AllocError, Allocator};
 
-/// Adds the lines on types of which there are so many, of so many bytes and on so many levels.
+/// Appends `accepted`, then the number of records, of bytes and of levels, one per line.
 #[tactic(auto, unfolding(crate::specs::Checked::checked_lines))]
 fn push_checked<A: Allocator>(
     text: &mut String<A>,
@@ -51,14 +51,16 @@ impl<A: Allocator + Copy> Show<A> for Check {
     }
 }
 
-/// Runs the command `check`: that the file is accepted, and how many type records it has, how many
-/// bytes these have together, their length fields included, and how many levels of types.
+/// Runs the command `check`: writes that the file is accepted, how many type records it has, how
+/// many bytes they have together, with their length fields, and how many levels of types there are.
 ///
-/// The faults come in this order: those of reading; those of the container; a container without
-/// a stream 1; a stream 1 with fewer bytes than a header; a container without a stream 2; those of
-/// that stream; those of its records, in order, of each its leaf and then its references; a cycle
-/// of references; and that the text wasn't taken whole. All of the input is read, and the whole text is made, before any
-/// of it is written.
+/// The input may have at most `limit` bytes. The faults come in this order: those of reading; those
+/// of the container; a container without a stream 1; a stream 1 with fewer bytes than a header; a
+/// container without a stream 2; those of that stream; those of its records, in order, for each
+/// record its leaf and then its references; a cycle of references; and `Write`, where the sink did
+/// not take the whole text. The whole input is read, and the whole text is made, before any of it
+/// is written. After `Write` the sink is broken and took the first bytes of the text. After any
+/// other fault it took nothing.
 pub fn run_check<R: Source, W: Sink, A: Allocator + Copy>(
     alloc: A,
     input: &mut R,

@@ -14,10 +14,10 @@ use thiserror::Error;
 
 /// Why a command is refused.
 ///
-/// Out of memory is `Memory` wherever it was met: the faults inside the others never are it.
+/// Out of memory is always `Memory`: a fault inside another variant is never out of memory.
 #[derive(Debug, PartialEq, Eq, Drop, Error)]
 pub enum RunFault<A: Allocator = Global> {
-    /// The input wasn't read to its end.
+    /// The input was not read to its end.
     #[error("{0}")]
     Read(ReadFault),
     /// The file is refused: its container, a stream that it lacks, or its type records.
@@ -26,19 +26,19 @@ pub enum RunFault<A: Allocator = Global> {
     /// The info stream is refused.
     #[error("{0}")]
     Info(InfoFault),
-    /// The files can't be merged.
+    /// The files cannot be merged.
     #[error("{0}")]
     Merge(MergeFault<A>),
-    /// No type record has this index.
+    /// No type record has this type index.
     #[error("39 NoRecord {0:#x}")]
     NoRecord(u32),
-    /// The record of this index has a leaf that is refused.
+    /// The record with this type index has a leaf that is refused.
     #[error("index {index:#x}: {fault}")]
     Leaf { index: u32, fault: LeafFault },
-    /// A growth was refused.
+    /// Out of memory.
     #[error("33 Memory")]
     Memory,
-    /// The text or the file wasn't taken whole.
+    /// A sink did not take the whole text or the whole file.
     #[error("36 Write")]
     Write,
 }

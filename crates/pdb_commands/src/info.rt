@@ -22,7 +22,7 @@ use uuid::Uuid;
 /// The stream that identifies a file.
 const INFO_STREAM: u32 = 1;
 
-/// Adds the line of the signature.
+/// Appends the line of the signature.
 #[tactic(auto, unfolding(crate::specs::Info::signature_line))]
 fn push_signature<A: Allocator>(text: &mut String<A>, signature: u32) -> Result<(), AllocError>
     ensures { OnOk result (string_bytes text.new ≡ string_bytes text.old ++ signature_line signature) }
@@ -33,7 +33,7 @@ fn push_signature<A: Allocator>(text: &mut String<A>, signature: u32) -> Result<
     Ok(())
 }
 
-/// Adds the line of the GUID.
+/// Appends the line of the GUID.
 #[tactic(auto, unfolding(crate::specs::Info::guid_line))]
 fn push_guid<A: Allocator>(text: &mut String<A>, guid: Uuid) -> Result<(), AllocError>
     ensures { OnOk result (string_bytes text.new ≡ string_bytes text.old ++ guid_line guid) }
@@ -45,7 +45,7 @@ fn push_guid<A: Allocator>(text: &mut String<A>, guid: Uuid) -> Result<(), Alloc
     Ok(())
 }
 
-/// Adds the lines of the header.
+/// Appends the lines of the header.
 #[tactic(auto, unfolding(crate::specs::Info::header_lines))]
 fn push_header<A: Allocator>(text: &mut String<A>, header: &InfoHeader) -> Result<(), AllocError>
     ensures { OnOk result (string_bytes text.new ≡ string_bytes text.old ++ header_lines header.now) }
@@ -57,7 +57,7 @@ fn push_header<A: Allocator>(text: &mut String<A>, header: &InfoHeader) -> Resul
     Ok(())
 }
 
-/// Adds the line of a named stream.
+/// Appends the line of a named stream.
 #[tactic(auto, unfolding(crate::specs::Info::name_line))]
 fn push_name<A: Allocator>(text: &mut String<A>, name: &Name<'_>) -> Result<(), AllocError>
     ensures { OnOk result (string_bytes text.new ≡ string_bytes text.old ++ name_line (named name.now)) }
@@ -69,7 +69,7 @@ fn push_name<A: Allocator>(text: &mut String<A>, name: &Name<'_>) -> Result<(), 
     Ok(())
 }
 
-/// Adds the lines of all named streams.
+/// Appends the lines of all named streams.
 fn push_names<A: Allocator>(text: &mut String<A>, names: &[Name<'_>]) -> Result<(), AllocError>
     ensures { OnOk result (string_bytes text.new ≡ string_bytes text.old ++ flat_map name_line (map named names.now)) }
 {
@@ -79,7 +79,7 @@ fn push_names<A: Allocator>(text: &mut String<A>, names: &[Name<'_>]) -> Result<
     Ok(())
 }
 
-/// Adds the lines of all feature codes.
+/// Appends the lines of all feature codes.
 fn push_features<A: Allocator>(text: &mut String<A>, features: &[u32]) -> Result<(), AllocError>
     ensures { OnOk result (string_bytes text.new ≡ string_bytes text.old ++ flat_map feature_line features.now) }
 {
@@ -118,12 +118,15 @@ impl<A: Allocator + Copy> Show<A> for Info {
     }
 }
 
-/// Runs the command `info`: the version, the signature, the age and the GUID, a line for each
-/// named stream in the order of the buckets, and one for each feature code.
+/// Runs the command `info`: writes the version, the signature, the age and the GUID, each on a
+/// line. Then there is a line for each named stream, in the order of the buckets, and a line for
+/// each feature code.
 ///
-/// The faults come in this order: those of reading; those of the container; a container without
-/// a stream 1; those of that stream; and that the text wasn't taken whole. All of the input is
-/// read, and the whole text is made, before any of it is written.
+/// The input may have at most `limit` bytes. The faults come in this order: those of reading; those
+/// of the container; a container without a stream 1; those of that stream; and `Write`, where the
+/// sink did not take the whole text. The whole input is read, and the whole text is made, before
+/// any of it is written. After `Write` the sink is broken and took the first bytes of the text.
+/// After any other fault it took nothing.
 pub fn run_info<R: Source, W: Sink, A: Allocator + Copy>(
     alloc: A,
     input: &mut R,

@@ -8,10 +8,10 @@ use msf_blocks::Source;
 use std::alloc::{AllocError, Allocator};
 use thiserror::Error;
 
-/// How many bytes are asked for at a time.
+/// How many bytes each call of `fetch` asks for.
 const PIECE: usize = 65536;
 
-/// Why an input wasn't read to its end.
+/// Why an input was not read to its end.
 #[derive(Clone, Copy, Debug, PartialEq, Eq, Error)]
 pub enum ReadFault {
     /// The source is broken.
@@ -20,7 +20,7 @@ pub enum ReadFault {
     /// More bytes came than the limit allows.
     #[error("38 TooLong")]
     TooLong,
-    /// A growth was refused.
+    /// Out of memory.
     #[error("33 Memory")]
     Memory,
 }
@@ -33,12 +33,13 @@ impl From<AllocError> for ReadFault {
     }
 }
 
-/// Reads a source to its end.
+/// Reads a source to its end, and returns all its bytes.
 ///
-/// Refused are a source that breaks and one that gives more than `limit` bytes; then some of its
-/// bytes are gone. It fetches at most `limit + 1` times, so that a source that never ends is
-/// refused too. What it keeps grows geometrically, with no regard to what the source may say of
-/// its length.
+/// The faults: `Read` where the source breaks, `TooLong` where it gives more than `limit` bytes,
+/// and `Memory` when out of memory. After a fault some of the source's bytes may be gone.
+///
+/// This fetches at most `limit + 1` times, so a source that never ends is refused too. The buffer
+/// grows geometrically, whatever the source says of its length.
 pub fn read_all<R: Source, A: Allocator>(
     alloc: A,
     input: &mut R,
@@ -61,6 +62,6 @@ pub fn read_all<R: Source, A: Allocator>(
         }
         file.extend_from_slice(&piece[..count])?;
     }
-    // Each turn gave a byte, so that one more than the limit came.
+    // Each turn gave at least one byte, so more bytes came than the limit allows.
     Err(ReadFault::TooLong)
 }

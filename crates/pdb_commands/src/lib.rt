@@ -1,17 +1,18 @@
 //! The commands of `pdbmerge`, each as a function from bytes to bytes.
 //!
-//! A command that shows a file reads a [`Source`](msf_blocks::Source) to its end, makes its whole
-//! text, and then writes it into a [`Sink`](msf_blocks::Sink): [`run_records`], [`run_record`],
-//! [`run_types`], [`run_check`], [`run_info`] and [`run_streams`]. [`run_merge`] writes the file
-//! with the types of several, and a report on it. What a command refuses, it refuses with a
+//! Most commands show a file: [`run_records`], [`run_record`], [`run_types`], [`run_check`],
+//! [`run_info`] and [`run_streams`]. Such a command reads a [`Source`](msf_blocks::Source) to its
+//! end, makes its whole text, and then writes it into a [`Sink`](msf_blocks::Sink). [`run_merge`]
+//! writes one file with the types of several files, and a report on it. Each refusal is a
 //! [`RunFault`].
 //!
-//! What is proved: the text that is written is that of the file (`Shows..` of `specs/`), byte for
-//! byte; a refusal is the first fault of reading or of the file; after `36 Write` the sink is
-//! broken and took the first bytes of the text; after any other refusal nothing was written.
+//! What is proved of the commands that show a file: the text that is written is the text of the
+//! file (`Shows..` of `specs/`), byte for byte. A refusal is the first fault of reading or of the
+//! file. After `36 Write` the sink is broken and took the first bytes of the text. After any other
+//! refusal nothing was written.
 //!
-//! `show` runs all commands that show; each command has a file of its own, `input` reads, and
-//! `text` prints numbers and names.
+//! The module `show` runs the commands that show a file. Each command has a module of its own.
+//! `input` reads, and `text` prints numbers and names.
 #![tactic(auto)]
 
 mod check;

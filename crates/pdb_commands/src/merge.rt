@@ -1,4 +1,4 @@
-//! The command `merge`: one file with the types of all files, each once.
+//! The command `merge`: writes one file with the types of all files, each once.
 
 ghost use Rattle.std.specs.Prelude.{◌≡◌, ◌≢◌, ◌⊎◌, ◌++◌, true, ℕ, List, OnOk, IfOk, IfErr, string_bytes};
 ghost use Rattle.std.specs.Io.KnownBytes.{Appends};
@@ -47,12 +47,15 @@ fn report_on<V: Sink, A: Allocator>(
 }
 
 /// Runs the command `merge`: writes one file with the types of all files into `out`, and then a
-/// report into `report`: how many types it has, how many bytes their records have together, and
-/// how long the file is, each on a line.
+/// report into `report`. The report has three lines: the number of types, the number of bytes that
+/// their records have together, and the length of the file in bytes.
 ///
-/// A file that can't be merged is refused as by [`pdb_merge::merge_files`], with its position,
-/// and nothing is written then. After `Write` one of the sinks is broken: `out`, which has taken
-/// the first bytes of the file, or `report`, and then `out` holds the whole file.
+/// Files that cannot be merged are refused as [`pdb_merge::merge_files`] refuses them, with the
+/// position of a file, from 0. Nothing is written then. After `Memory` nothing was written, or
+/// `out` holds the whole file and nothing was written into `report`. After `Write` one of the sinks
+/// is broken. If it is `out`, it took the first bytes of the file, and nothing was written into
+/// `report`. If it is `report`, it took the first bytes of the report, and `out` holds the whole
+/// file.
 pub fn run_merge<W: Sink, V: Sink, S: BuildHasher + Drop, A: Allocator + Copy>(
     alloc: A,
     files: &[&[u8]],
@@ -63,15 +66,15 @@ pub fn run_merge<W: Sink, V: Sink, S: BuildHasher + Drop, A: Allocator + Copy>(
 ) -> Result<(), RunFault<A>>
     ensures value { OnOk result (WroteAndReported (texts_of files.now) settings.now (W.taken out.old) (W.taken out.new) (V.taken report.old) (V.taken report.new)) }
     ensures can { OnOk result (CanMerge (texts_of files.now) (record_limit settings.now)) }
-    // Files that can be merged are refused only where memory is, or by a sink.
+    // Files that can be merged are refused only when out of memory, or by a sink.
     ensures found { CanMerge (texts_of files.now) (record_limit settings.now) → IfErr result (λ fault. (fault ≡ RunFault.Memory) ⊎ (fault ≡ RunFault.Write)) }
     ensures first { IfErr result (IsNotMerged (texts_of files.now) (record_limit settings.now)) }
-    // Files that are refused are refused in any order.
+    // Files that are refused in one order are refused in any order.
     ensures any_order { IfErr result (λ fault. (inner : MergeFault A) → fault ≡ RunFault.Merge inner
         → (others : List (List ℕ)) → SameFiles (texts_of files.now) others → CanMerge others (record_limit settings.now) → ⊥) }
     ensures write { result ≡ Err RunFault.Write → ((W.is_broken out.new ≡ true) × WrotePart (texts_of files.now) settings.now (W.taken out.old) (W.taken out.new) × (report.new ≡ report.old))
         ⊎ ((V.is_broken report.new ≡ true) × WroteAndBrokeOff (texts_of files.now) settings.now (W.taken out.old) (W.taken out.new) (V.taken report.old) (V.taken report.new)) }
-    // Without memory, nothing was written, or the whole file and no report.
+    // After `Memory`, nothing was written, or the whole file and no report.
     ensures memory { result ≡ Err RunFault.Memory → (report.new ≡ report.old) × ((out.new ≡ out.old) ⊎ WroteWhole (texts_of files.now) settings.now (W.taken out.old) (W.taken out.new)) }
     ensures untouched { IfErr result (λ fault. (inner : MergeFault A) → fault ≡ RunFault.Merge inner → (out.new ≡ out.old) × (report.new ≡ report.old)) }
 {

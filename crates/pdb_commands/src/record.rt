@@ -1,4 +1,4 @@
-//! The command `record`: one type record of a file, with what it names.
+//! The command `record`: one type record of a file, with the types that it names.
 
 ghost use Rattle.std.specs.Prelude.{◌≡◌, ◌≤◌, ◌+◌, ◌^◌, ◌⊎◌, ◌++◌, List, ℕ, true, OnOk, IfOk, IfErr, IfSome, option_map, string_bytes, length};
 ghost use Rattle.std.specs.List.{flat_map};
@@ -18,19 +18,19 @@ use pdb_merge::{Buffer, read_records};
 use std::alloc::{AllocError, Allocator};
 use tpi_records::Records;
 
-/// The record of a type index.
+/// The record that has a type index. `None` where no record has it.
 #[tactic(auto, unfolding(crate::specs::Record::record_of))]
 fn record_of<'a, A: Allocator>(records: &Records<'a, A>, index: u32) -> Option<&'a [u8]>
     ensures value { option_map (λ r. r.now) result ≡ record_of records.now index }
     ensures long { IfSome result (λ r. (4 ≤ length r.now) × (length r.now ≤ 2 ^ 16)) }
 {
     let bytes = records.get(index.checked_sub(FIRST_INDEX)? as usize)?;
-    // The proof learns here that the length field is below 2^16.
+    // This call tells the proof that the length field is below 2^16.
     let _ = u16_at(bytes, 0);
     Some(bytes)
 }
 
-/// Adds the line of the bytes, in hexadecimal.
+/// Appends the line with the bytes in hexadecimal.
 #[tactic(auto, unfolding(crate::specs::Record::bytes_line))]
 fn push_bytes<A: Allocator + Copy>(
     alloc: A,
@@ -44,7 +44,7 @@ fn push_bytes<A: Allocator + Copy>(
     Ok(())
 }
 
-/// Adds the line of a place.
+/// Appends the line of a place: the place and the type index there.
 #[tactic(auto, unfolding(crate::specs::Record::place_line))]
 fn push_place<A: Allocator>(
     text: &mut String<A>,
@@ -60,7 +60,7 @@ fn push_place<A: Allocator>(
     Ok(())
 }
 
-/// Adds the lines of all places.
+/// Appends the lines of all places.
 fn push_places<A: Allocator>(text: &mut String<A>, bytes: &[u8]) -> Result<(), AllocError>
     requires long { (4 ≤ length bytes.now) × (length bytes.now ≤ 2 ^ 16) }
     requires checked { IsChecked bytes.now }
@@ -72,7 +72,7 @@ fn push_places<A: Allocator>(text: &mut String<A>, bytes: &[u8]) -> Result<(), A
     Ok(())
 }
 
-/// Adds the line of the name, where there is one.
+/// Appends the line of the name, where there is one.
 #[tactic(auto, unfolding(crate::specs::Record::name_lines))]
 fn push_name<A: Allocator>(text: &mut String<A>, bytes: &[u8]) -> Result<(), AllocError>
     requires long { (4 ≤ length bytes.now) × (length bytes.now ≤ 2 ^ 16) }
@@ -124,13 +124,16 @@ impl<A: Allocator + Copy> Show<A> for Record {
     }
 }
 
-/// Runs the command `record`: the bytes of the record of a type index in hexadecimal, a line for
-/// each place with the type index that stands there, and its name where it has one.
+/// Runs the command `record`: writes the record that has the type index `index`. The first line has
+/// its bytes in hexadecimal. Then there is a line for each place, with the type index there, and a
+/// line with the name, where the record has one.
 ///
-/// The faults come in this order: those of reading; those of the container; a container without
-/// a stream 2; those of that stream; that no record has the index; those of the record's leaf; and
-/// that the text wasn't taken whole. All of the input is read, and the whole text is made, before
-/// any of it is written.
+/// The input may have at most `limit` bytes. The faults come in this order: those of reading; those
+/// of the container; a container without a stream 2; those of that stream; `NoRecord`, where no
+/// record has the index; those of the record's leaf; and `Write`, where the sink did not take the
+/// whole text. The whole input is read, and the whole text is made, before any of it is written.
+/// After `Write` the sink is broken and took the first bytes of the text. After any other fault it
+/// took nothing.
 pub fn run_record<R: Source, W: Sink, A: Allocator + Copy>(
     alloc: A,
     input: &mut R,

@@ -16,7 +16,7 @@ use std::alloc::{AllocError, Allocator};
 /// The type index of the first record.
 pub const FIRST_INDEX: u32 = 0x1000;
 
-/// Adds the line of a record, which is whole: it begins with its length field.
+/// Appends the line of a record. `bytes` is the whole record, with its length field.
 #[tactic(auto, unfolding(crate::specs::Records::record_line, cv_leaves::specs::Checks::kind_of))]
 fn push_record<A: Allocator>(
     text: &mut String<A>,
@@ -42,7 +42,7 @@ fn record_lines<A: Allocator + Copy>(
     ensures { IfOk result (λ text. string_bytes text ≡ record_lines 0x1000 records.now) }
 {
     let mut text = String::new(alloc);
-    // The proof learns here that the indices of all records are below 2^32.
+    // This call tells the proof that the indices of all records are below 2^32.
     let _ = records.len();
     let mut index = FIRST_INDEX;
     for bytes in records.iter() {
@@ -68,12 +68,14 @@ impl<A: Allocator + Copy> Show<A> for Records {
     }
 }
 
-/// Runs the command `records`: for each type record a line with its type index, its kind and its
-/// size in bytes, its length field included.
+/// Runs the command `records`: writes a line for each type record, with its type index, its kind
+/// and its size in bytes. The size includes the length field.
 ///
-/// The faults come in this order: those of reading; those of the container; a container without
-/// a stream 2; those of that stream; and that the text wasn't taken whole. All of the input is
-/// read, and the whole text is made, before any of it is written.
+/// The input may have at most `limit` bytes. The faults come in this order: those of reading; those
+/// of the container; a container without a stream 2; those of that stream; and `Write`, where the
+/// sink did not take the whole text. The whole input is read, and the whole text is made, before
+/// any of it is written. After `Write` the sink is broken and took the first bytes of the text.
+/// After any other fault it took nothing.
 pub fn run_records<R: Source, W: Sink, A: Allocator + Copy>(
     alloc: A,
     input: &mut R,

@@ -1,4 +1,4 @@
-//! How every command that shows a file runs.
+//! How a command that shows a file runs.
 
 ghost use Rattle.std.specs.Prelude.{◌≡◌, ◌⊎◌, ℕ, List, true, OnOk, IfOk, IfErr, string_bytes};
 ghost use Rattle.pdb_commands.specs.Run.{Answers, IsOfText};
@@ -9,25 +9,28 @@ use crate::input::read_all;
 use msf_blocks::{Sink, Source, put_all};
 use std::alloc::Allocator;
 
-/// A command that shows a file: it makes a text of the file's bytes.
+/// A command that shows a file: it makes a text from the file's bytes.
 pub trait Show<A: Allocator + Copy> {
     /// The command prints this text for this file.
     ghost shows: { Self → List ℕ → List ℕ → Type 0 };
 
-    /// The command refuses this file with this fault, the first that it meets.
+    /// The command refuses this file with this fault, which is the first that it meets.
     ghost refuses: { Self → List ℕ → RunFault A → Type 0 };
 
     /// Makes the whole text.
     fn text(&self, alloc: A, file: &[u8]) -> Result<String<A>, RunFault<A>>
         ensures value { IfOk result (λ text. shows self.now file.now (string_bytes text)) }
         ensures first { IfErr result (λ fault. refuses self.now file.now fault ⊎ (fault ≡ RunFault.Memory)) }
-        // It neither reads nor writes.
+        // This neither reads nor writes, so it has no fault of reading or of writing.
         ensures pure { IfErr result IsOfText };
 }
 
-/// Runs a command: reads all of the input, makes the whole text, then writes it.
+/// Runs a command: reads the whole input, makes the whole text, then writes the text.
 ///
-/// So whatever is refused, but for the writing itself, is refused before anything was written.
+/// `limit` is the greatest number of bytes that the input may have. The faults come in this order:
+/// those of reading, those of the command for this file, and `Write` where the sink did not take
+/// the whole text. Only after `Write` has the sink taken anything. It is broken then, and it has
+/// the first bytes of the text.
 pub fn run<C: Show<A>, R: Source, W: Sink, A: Allocator + Copy>(
     alloc: A,
     command: &C,

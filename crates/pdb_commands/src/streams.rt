@@ -16,7 +16,7 @@ use msf_blocks::{Layout, Sink, Source, Superblock, free_bit};
 use pdb_merge::PdbFault;
 use std::alloc::{AllocError, Allocator};
 
-/// Whether a block of the file is free, by the map in force.
+/// Whether a block of the file is free, by the map that the superblock names.
 fn is_free(file: &[u8], superblock: &Superblock, block: u32) -> bool
     requires whole { superblock.now.num_blocks * superblock.now.block_size ≤ length file.now }
     requires below { block < superblock.now.num_blocks }
@@ -24,12 +24,12 @@ fn is_free(file: &[u8], superblock: &Superblock, block: u32) -> bool
 {
     match free_bit(file, superblock, block) {
         Some(free) => free,
-        // No map block in the file speaks of it.
+        // No map block in the file has a bit for it.
         None => false,
     }
 }
 
-/// How many blocks of the file are free, by the map in force.
+/// How many blocks of the file are free, by the map that the superblock names.
 #[tactic(auto, using(crate::proofs::StreamsLaws::count_yes, crate::proofs::StreamsLaws::count_no), unfolding(crate::specs::Streams::free_blocks))]
 fn free_blocks(file: &[u8], superblock: &Superblock) -> u32
     requires { superblock.now.num_blocks * superblock.now.block_size ≤ length file.now }
@@ -44,14 +44,14 @@ fn free_blocks(file: &[u8], superblock: &Superblock) -> u32
     free
 }
 
-/// Adds a number behind a blank.
+/// Appends a space and a number.
 fn push_number<A: Allocator>(text: &mut String<A>, number: u32) -> Result<(), AllocError>
     ensures { OnOk result (string_bytes text.new ≡ string_bytes text.old ++ blank_number number) }
 {
     write!(text, " {number}")
 }
 
-/// Adds the lines on the container.
+/// Appends the lines on the container.
 #[tactic(auto, unfolding(crate::specs::Streams::container_lines))]
 fn push_container<A: Allocator, L: Allocator>(
     text: &mut String<A>,
@@ -70,7 +70,7 @@ fn push_container<A: Allocator, L: Allocator>(
     Ok(())
 }
 
-/// Adds the numbers of the first blocks of a stream, each behind a blank.
+/// Appends the numbers of the first `count` blocks of a stream, each after a space.
 fn push_blocks<A: Allocator, L: Allocator>(
     text: &mut String<A>,
     layout: &Layout<L>,
@@ -89,7 +89,7 @@ fn push_blocks<A: Allocator, L: Allocator>(
     Ok(())
 }
 
-/// Adds the line of the `s`-th stream, which has so many bytes.
+/// Appends the line of the `s`-th stream: its number, its size in bytes and its blocks.
 #[tactic(auto, using(msf_blocks::proofs::SizeLaws::some_bytes), unfolding(crate::specs::Streams::stream_line))]
 fn push_stream<A: Allocator, L: Allocator>(
     text: &mut String<A>,
@@ -100,7 +100,7 @@ fn push_stream<A: Allocator, L: Allocator>(
     ensures { OnOk result (IfSome (slice_get layout.now.streams s) (λ stream.
         string_bytes text.new ≡ string_bytes text.old ++ stream_line s stream)) }
 {
-    // The proof learns here that a stream has as many blocks as its bytes need.
+    // This call tells the proof that a stream has as many blocks as its bytes need.
     let _ = layout.streams();
     let block_size = layout.superblock().block_size();
     let size = layout.size(s).unwrap_or(0);
@@ -111,7 +111,7 @@ fn push_stream<A: Allocator, L: Allocator>(
     Ok(())
 }
 
-/// Adds the lines of all streams.
+/// Appends the lines of all streams.
 #[tactic(auto, unfolding(crate::specs::Streams::stream_lines))]
 fn push_streams<A: Allocator, L: Allocator>(
     text: &mut String<A>,
@@ -125,7 +125,7 @@ fn push_streams<A: Allocator, L: Allocator>(
     Ok(())
 }
 
-/// The layout of a file. Its faults are those of a file.
+/// Reads the layout of a file. Its faults are those of a file.
 pub fn read_layout<A: Allocator + Copy>(alloc: A, file: &[u8]) -> Result<Layout<A>, PdbFault<A>>
     ensures value { IfOk result (HasLayout file.now) }
     ensures first { IfErr result (λ fault. HasLayoutFault file.now fault ⊎ (fault ≡ PdbFault.Memory)) }
@@ -151,13 +151,15 @@ impl<A: Allocator + Copy> Show<A> for Streams {
     }
 }
 
-/// Runs the command `streams`: the block size, the number of blocks and how many of them are
-/// free, the directory's length in bytes, the number of streams, and for each stream a line with
-/// its number, its size in bytes and the numbers of its blocks.
+/// Runs the command `streams`: writes the block size in bytes, the number of blocks, how many of
+/// them are free, the directory's length in bytes and the number of streams, each on a line. Then
+/// there is a line for each stream, with its number, its size in bytes and the numbers of its
+/// blocks.
 ///
-/// The faults come in this order: those of reading; those of the container; and that the text
-/// wasn't taken whole. All of the input is read, and the whole text is made, before any of it is
-/// written.
+/// The input may have at most `limit` bytes. The faults come in this order: those of reading; those
+/// of the container; and `Write`, where the sink did not take the whole text. The whole input is
+/// read, and the whole text is made, before any of it is written. After `Write` the sink is broken
+/// and took the first bytes of the text. After any other fault it took nothing.
 pub fn run_streams<R: Source, W: Sink, A: Allocator + Copy>(
     alloc: A,
     input: &mut R,

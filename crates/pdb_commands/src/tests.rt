@@ -1,5 +1,5 @@
-//! What no clause says: rows of bytes and the texts that are wanted, that calls succeed with
-//! ample memory, and what readers, writers and heaps that fail lead to.
+//! What no clause says: the texts for rows of bytes, that calls succeed where there is enough
+//! memory, and the answers where readers, writers and heaps fail.
 
 mod growth;
 mod merge;

@@ -5,14 +5,14 @@ ghost use Rattle.pdb_commands.specs.Text.{index_text, is_plain, kind_text, quote
 
 use std::alloc::{AllocError, Allocator};
 
-/// Adds a type index: `0x` and lower case hexadecimal digits without leading zeros.
+/// Appends a type index: `0x` and lower case hexadecimal digits without leading zeros.
 pub fn push_index<A: Allocator>(text: &mut String<A>, index: u32) -> Result<(), AllocError>
     ensures { OnOk result (string_bytes text.new ≡ string_bytes text.old ++ index_text index) }
 {
     write!(text, "0x{index:x}")
 }
 
-/// Adds the kind of a record: `0x` and four lower case hexadecimal digits.
+/// Appends the kind of a record: `0x` and four lower case hexadecimal digits.
 pub fn push_kind<A: Allocator>(text: &mut String<A>, kind: u16) -> Result<(), AllocError>
     ensures { OnOk result (string_bytes text.new ≡ string_bytes text.old ++ kind_text kind) }
 {
@@ -21,7 +21,7 @@ pub fn push_kind<A: Allocator>(text: &mut String<A>, kind: u16) -> Result<(), Al
     write!(text, "0x{high:02x}{low:02x}")
 }
 
-/// Adds a word and its number, on a line.
+/// Appends a line with a word and a number.
 #[tactic(auto, unfolding(crate::specs::Text::word_line))]
 pub fn push_word<A: Allocator>(
     text: &mut String<A>,
@@ -34,7 +34,7 @@ pub fn push_word<A: Allocator>(
     writeln!(text, " {number}")
 }
 
-/// Whether a byte stands for itself within quotes.
+/// Whether a byte is printed as itself within quotes.
 #[tactic(auto, unfolding(crate::specs::Text::is_plain))]
 fn is_plain(byte: u8) -> bool
     ensures { result ≡ is_plain byte }
@@ -42,7 +42,7 @@ fn is_plain(byte: u8) -> bool
     (0x20..=0x7E).contains(&byte) && byte != b'"' && byte != b'\\'
 }
 
-/// Adds a byte as it stands within quotes.
+/// Appends a byte as it is printed within quotes.
 fn push_quoted_byte<A: Allocator>(text: &mut String<A>, byte: u8) -> Result<(), AllocError>
     ensures { OnOk result (string_bytes text.new ≡ string_bytes text.old ++ quoted_byte byte) }
 {
@@ -54,8 +54,8 @@ fn push_quoted_byte<A: Allocator>(text: &mut String<A>, byte: u8) -> Result<(), 
     Ok(())
 }
 
-/// Adds a text in quotes. Its bytes may be any: those that aren't printable ASCII, the quote and
-/// the backslash are written by their numbers.
+/// Appends a text in quotes. It may have any bytes. The quote, the backslash and all bytes that are
+/// not printable ASCII are written by their numbers.
 #[tactic(auto, unfolding(crate::specs::Text::quoted))]
 pub fn push_quoted<A: Allocator>(text: &mut String<A>, bytes: &[u8]) -> Result<(), AllocError>
     ensures { OnOk result (string_bytes text.new ≡ string_bytes text.old ++ quoted bytes.now) }

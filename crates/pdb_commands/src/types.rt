@@ -1,4 +1,4 @@
-//! The command `types`: a line for each type record of a file, with what it names.
+//! The command `types`: a line for each type record of a file, with the types that it names.
 
 ghost use Rattle.std.specs.Prelude.{◌≡◌, ◌≤◌, ◌+◌, ◌^◌, ◌⊎◌, ◌∷◌, ◌++◌, List, ℕ, Some, true, OnOk, IfOk, IfErr, string_bytes, length};
 ghost use Rattle.std.specs.List.{flat_map};
@@ -24,7 +24,7 @@ use pdb_merge::{Buffer, read_records};
 use std::alloc::{AllocError, Allocator};
 use tpi_records::Records;
 
-/// Adds what the leaf of a record is called.
+/// Appends the name of the leaf of a record.
 #[tactic(auto, unfolding(crate::specs::Types::leaf_name))]
 fn push_leaf<A: Allocator>(text: &mut String<A>, bytes: &[u8]) -> Result<(), AllocError>
     requires { 4 ≤ length bytes.now }
@@ -36,7 +36,7 @@ fn push_leaf<A: Allocator>(text: &mut String<A>, bytes: &[u8]) -> Result<(), All
     Ok(())
 }
 
-/// Adds the type index of a record, its leaf and its size.
+/// Appends the type index of a record, the name of its leaf and its size in bytes.
 fn push_head<A: Allocator>(text: &mut String<A>, index: u32, bytes: &[u8]) -> Result<(), AllocError>
     requires { 4 ≤ length bytes.now }
     ensures { OnOk result (string_bytes text.new ≡ string_bytes text.old ++ (index_text index ++ 32 ∷ leaf_name bytes.now ++ 32 ∷ decimal (length bytes.now))) }
@@ -48,7 +48,7 @@ fn push_head<A: Allocator>(text: &mut String<A>, index: u32, bytes: &[u8]) -> Re
     write!(text, " {size}")
 }
 
-/// Adds the type index at a place, behind a blank.
+/// Appends a space and the type index at a place.
 fn push_reference<A: Allocator>(
     text: &mut String<A>,
     bytes: &[u8],
@@ -61,7 +61,7 @@ fn push_reference<A: Allocator>(
     push_index(text, ref_at(bytes, place))
 }
 
-/// Adds the type indices at all places.
+/// Appends the type indices at all places, each after a space.
 fn push_references<A: Allocator>(text: &mut String<A>, bytes: &[u8]) -> Result<(), AllocError>
     requires long { (4 ≤ length bytes.now) × (length bytes.now ≤ 2 ^ 16) }
     requires checked { IsChecked bytes.now }
@@ -73,7 +73,7 @@ fn push_references<A: Allocator>(text: &mut String<A>, bytes: &[u8]) -> Result<(
     Ok(())
 }
 
-/// Adds the name in quotes, behind a blank, where there is one.
+/// Appends a space and the name of a type in quotes, where it has one.
 #[tactic(auto, unfolding(crate::specs::Types::quoted_name))]
 fn push_name<A: Allocator>(text: &mut String<A>, bytes: &[u8]) -> Result<(), AllocError>
     requires { (4 ≤ length bytes.now) × (length bytes.now ≤ 2 ^ 16) }
@@ -86,7 +86,7 @@ fn push_name<A: Allocator>(text: &mut String<A>, bytes: &[u8]) -> Result<(), All
     Ok(())
 }
 
-/// Adds the line of a record whose leaf was checked.
+/// Appends the line of a record whose leaf was checked.
 #[tactic(auto, unfolding(crate::specs::Types::type_line))]
 fn push_line<A: Allocator>(text: &mut String<A>, index: u32, bytes: &[u8]) -> Result<(), AllocError>
     requires long { (4 ≤ length bytes.now) × (length bytes.now ≤ 2 ^ 16) }
@@ -100,7 +100,7 @@ fn push_line<A: Allocator>(text: &mut String<A>, index: u32, bytes: &[u8]) -> Re
     Ok(())
 }
 
-/// Checks the leaf of a record, and adds its line.
+/// Checks the leaf of a record, and appends its line.
 fn push_type<A: Allocator>(
     text: &mut String<A>,
     index: u32,
@@ -110,7 +110,7 @@ fn push_type<A: Allocator>(
     ensures value { OnOk result ((at : List ℕ) × HasPlaces bytes.now at × (string_bytes text.new ≡ string_bytes text.old ++ type_line index bytes.now at)) }
     ensures first { IfErr result (λ fault. ((inner : LeafFault) × (fault ≡ RunFault.Leaf index inner) × (first_failing (record_checks bytes.now) ≡ Some inner)) ⊎ (fault ≡ RunFault.Memory)) }
 {
-    // The proof learns here that the length field is below 2^16.
+    // This call tells the proof that the length field is below 2^16.
     let _ = u16_at(bytes, 0);
     if let Err(fault) = check(bytes) {
         return Err(RunFault::Leaf { index, fault });
@@ -128,7 +128,7 @@ fn type_lines<A: Allocator + Copy>(
     ensures first { IfErr result (λ fault. ((index : ℕ) × (inner : LeafFault) × (fault ≡ RunFault.Leaf index inner) × HasLeafFault records.now index inner) ⊎ (fault ≡ RunFault.Memory)) }
 {
     let mut text = String::new(alloc);
-    // The proof learns here that the indices of all records are below 2^32.
+    // This call tells the proof that the indices of all records are below 2^32.
     let _ = records.len();
     let mut index = FIRST_INDEX;
     for bytes in records.iter() {
@@ -154,14 +154,15 @@ impl<A: Allocator + Copy> Show<A> for Types {
     }
 }
 
-/// Runs the command `types`: for each type record a line with its type index, what its leaf is
-/// called, its size in bytes, the type indices that it names in the order of their places, and its
-/// name in quotes where it has one.
+/// Runs the command `types`: writes a line for each type record. The line has the record's type
+/// index, the name of its leaf, its size in bytes, the type indices that it names, in the order of
+/// their places, and its name in quotes, where it has one.
 ///
-/// The faults come in this order: those of reading; those of the container; a container without
-/// a stream 2; those of that stream; that of the first record whose leaf is at fault; and that the
-/// text wasn't taken whole. All of the input is read, and the whole text is made, before any of it
-/// is written.
+/// The input may have at most `limit` bytes. The faults come in this order: those of reading; those
+/// of the container; a container without a stream 2; those of that stream; the fault of the first
+/// record whose leaf is at fault; and `Write`, where the sink did not take the whole text. The
+/// whole input is read, and the whole text is made, before any of it is written. After `Write` the
+/// sink is broken and took the first bytes of the text. After any other fault it took nothing.
 pub fn run_types<R: Source, W: Sink, A: Allocator + Copy>(
     alloc: A,
     input: &mut R,

@@ -1,4 +1,4 @@
--- What an accepted file can't be besides.
+-- An accepted file has one list of records and no fault.
 use Rattle.std.proofs.Common.{◌≡◌, ◌⊎◌, ◌<◌, ◌≤◌, ℕ, List, Some, length, ap, ◌∙◌, arith, inl, inr}
 use Rattle.std.specs.Prelude.{Result, Ok, Err, IfErr}
 use Rattle.byte_fields.specs.Bytes.{AreBytes}
@@ -22,7 +22,7 @@ use Rattle.pdb_merge.proofs.StreamLaws.{is_listed}
 
 -- ---- refusals
 
--- a fault of stream 1 is the file's
+-- a fault of stream 1 is a fault of the file
 pub info_refused : {A : Type 0} (file : List ℕ) (layout : LayoutView) (inner : PdbFault A) → HasLayout file layout → HasInfoFault file layout inner → HasPdbFault file inner
 info_refused file layout (fault.Msf inner) has refused = absurd refused
 info_refused file layout (fault.Stream inner) has refused = (layout, has, inl refused)
@@ -38,7 +38,7 @@ stream_refused file layout stream tpi.Memory outer is made refused = inr made
 stream_refused file layout stream inner outer is made (inl first) = inl (rw made (stream, is, first))
 stream_refused file layout stream inner outer is made (inr want) = inr (made ∙ ap of_tpi want.0)
 
--- a fault of the records is the file's
+-- a fault of the records is a fault of the file
 pub type_refused : {A : Type 0} (file : List ℕ) (layout : LayoutView) (records : List (List ℕ)) (inner : TypeFault A) (outer : PdbFault A) → HasLayout file layout → HasLongInfo file layout
     → ListsRecords file layout records → outer ≡ of_type inner → IsTypeFault records inner → HasPdbFault file outer ⊎ (outer ≡ fault.Memory)
 type_refused file layout records types.Memory outer has info lists made refused = inr made
@@ -59,7 +59,7 @@ one_list_read file some others bytes s o =
     let same = one_layout file s.layout o.layout bytes s.has_layout o.has_layout in
     one_listed file o.layout some others (rw same at s.lists) o.lists
 
--- a file is accepted with one list of records alone
+-- a file is accepted with only one list of records
 pub one_list : (file : List ℕ) (some others : List (List ℕ)) → IsAccepted file some → IsAccepted file others → some ≡ others
 one_list file some others is_s is_o = one_list_read file some others is_s.bytes is_s.has is_o.has
 
@@ -110,14 +110,14 @@ accepted_unrefused {A = A} file records fault.Memory is refused = streams_unrefu
 
 -- ---- out of memory
 
--- where a file that has type records is refused, it was out of memory
+-- a file that has type records is refused only when out of memory
 pub records_want : {T A : Type 0} (file : List ℕ) (records : List (List ℕ)) (answer : Result T (PdbFault A)) → AreBytes file → HasTypeRecords file records
     → IfErr answer (λ e. HasRecordsFault file e ⊎ (e ≡ fault.Memory)) → IfErr answer (λ e. e ≡ fault.Memory)
 records_want file records (Ok value) bytes is refused = tt
 records_want file records (Err e) bytes is (inl refused) = absurd (records_unrefused file records e bytes is refused)
 records_want file records (Err e) bytes is (inr memory) = memory
 
--- where an accepted file is refused, it was out of memory
+-- an accepted file is refused only when out of memory
 pub wants_memory : {T A : Type 0} (file : List ℕ) (records : List (List ℕ)) (answer : Result T (PdbFault A)) → IsAccepted file records
     → IfErr answer (λ e. HasPdbFault file e ⊎ (e ≡ fault.Memory)) → IfErr answer (λ e. e ≡ fault.Memory)
 wants_memory file records (Ok types) is refused = tt

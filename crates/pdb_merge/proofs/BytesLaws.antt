@@ -1,4 +1,4 @@
--- That the file of types is made of bytes.
+-- The file of types is made of bytes.
 use Rattle.std.proofs.Common.{ℕ, suc, ◌<◌, List, [], ◌∷◌, ◌++◌, length, map, take, drop, get_or, arith}
 use Rattle.std.specs.List.{AllByRecursion, concat}
 use Rattle.std.proofs.lemmas.List.Elements.{Contains-get_or}
@@ -26,15 +26,15 @@ use Rattle.pdb_merge.specs.Merged.{type_stream, merged_texts, merged_file}
 records_bytes : (stream : List ℕ) (records : List (List ℕ)) → AreBytes stream → HasRecords stream records → AllByRecursion AreBytes records
 records_bytes stream records bytes has = bytes_each records (bytes_first (concat records) has.rest (rw (← has.parts) (bytes_drop 56 stream bytes)))
 
--- those of an accepted file are
+-- the records of an accepted file are made of bytes
 accepted_bytes : (file : List ℕ) (records : List (List ℕ)) → IsAccepted file records → AllByRecursion AreBytes records
 accepted_bytes file records is = records_bytes is.has.lists.stream records (stream_is_bytes file is.has.layout 2 is.has.lists.stream is.bytes is.has.lists.is_stream) is.has.lists.has_records
 
--- so is the blank of a tree that stands in records of bytes
+-- the blank of a tree in records of bytes is made of bytes
 standing_bytes : (records : List (List ℕ)) (i : ℕ) (t : Tree) → AllByRecursion AreBytes records → Stands records i t → AreBytes (blank_of t)
 standing_bytes records i (tree b bs) bytes (inside, blank, branches) = rw (← blank) (blanked_bytes (get_or records i []) (at_position AreBytes records i bytes inside))
 
--- and the text of the tree
+-- the text of a tree is made of bytes if its blank is
 text_bytes : (l : List Tree) (t : Tree) → AreBytes (blank_of t) → AreBytes (text l t)
 unfolding text
 text_bytes l t bytes = filled_bytes (blank_of t) (numbers l (branches_of t)) bytes

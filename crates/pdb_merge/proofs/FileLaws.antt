@@ -1,4 +1,4 @@
--- The file of the types of files: one for all lists of files with the same types.
+-- The file of the types of files: all lists of files with the same types have the same file.
 use Rattle.std.proofs.Common.{◌≡◌, ◌↔◌, ℕ, subst, List, [], ◌∷◌, length, refl, sym, ap, ◌∙◌, arith, inl, inr}
 use Rattle.std.specs.Prelude.{Option, Result, Ok, Err, IfOk, IfErr}
 use Rattle.std.specs.List.{concat}
@@ -33,7 +33,7 @@ one_merged_file files others settings same x y age guid size types (records, can
     let one = same_records (HasType files) (HasType others) records found types canon canon_y in
     is_x ∙ ap (merged_file settings) one ∙ same_settings settings same found age guid size ∙ sym is_y
 
--- the file is accepted with its own records alone
+-- the file is accepted only with its own records
 own_records : (P : Tree → Type 0) (file : List ℕ) (records others : List (List ℕ)) → IsBack P file records → IsAccepted file others → records ≡ others
 own_records P file records others back accepted = one_list file records others back.accepted accepted
 
@@ -52,7 +52,7 @@ types_of_one x t =
     let first = types_of_first x [] t in
     (λ h. elim (first.0 h) [ inl here ↦ here | inr none ↦ absurd (omega (arith, none.1)) ], λ here. first.1 (inl here))
 
--- the file of a canonical list of the types of files is just what is said of it
+-- the file of a canonical list of the types of files has all that `IsFileOf` says
 pub is_file : (files : List (List ℕ)) (settings : SettingsView) (records : List (List ℕ)) → AreSettings settings → Within (HasType files) (record_limit settings)
     → IsCanonOf records (HasType files) → IsFileOf files settings (merged_file settings records) records
 is_file files settings records are within canon =

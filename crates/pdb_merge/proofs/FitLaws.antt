@@ -1,4 +1,4 @@
--- How long the file of types is, and that it fits.
+-- The length of the file of types, and that it fits.
 use Rattle.std.proofs.Common.{◌≡◌, ℕ, ◌+◌, ◌<◌, ◌≤◌, ◌^◌, List, [], ◌∷◌, ◌++◌, length, map, refl, ap, ◌∙◌, arith}
 use Rattle.std.specs.Prelude.{All}
 use Rattle.std.specs.List.{concat}
@@ -52,7 +52,7 @@ short_writable settings records are few =
     All-cons P [] (info_text settings.age settings.guid ∷ type_stream records ∷ [] ∷ [] ∷ []) (omega arith)
     (All-cons P (info_text settings.age settings.guid) (type_stream records ∷ [] ∷ [] ∷ []) (omega (arith, length-info settings.age settings.guid are.guid_long)) (All-cons P (type_stream records) ([] ∷ [] ∷ []) short none))
 
--- the texts can be written just where their sizes fit
+-- the texts can be written exactly if their sizes fit
 pub sizes_writable : (settings : SettingsView) (records : List (List ℕ)) → AreSettings settings → Fits settings.block_size (merged_sizes (length (concat records))) → 56 + length (concat records) < 2 ^ 32
     → Writable settings.block_size (merged_texts settings records)
 sizes_writable settings records are fits few = record { short = short_writable settings records are few; fits = rw (sizes_are settings records are) fits }

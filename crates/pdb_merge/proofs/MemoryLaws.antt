@@ -1,4 +1,4 @@
--- Want of memory is answered only where the container has no fault.
+-- Out of memory comes only where the container has no fault.
 use Rattle.std.proofs.Common.{◌≡◌, ◌<◌, ◌∙◌, ℕ, List, Some, None, get_or, refl, sym, ap, inl, inr}
 use Rattle.std.specs.Prelude.{Result, Ok, Err, IfErr}
 use Rattle.byte_fields.specs.Check.{Refuses, first_failing}
@@ -11,17 +11,17 @@ use Rattle.pdb_merge.specs.Fault.{of_msf}
 use Rattle.pdb_merge.specs.declared.fault.PdbFault.{PdbFault}
 use Rattle.pdb_merge.specs.declared.fault.PdbFault.TheVariants.{Memory}
 
--- what is want of memory of a file, was that of its container
+-- if a fault of a container becomes out of memory for the file, it was out of memory
 of_msf_want : {A : Type 0} (inner : MsfFault) → ◌≡◌ {A = PdbFault A} (of_msf inner) Memory → inner ≡ msf.Memory
 of_msf_want msf.Memory is = refl
 of_msf_want inner is = absurd cc
 
--- where the container was refused for want of memory, it has no fault
+-- a container that was refused when out of memory has no fault
 pub layout_want : {A : Type 0} (file : List ℕ) (inner : MsfFault) (fault : PdbFault A) → fault ≡ of_msf inner → Refuses msf.Memory (first_failing (layout_checks file)) inner → fault ≡ Memory → first_failing (layout_checks file) ≡ None
 layout_want file inner fault made (inr want) is = want.1
 layout_want file inner fault made (inl first) is = absurd (layout_wants_none file (first ∙ ap Some (of_msf_want inner (sym made ∙ is))))
 
--- a container that was read has none
+-- a container that was read has no fault
 pub layout_sound : {T A : Type 0} (file : List ℕ) (layout : LayoutView) (result : Result T (PdbFault A)) → ((i : ℕ) → get_or file i 0 < 256) → HasLayout file layout → IfErr result (λ fault. fault ≡ Memory → first_failing (layout_checks file) ≡ None)
 layout_sound file layout (Ok value) bytes has = tt
 layout_sound file layout (Err fault) bytes has = λ is. layout_holds file layout bytes has

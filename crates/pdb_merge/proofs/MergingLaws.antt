@@ -1,4 +1,4 @@
--- Files that a merge takes one after the other.
+-- A merge that takes files one after the other.
 use Rattle.std.proofs.Common.{◌≡◌, ◌↔◌, ℕ, ◌+◌, ◌<◌, ◌≤◌, List, [], ◌∷◌, ◌++◌, length, get_or, take, drop, refl, ap, ◌∙◌, arith, length-append}
 use Rattle.std.proofs.lemmas.List.{get_or_append_left, take_more, take-append-drop, length-take-le}
 use Rattle.std.proofs.Math.Seq.{get_or-append_seam}
@@ -15,13 +15,13 @@ use Rattle.pdb_merge.specs.declared.fault.MergeFault.{MergeFault}
 use Rattle.pdb_merge.specs.declared.fault.MergeFault.TheVariants as merge
 use Rattle.pdb_merge.proofs.UnionLaws.{none_within, none_united, none_accepted, united_more, accepted_more, hindered, added_alone, weighs_same, within_same, all_merged}
 
--- ---- more files after some
+-- ---- files with more files after them
 
--- they change no file before them
+-- more files change no file before them
 same_file : (files more : List (List ℕ)) (i : ℕ) → i < length files → get_or (files ++ more) i [] ≡ get_or files i []
 same_file files more i inside = get_or_append_left files more [] i inside
 
--- nor the types of these
+-- more files do not change the types of those before them
 same_below : (files more : List (List ℕ)) (end : ℕ) → end ≤ length files → (t : Tree) → HasTypeBelow files end t ↔ HasTypeBelow (files ++ more) end t
 same_below files more end inside t = (
   λ h. let same = same_file files more h.0 (omega (arith, h.1, inside)) in (h.0, h.1, rw same h.2),
@@ -42,7 +42,7 @@ can_still files more end limit inside can = record {
   within = within_same (HasTypeBelow files end) (HasTypeBelow (files ++ more) end) limit (same_below files more end inside) can.within;
 }
 
--- what stops some files stops them with more after them
+-- what stops some files also stops them with more files after them
 pub stops_still : {A : Type 0} (files more : List (List ℕ)) (limit : ℕ) (fault : MergeFault A) → Stops files limit fault → Stops (files ++ more) limit fault
 stops_still files more limit (merge.Refused file fault) (inside, can, refused) =
     let same = same_file files more file inside in
@@ -79,7 +79,7 @@ taken_more before after files file takes within taken =
       within = within;
     }
 
--- what hinders a file is the fault of the list of all files
+-- the fault of a file that is added is the fault of the list of all files
 pub taken_stops : {A : Type 0} (before : MergeView) (files : List (List ℕ)) (file : List ℕ) (inner : AddFault A) → Hinders before.types before.limit file inner
     → HasTaken before files → Stops (files ++ file ∷ []) before.limit (of_add (length files) inner)
 taken_stops before files file inner hinders taken =
@@ -96,7 +96,7 @@ taken_stops before files file inner hinders taken =
 pub taken_can : (merge : MergeView) (files : List (List ℕ)) → HasTaken merge files → CanMerge files merge.limit
 taken_can merge files taken = all_merged merge.types files (length files) merge.limit refl taken.unites taken.accepted taken.within
 
--- a file that can be merged with those before it, and with more after it, is hindered by nothing but memory
+-- a file that can be merged with those before it and with more after it is refused only when out of memory
 pub taken_alone : {A : Type 0} (before : MergeView) (files more : List (List ℕ)) (file : List ℕ) (inner : AddFault A) → Hinders before.types before.limit file inner
     → HasTaken before files → CanMerge ((files ++ file ∷ []) ++ more) before.limit → inner ≡ add.Memory
 taken_alone before files more file inner hinders taken can =
@@ -109,7 +109,7 @@ taken_alone before files more file inner hinders taken can =
     let accepted = accepted_still first more (length files) (omega (arith, inside)) (accepted_still files (file ∷ []) (length files) (omega arith) taken.accepted) in
     added_alone before.types all (length files) before.limit inner whole unites accepted taken.within (rw last hinders) can
 
--- ---- what one more file comes to
+-- ---- after one more file
 
 pub taken_after : {A E : Type 0} (before after : MergeView) (file : List ℕ) (answer : Result A E) → IfOk answer (λ _. Takes before.types after.types file)
     → IfOk answer (λ _. Within (IsType after.types) after.limit) → IfOk answer (λ _. (files : List (List ℕ)) → HasTaken before files → HasTaken after (files ++ file ∷ []))
@@ -126,7 +126,7 @@ pub alone_after : {T A : Type 0} (before : MergeView) (file : List ℕ) (answer 
 alone_after before file (Ok done) hinders = tt
 alone_after before file (Err fault) hinders = λ files more taken can. taken_alone before files more file fault hinders taken can
 
--- a list is what stands before a file, the file, and what stands after it
+-- a list is the files before a file, the file, and the files after it
 split_at : (files : List (List ℕ)) (k : ℕ) → k < length files → (take k files ++ get_or files k [] ∷ []) ++ drop (k + 1) files ≡ files
 split_at files k inside = rw (← take_more files k [] inside) (take-append-drop (k + 1) files)
 
@@ -139,7 +139,7 @@ stops_whole files k limit inner outer inside made stops =
     let whole = rw (split_at files k inside, many) at there in
     rw made whole
 
--- a file of a list that can be merged is refused by nothing but memory
+-- a file of a list that can be merged is refused only when out of memory
 pub alone_whole : {A : Type 0} (files : List (List ℕ)) (k limit : ℕ) (inner : AddFault A) (outer : MergeFault A) → k < length files → outer ≡ of_add k inner
     → ((more : List (List ℕ)) → CanMerge ((take k files ++ get_or files k [] ∷ []) ++ more) limit → inner ≡ add.Memory) → CanMerge files limit → outer ≡ merge.Memory
 alone_whole files k limit inner outer inside made alone can =

@@ -1,4 +1,4 @@
--- That the file of types reads back.
+-- The file of types reads back.
 use Rattle.std.proofs.Common.{◌≡◌, ◌↔◌, ℕ, suc, subst, ◌+◌, ◌*◌, ◌<◌, ◌≤◌, List, [], ◌∷◌, length, map, get_or, refl, sym, ap, ◌∙◌, arith, inl, inr}
 use Rattle.std.specs.List.{AllByRecursion, Contains, concat}
 use Rattle.std.proofs.lemmas.Bool.{cases_order}
@@ -36,7 +36,7 @@ pub merged_length : (settings : SettingsView) (records : List (List ℕ)) → Ar
 unfolding merged_file
 merged_length settings records are few = (merged_back settings records are few).long ∙ ap (image_length settings.block_size) (sizes_are settings records are)
 
--- records that are a table are a stream of types
+-- the TPI stream of records that have at most 1,073,741,824 bytes together has these records
 pub stream_holds : (records : List (List ℕ)) → AllByRecursion IsRecord records → length (concat records) ≤ 1073741824 → HasRecords (type_stream records) records
 unfolding type_stream
 stream_holds records each few =
@@ -64,7 +64,7 @@ accepted_back settings records are few each bytes types =
 
 -- ---- the types of the file
 
--- what holds at each position holds of each
+-- what holds at each position holds of each record
 all_positions : (P : List ℕ → Type 0) (records : List (List ℕ)) → ((i : ℕ) → i < length records → P (get_or records i [])) → AllByRecursion P records
 all_positions P [] each = tt
 all_positions P (r ∷ records) each = (each 0 (omega arith), all_positions P records (λ i inside. each (suc i) (omega (arith, inside))))
@@ -72,7 +72,7 @@ all_positions P (r ∷ records) each = (each 0 (omega arith), all_positions P re
 in_range : (r : List (List ℕ)) (i : ℕ) (t : Tree) → Stands r i t → i < length r
 in_range r i (tree b bs) h = h.0
 
--- the texts of a canonical list of them are records, types, and have just these types
+-- the texts of a canonical list of trees are records, are types, and have just these trees as types
 pub record AreCanon (P : Tree → Type 0) (records : List (List ℕ)) : Type 0 where
   pub types : AreTypes records
   pub just : (t : Tree) → IsType records t ↔ P t
@@ -107,14 +107,14 @@ canon_back P l canonical members =
 pub canon_types : (P : Tree → Type 0) (records : List (List ℕ)) → IsCanonOf records P → AreCanon P records
 canon_types P records (l, canonical, are, members) = rw are (canon_back P l canonical members)
 
--- it has as many bytes as the types weigh
+-- a canonical list of types is within a limit if the types are
 pub canon_within : (P : Tree → Type 0) (records : List (List ℕ)) (limit : ℕ) → IsCanonOf records P → Within P limit → length (concat records) ≤ limit
 canon_within P records limit (l, canonical, are, members) (bytes, (m, lists, heavy), few) =
     let less = weight_grows l m canonical.distinct (λ t c. (lists.members t).1 ((members t).0 c)) in
     let same : length (concat records) ≡ weight l = ap (λ (x : List (List ℕ)). length (concat x)) are ∙ weight_of_texts l canonical in
     omega (arith, less, same, heavy, few)
 
--- the file of a canonical list of the types of files
+-- the file of a canonical list of the types of files: what holds when it is read back
 pub record IsBack (P : Tree → Type 0) (file : List ℕ) (records : List (List ℕ)) : Type 0 where
   pub accepted : IsAccepted file records
   pub just : (t : Tree) → IsType records t ↔ P t

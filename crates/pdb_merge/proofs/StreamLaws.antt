@@ -12,7 +12,7 @@ length-text : (file : List ℕ) (block_size : ℕ) (stream : Listed) → length 
 unfolding gathered
 length-text file block_size stream = length-map-range_with_len _ 0 (bytes_of stream.size)
 
--- a stream that is listed has a text of its size
+-- a stream that is listed has a text, which has the listed size
 text_there : (file : List ℕ) (block_size size : ℕ) (found : Option Listed) → option_map (λ s. bytes_of s.size) found ≡ Some size
     → (text : List ℕ) × (option_map (text_of file block_size) found ≡ Some text) × (length text ≡ size)
 text_there file block_size size None is = absurd cc
@@ -24,13 +24,13 @@ long_info file layout size is long =
     let there = text_there file layout.superblock.block_size size (slice_get layout.streams 1) is in
     (there.0, there.1, omega (arith, there.2))
 
--- a stream 1 of fewer bytes
+-- a stream 1 of fewer than 28 bytes
 pub short_info : (file : List ℕ) (layout : LayoutView) (size : ℕ) → option_map (λ s. bytes_of s.size) (slice_get layout.streams 1) ≡ Some size → size < 28 → HasShortInfo file layout
 short_info file layout size is short =
     let there = text_there file layout.superblock.block_size size (slice_get layout.streams 1) is in
     (there.0, there.1, omega (arith, there.2))
 
--- a stream that isn't listed
+-- a stream that is not listed
 pub not_listed : (found : Option ℕ) (streams : List Listed) (s : ℕ) → found ≡ option_map (λ l. bytes_of l.size) (slice_get streams s) → found ≡ None → length streams < s + 1
 not_listed found streams s is none = elim (slice_get_cases streams s).1 [
   | inl (stream, lt, e, at) ↦ let some = rw e at is in absurd cc

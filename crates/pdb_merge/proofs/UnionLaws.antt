@@ -38,14 +38,14 @@ weighs_same P Q bytes same (l, lists, heavy) =
 pub within_same : (P Q : Tree → Type 0) (limit : ℕ) → ((t : Tree) → P t ↔ Q t) → Within P limit → Within Q limit
 within_same P Q limit same (bytes, weighs, few) = (bytes, weighs_same P Q bytes same weighs, few)
 
--- types weigh one number of bytes
+-- the weight of types is unique
 pub one_weight : (P : Tree → Type 0) (some other : ℕ) → Weighs P some → Weighs P other → some ≡ other
 one_weight P some other (l, lists_l, is_l) (m, lists_m, is_m) =
     let up = weight_grows l m lists_l.distinct (λ t c. (lists_m.members t).1 ((lists_l.members t).0 c)) in
     let down = weight_grows m l lists_m.distinct (λ t c. (lists_l.members t).1 ((lists_m.members t).0 c)) in
     omega (arith, up, down, is_l, is_m)
 
--- what a table says of a union
+-- the weight of a union that a table has
 union_weighs : (before types : List (List ℕ)) (l : List Tree) (bytes : ℕ) → IsUnion l before types → weight l ≡ bytes → Weighs (λ t. IsType before t ⊎ IsType types t) bytes
 union_weighs before types l bytes union heavy = (l, record { distinct = union.distinct; members = union.members }, heavy)
 
@@ -53,7 +53,7 @@ pub union_within : (before types after : List (List ℕ)) (limit : ℕ) → (l :
 union_within before types after limit u same =
     within_same (λ t. IsType before t ⊎ IsType types t) (IsType after) limit (λ t. ((same t).1, (same t).0)) (weight u.0, union_weighs before types u.0 (weight u.0) u.1 refl, u.2)
 
--- why types weren't added
+-- a fault of the union is a fault of the file that is added
 pub join_hinders : {A : Type 0} (before types : List (List ℕ)) (limit : ℕ) (file : List ℕ) (inner : JoinFault) (outer : AddFault A) → IsAccepted file types → outer ≡ of_join inner
     → ((bytes : ℕ) → inner ≡ join.TooLarge bytes → (limit < bytes) × ((l : List Tree) × IsUnion l before types × (weight l ≡ bytes))) → Hinders before limit file outer
 join_hinders before types limit file (join.TooLarge bytes) outer accepted made large =
@@ -109,7 +109,7 @@ pub all_merged : (before files : List (List ℕ)) (k limit : ℕ) → k ≡ leng
 all_merged before files k limit all unites accepted within =
     record { accepted = rw (← all) accepted; within = rw (← all) (within_same (IsType before) (HasTypeBelow files k) limit unites within) }
 
--- what hinders a file stops the merge
+-- the fault of a file that is added stops the merge
 pub hindered : {A : Type 0} (before files : List (List ℕ)) (k limit : ℕ) (inner : AddFault A) (outer : MergeFault A) → k < length files → Unites before files k → AcceptedBelow files k
     → Within (IsType before) limit → outer ≡ of_add k inner → Hinders before limit (get_or files k []) inner → Stops files limit outer
 hindered before files k limit (add.Refused fault) outer inside unites accepted within made hinders =
@@ -124,14 +124,14 @@ hindered before files k limit (add.TooLarge heavy) outer inside unites accepted 
     )
 hindered before files k limit add.Memory outer inside unites accepted within made hinders = rw made tt
 
--- files that can be merged aren't too large
+-- files that can be merged are not too large
 can_large : (A : Type 0) (files : List (List ℕ)) (limit file heavy : ℕ) → Stops {A = A} files limit (merge.TooLarge file heavy) → CanMerge files limit → ⊥
 can_large A files limit file heavy (inside, below, accepted, (l, lists, is), more) can =
     let all = can.within.1 in
     let less = weight_grows l all.0 lists.distinct (λ t c. let there = (lists.members t).0 c in (all.1.members t).1 (there.0, omega (arith, there.1, inside), there.2)) in
     omega (arith, less, is, all.2, can.within.2, more)
 
--- files that can be merged are stopped by nothing but memory
+-- files that can be merged are refused only when out of memory
 pub stopped_alone : {A : Type 0} (files : List (List ℕ)) (limit : ℕ) (fault : MergeFault A) → Stops files limit fault → CanMerge files limit → fault ≡ merge.Memory
 stopped_alone {A = A} files limit (merge.Refused file fault) (inside, below, refused) can =
     let has = can.accepted file inside in
@@ -139,7 +139,7 @@ stopped_alone {A = A} files limit (merge.Refused file fault) (inside, below, ref
 stopped_alone {A = A} files limit (merge.TooLarge file heavy) stops can = absurd (can_large A files limit file heavy stops can)
 stopped_alone {A = A} files limit merge.Memory stops can = refl
 
--- nor is a last file that can be merged with those before it
+-- a last file that can be merged with those before it is refused only when out of memory
 pub added_alone : {A : Type 0} (before files : List (List ℕ)) (k limit : ℕ) (inner : AddFault A) → k < length files → Unites before files k → AcceptedBelow files k
     → Within (IsType before) limit → Hinders before limit (get_or files k []) inner → CanMerge files limit → inner ≡ add.Memory
 added_alone {A = A} before files k limit (add.Refused fault) inside unites accepted within hinders can =
@@ -183,7 +183,7 @@ types_of_both (x ∷ files) others t =
       ],
     )
 
--- a file of one list stands in the other
+-- a file of one list is in the other
 stands_in : (files others : List (List ℕ)) (i : ℕ) → ((x : List ℕ) → Contains files x → Contains others x) → i < length files → (j : ℕ) × (j < length others) × (get_or files i [] ≡ get_or others j [])
 stands_in files others i within inside =
     let c = within (get_or files i []) (Contains-get_or files i [] inside) in
@@ -220,7 +220,7 @@ pub refused_in_any_order : {A : Type 0} → RefusedInAnyOrder A
 refused_in_any_order files others limit fault same stops other can =
     other (stopped_alone files limit fault stops ((any_order files others limit same).0.1 can))
 
--- so it is where only memory refuses files that can be merged
+-- if files that can be merged are refused only when out of memory, then files that are refused in one order are refused in any order
 pub refused_any : {T A : Type 0} (files : List (List ℕ)) (limit : ℕ) (answer : Result T (MergeFault A)) → (CanMerge files limit → IfErr answer (λ fault. fault ≡ merge.Memory))
     → IfErr answer (λ fault. fault ≢ merge.Memory → (others : List (List ℕ)) → SameFiles files others → CanMerge others limit → ⊥)
 refused_any files limit (Ok done) found = tt

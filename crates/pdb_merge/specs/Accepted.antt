@@ -11,15 +11,15 @@ use Rattle.type_trees.specs.Checked.{AreTypes, HasTypeFault}
 use Rattle.pdb_merge.specs.declared.fault.PdbFault.{PdbFault}
 use Rattle.pdb_merge.specs.declared.fault.PdbFault.TheVariants as fault
 
--- there is a stream 1, of at least 28 bytes
+-- there is a stream 1, and it has at least 28 bytes
 abbrev pub HasLongInfo : List ℕ → LayoutView → Type 0
 HasLongInfo file layout = (info : List ℕ) × (stream_text file layout 1 ≡ Some info) × (28 ≤ length info)
 
--- there is a stream 1, of fewer bytes
+-- there is a stream 1, and it has fewer than 28 bytes
 abbrev pub HasShortInfo : List ℕ → LayoutView → Type 0
 HasShortInfo file layout = (info : List ℕ) × (stream_text file layout 1 ≡ Some info) × (length info < 28)
 
--- a file with this layout has these type records: those of its stream 2
+-- a file with this layout has these type records; they are those of its stream 2
 pub record ListsRecords (file : List ℕ) (layout : LayoutView) (records : List (List ℕ)) : Type 0 where
   pub stream : List ℕ
   pub is_stream : stream_text file layout 2 ≡ Some stream
@@ -38,24 +38,24 @@ pub record IsAccepted (file : List ℕ) (records : List (List ℕ)) : Type 0 whe
   pub info : HasLongInfo file has.layout
   pub types : AreTypes records
 
--- this is the fault of stream 1: that it isn't there, or that it is short
+-- this is the fault of stream 1: it is missing, or it is too short
 abbrev pub HasInfoFault : {A : Type 0} → List ℕ → LayoutView → PdbFault A → Type 0
 HasInfoFault file layout (fault.Stream inner) = (length layout.streams ≤ 1) × (inner ≡ NoStream 1)
 HasInfoFault file layout (fault.Info inner) = HasShortInfo file layout × (inner ≡ InfoShort)
 HasInfoFault file layout _ = ⊥
 
--- this is the first fault of stream 2: that it isn't there, or of its bytes
+-- this is the first fault of stream 2: it is missing, or its bytes have this fault
 abbrev pub HasStreamFault : {A : Type 0} → List ℕ → LayoutView → PdbFault A → Type 0
 HasStreamFault file layout (fault.Stream inner) = (length layout.streams ≤ 2) × (inner ≡ NoStream 2)
 HasStreamFault file layout (fault.Tpi inner) = (stream : List ℕ) × (stream_text file layout 2 ≡ Some stream) × IsFirstFault stream inner
 HasStreamFault file layout _ = ⊥
 
--- this is the first fault of the file on the way to its type records: of its layout, else of stream 2
+-- this is the first fault of the file on the way to its type records: a fault of its layout, else of stream 2
 abbrev pub HasRecordsFault : {A : Type 0} → List ℕ → PdbFault A → Type 0
 HasRecordsFault file (fault.Msf inner) = first_failing (layout_checks file) ≡ Some inner
 HasRecordsFault file inner = (layout : LayoutView) × HasLayout file layout × HasStreamFault file layout inner
 
--- this is the first fault of the file on the way to its types: of its layout, else of stream 1, else of stream 2, else of a record, else a cycle of records
+-- this is the first fault of the file on the way to its types: a fault of its layout, else of stream 1, else of stream 2, else of a record, else a cycle of records
 abbrev pub HasPdbFault : {A : Type 0} → List ℕ → PdbFault A → Type 0
 HasPdbFault file (fault.Msf inner) = first_failing (layout_checks file) ≡ Some inner
 HasPdbFault file (fault.Type inner) = (records : List (List ℕ)) × (has : HasTypeRecords file records) × HasLongInfo file has.layout × HasTypeFault records inner

@@ -1,4 +1,4 @@
--- The fault of a file that a fault of a layer below becomes: want of memory is one, wherever it was met.
+-- The faults of crates below, as faults of a file. Out of memory is always `Memory`.
 use Rattle.msf_blocks.specs.declared.fault.MsfFault.{MsfFault}
 use Rattle.msf_blocks.specs.declared.fault.MsfFault.TheVariants as msf
 use Rattle.msf_streams.specs.declared.fault.StreamFault.{StreamFault}
@@ -19,44 +19,44 @@ use Rattle.pdb_merge.specs.declared.fault.MergeFault.TheVariants as merge
 use Rattle.pdb_merge.specs.declared.fault.PdbFault.{PdbFault}
 use Rattle.pdb_merge.specs.declared.fault.PdbFault.TheVariants as fault
 
--- of the container
+-- a fault of the container
 abbrev pub of_msf : {A : Type 0} → MsfFault → PdbFault A
 of_msf msf.Memory = fault.Memory
 of_msf inner = fault.Msf inner
 
--- of its streams
+-- a fault of its streams
 abbrev pub of_stream : {A : Type 0} → StreamFault → PdbFault A
 of_stream streams.Memory = fault.Memory
 of_stream inner = fault.Stream inner
 
--- of the info stream
+-- a fault of the info stream
 abbrev pub of_info : {A : Type 0} → InfoFault → PdbFault A
 of_info infos.Memory = fault.Memory
 of_info inner = fault.Info inner
 
--- of the stream of type records
+-- a fault of the TPI stream
 abbrev pub of_tpi : {A : Type 0} → TpiFault → PdbFault A
 of_tpi tpi.Memory = fault.Memory
 of_tpi inner = fault.Tpi inner
 
--- of the type records
+-- a fault of the type records
 abbrev pub of_type : {A : Type 0} → TypeFault A → PdbFault A
 of_type types.Memory = fault.Memory
 of_type inner = fault.Type inner
 
--- ---- of one file among several
+-- ---- faults of one file among several
 
--- of the file that is added
+-- a fault of the file that is added
 abbrev pub of_pdb : {A : Type 0} → PdbFault A → AddFault A
 of_pdb fault.Memory = add.Memory
 of_pdb inner = add.Refused inner
 
--- of the union
+-- a fault of the union
 abbrev pub of_join : {A : Type 0} → JoinFault → AddFault A
 of_join (join.TooLarge bytes) = add.TooLarge bytes
 of_join join.Memory = add.Memory
 
--- of the file at this position of a list
+-- a fault of the file at this position of a list
 abbrev pub of_add : {A : Type 0} → ℕ → AddFault A → MergeFault A
 of_add file (add.Refused inner) = merge.Refused file inner
 of_add file (add.TooLarge bytes) = merge.TooLarge file bytes

@@ -8,7 +8,7 @@ use Rattle.pdb_merge.specs.Merged.{Merged, HoldsJust}
 use Rattle.pdb_merge.specs.declared.fault.MergeFault.{MergeFault}
 use Rattle.pdb_merge.specs.declared.fault.MergeFault.TheVariants as merge
 
--- a file is accepted with one list of records alone
+-- a file is accepted with only one list of records
 abbrev pub OneListEach : Type 0
 OneListEach = (file : List ℕ) (some others : List (List ℕ)) → IsAccepted file some → IsAccepted file others → some ≡ others
 
@@ -20,31 +20,31 @@ MergedReadsBack settings =
     (files : List (List ℕ)) (x : List ℕ) → Within (HasType files) (record_limit settings) → Merged (HasType files) settings x
     → (records : List (List ℕ)) × HoldsJust (HasType files) x records
 
--- the types of a file that is written for files are theirs
+-- a file that is written for files has the types of these files
 abbrev pub MergedHas : SettingsView → Type 0
 MergedHas settings =
     (files : List (List ℕ)) (x : List ℕ) → Within (HasType files) (record_limit settings) → Merged (HasType files) settings x
     → (t : Tree) → FileHas x t ↔ HasType files t
 
--- lists of files for which one file is written have the same types, whatever the settings are
+-- two lists of files have the same types if the same file is written for both, whatever the settings are
 abbrev pub MergedFilesDiffer : SettingsView → SettingsView → Type 0
 MergedFilesDiffer settings other =
     (files others : List (List ℕ)) (x : List ℕ) → Within (HasType files) (record_limit settings) → Within (HasType others) (record_limit other)
     → Merged (HasType files) settings x → Merged (HasType others) other x → SameTypes files others
 
--- a file that is written for files can be merged alone, and is written again
+-- a file that is written for files can be merged alone, and this gives the same file again
 abbrev pub MergedAgain : SettingsView → Type 0
 MergedAgain settings =
     (files : List (List ℕ)) (x : List ℕ) → Within (HasType files) (record_limit settings) → Merged (HasType files) settings x
     → CanMerge (x ∷ []) (record_limit settings) × Merged (HasType (x ∷ [])) settings x
 
--- a file that is written for files, in their place, changes no types
+-- the first files of a list may be replaced by the file that is written for them: the types stay the same
 abbrev pub EarlierMerge : SettingsView → Type 0
 EarlierMerge settings =
     (files others : List (List ℕ)) (x : List ℕ) → Within (HasType files) (record_limit settings) → Merged (HasType files) settings x
     → SameTypes (x ∷ others) (files ++ others)
 
--- for lists of files with the same types one file is written, whatever the limits are
+-- the same file is written for all lists of files with the same types, whatever the limits are
 abbrev pub OneMergedFile : Type 0
 OneMergedFile =
     (files others : List (List ℕ)) (settings its : SettingsView) (x y : List ℕ) → settings.age ≡ its.age → settings.guid ≡ its.guid → settings.block_size ≡ its.block_size
@@ -52,24 +52,24 @@ OneMergedFile =
 
 -- ---- lists of files
 
--- the types of a list of files are those of the first and those of the others
+-- the types of a list of files are those of the first file and those of the others
 abbrev pub TypesOfFirst : Type 0
 TypesOfFirst = (x : List ℕ) (files : List (List ℕ)) (t : Tree) → HasType (x ∷ files) t ↔ (FileHas x t ⊎ HasType files t)
 
--- the types of two lists of files, one after the other, are those of both
+-- the types of two lists of files, one after the other, are those of both lists
 abbrev pub TypesOfBoth : Type 0
 TypesOfBoth = (files others : List (List ℕ)) (t : Tree) → HasType (files ++ others) t ↔ (HasType files t ⊎ HasType others t)
 
--- lists of the same files, in any order and each as often as may be, can be merged alike, and have the same types
+-- if two lists have the same files, in any order and each any number of times, then both or neither can be merged, and they have the same types
 abbrev pub AnyOrder : Type 0
 AnyOrder = (files others : List (List ℕ)) (limit : ℕ) → SameFiles files others → (CanMerge files limit ↔ CanMerge others limit) × SameTypes files others
 
--- where a list of files is refused, each list of the same files is, in any order
+-- if a list of files is refused, so is each list of the same files, in any order
 abbrev pub RefusedInAnyOrder : Type 0 → Type 0
 RefusedInAnyOrder A =
     (files others : List (List ℕ)) (limit : ℕ) (fault : MergeFault A) → SameFiles files others
     → Stops files limit fault → fault ≢ merge.Memory → CanMerge others limit → ⊥
 
--- the types of files have one number of bytes together
+-- the number of bytes that the types of files have together is unique
 abbrev pub OneWeight : Type 0
 OneWeight = (files : List (List ℕ)) (end some other : ℕ) → Weighs (HasTypeBelow files end) some → Weighs (HasTypeBelow files end) other → some ≡ other

@@ -15,19 +15,19 @@ use Rattle.pdb_merge.specs.declared.summary.Summary.{Summary}
 
 -- ---- the bytes of the file
 
--- the stream of these records: a header, and the records one after the other
+-- the TPI stream of these records: a header, and the records one after the other
 unfoldable pub type_stream : List (List ℕ) → List ℕ
 type_stream records = header_text (length records) (length (concat records)) ++ concat records
 
--- the texts of a file with this info stream, and a stream of types of this header and these records
+-- the texts of a file with this info stream and a TPI stream of this header and these records
 abbrev pub parts_texts : List ℕ → List ℕ → List ℕ → List (List ℕ)
 parts_texts info header records = [] ∷ info ∷ (header ++ records) ∷ [] ∷ [] ∷ []
 
--- the texts of a file with these settings and these records: an empty one, the info stream, the records, and two empty ones
+-- the texts of a file with these settings and these records: an empty text, the info stream, the TPI stream, and two empty texts
 abbrev pub merged_texts : SettingsView → List (List ℕ) → List (List ℕ)
 merged_texts settings records = [] ∷ info_text settings.age settings.guid ∷ type_stream records ∷ [] ∷ [] ∷ []
 
--- how long they are, where the records have so many bytes together
+-- the lengths of these texts, where the records have `bytes` bytes together
 abbrev pub merged_sizes : ℕ → List ℕ
 merged_sizes bytes = 0 ∷ 52 ∷ (56 + bytes) ∷ 0 ∷ 0 ∷ []
 
@@ -35,24 +35,24 @@ merged_sizes bytes = 0 ∷ 52 ∷ (56 + bytes) ∷ 0 ∷ 0 ∷ []
 unfoldable pub merged_file : SettingsView → List (List ℕ) → List ℕ
 merged_file settings records = image settings.block_size (merged_texts settings records)
 
--- x is the file with these settings of the canonical list of the types with P
+-- x is the file with these settings for the canonical list of the types that have P
 abbrev pub Merged : (Tree → Type 0) → SettingsView → List ℕ → Type 0
 Merged P settings x = (records : List (List ℕ)) × IsCanonOf records P × (x ≡ merged_file settings records)
 
 -- ---- what holds of the file
 
--- each type stands at one position alone
+-- each type is at only one position
 abbrev pub StandOnce : List (List ℕ) → Type 0
 StandOnce records = (i j : ℕ) (t : Tree) → Stands records i t → Stands records j t → i ≡ j
 
--- the file is accepted with these records, which are a canonical list of the types with P: it has just these types, each once
+-- the file is accepted with these records, which are a canonical list of the types that have P: it has just these types, each once
 pub record HoldsJust (P : Tree → Type 0) (file : List ℕ) (records : List (List ℕ)) : Type 0 where
   pub accepted : IsAccepted file records
   pub canon : IsCanonOf records P
   pub types : (t : Tree) → IsType records t ↔ P t
   pub once : StandOnce records
 
--- every list of files with the same types has this file, under every settings with the same age, GUID and block size
+-- every list of files with the same types has this file, for all settings with the same age, GUID and block size
 abbrev pub IsSameFor : List (List ℕ) → SettingsView → List ℕ → Type 0
 IsSameFor files settings file =
     (others : List (List ℕ)) (its : SettingsView) (other : List ℕ) → its.age ≡ settings.age → its.guid ≡ settings.guid → its.block_size ≡ settings.block_size
@@ -62,11 +62,11 @@ IsSameFor files settings file =
 pub record IsFileOf (files : List (List ℕ)) (settings : SettingsView) (file : List ℕ) (records : List (List ℕ)) : Type 0 where
   -- its bytes are those of the canonical list of their types
   pub made : file ≡ merged_file settings records
-  -- it is accepted, and its types are exactly theirs, each once, in canonical order
+  -- it is accepted, and its types are exactly those of the files, each once, in canonical order
   pub holds : HoldsJust (HasType files) file records
   -- every other list of files with the same types has the same file
   pub same : IsSameFor files settings file
-  -- it can be merged alone, and has itself as its file
+  -- it can be merged alone, and this gives the same file again
   pub can : CanMerge (file ∷ []) (record_limit settings)
   pub again : Merged (HasType (file ∷ [])) settings file
 
@@ -79,7 +79,7 @@ pub record WroteFile (records : List (List ℕ)) (settings : SettingsView) (old 
   pub bytes : summary.bytes ≡ length (concat records)
   pub long : summary.length ≡ length (merged_file settings records)
 
--- a sink took the file of the types of some files, and the summary says how many types it has, how many bytes they have together, and how long it is
+-- a sink took the file of the types of some files, and the summary says how many types it has, how many bytes they have together, and how long the file is
 pub record Wrote (files : List (List ℕ)) (settings : SettingsView) (old new : Option (List ℕ)) (summary : Summary) : Type 0 where
   pub file : List ℕ
   pub records : List (List ℕ)
@@ -89,7 +89,7 @@ pub record Wrote (files : List (List ℕ)) (settings : SettingsView) (old new : 
   pub bytes : Weighs (HasType files) summary.bytes
   pub long : summary.length ≡ length file
 
--- a sink took the first bytes of that file, and not all of them
+-- a sink took the first bytes of that file, but not all of them
 pub record WrotePart (files : List (List ℕ)) (settings : SettingsView) (old new : Option (List ℕ)) : Type 0 where
   pub file : List ℕ
   pub records : List (List ℕ)

@@ -1,4 +1,4 @@
--- The types of a list of files, and what merging them comes to.
+-- The types of a list of files, and when they can be merged.
 use Rattle.std.specs.Prelude.{ℕ, ◌≡◌, ◌≢◌, ◌+◌, ◌<◌, ◌≤◌, ◌⊎◌, ◌↔◌, List, [], length, get_or}
 use Rattle.std.specs.List.{AllPairs, Contains}
 use Rattle.type_trees.specs.Tree.{Tree, IsType}
@@ -11,7 +11,7 @@ use Rattle.pdb_merge.specs.declared.fault.MergeFault.TheVariants as merge
 
 -- ---- the types of files
 
--- the file is accepted, with records one of whose types this is
+-- the file is accepted, and this is a type of its records
 abbrev pub FileHas : List ℕ → Tree → Type 0
 FileHas file t = (records : List (List ℕ)) × IsAccepted file records × IsType records t
 
@@ -23,7 +23,7 @@ HasTypeBelow files end t = (i : ℕ) × (i < end) × FileHas (get_or files i [])
 abbrev pub HasType : List (List ℕ) → Tree → Type 0
 HasType files = HasTypeBelow files (length files)
 
--- two lists have the same files, each as often as may be and in any order
+-- two lists have the same files, in any order and each any number of times
 abbrev pub SameFiles : List (List ℕ) → List (List ℕ) → Type 0
 SameFiles files others = (x : List ℕ) → Contains files x ↔ Contains others x
 
@@ -37,16 +37,16 @@ AcceptedBelow files end = (i : ℕ) → i < end → (records : List (List ℕ)) 
 
 -- ---- how many bytes types have
 
--- l lists the trees with P, each once
+-- l lists the trees that have P, each once
 pub record Lists (l : List Tree) (P : Tree → Type 0) : Type 0 where
   pub distinct : AllPairs (λ t u. t ≢ u) l
   pub members : (t : Tree) → Contains l t ↔ P t
 
--- the trees with P have so many bytes together
+-- the trees that have P have `bytes` bytes together
 abbrev pub Weighs : (Tree → Type 0) → ℕ → Type 0
 Weighs P bytes = (l : List Tree) × Lists l P × (weight l ≡ bytes)
 
--- they have at most so many
+-- they have at most `limit` bytes together
 abbrev pub Within : (Tree → Type 0) → ℕ → Type 0
 Within P limit = (bytes : ℕ) × Weighs P bytes × (bytes ≤ limit)
 
@@ -58,7 +58,7 @@ pub record Takes (before after : List (List ℕ)) (file : List ℕ) : Type 0 whe
   pub accepted : IsAccepted file records
   pub types : (t : Tree) → IsType after t ↔ (IsType before t ⊎ IsType records t)
 
--- this is why the file isn't added to the types of `before`: it isn't accepted, or the union has so many bytes, which is more than the limit
+-- this is why the file is not added to the types of `before`: it is not accepted, or the union has `bytes` bytes, more than the limit, or it is out of memory
 abbrev pub Hinders : {A : Type 0} → List (List ℕ) → ℕ → List ℕ → AddFault A → Type 0
 Hinders before limit file (add.Refused fault) = HasPdbFault file fault
 Hinders before limit file (add.TooLarge bytes) =
@@ -67,7 +67,7 @@ Hinders before limit file add.Memory = Unit {0}
 
 -- ---- a list of files
 
--- the files are accepted, and their types have at most so many bytes together
+-- the files are accepted, and their types have at most `limit` bytes together
 pub record CanMerge (files : List (List ℕ)) (limit : ℕ) : Type 0 where
   pub accepted : AcceptedBelow files (length files)
   pub within : Within (HasType files) limit
@@ -77,7 +77,7 @@ pub record CanMergeBelow (files : List (List ℕ)) (end limit : ℕ) : Type 0 wh
   pub accepted : AcceptedBelow files end
   pub within : Within (HasTypeBelow files end) limit
 
--- this is why the files aren't merged: those before one of them can be merged, and it has this fault, or the union with it has so many bytes, which is more than the limit
+-- this is why the files are not merged: those before one of them can be merged, and it has this fault, or the union with it has `bytes` bytes, more than the limit; or it is out of memory
 abbrev pub Stops : {A : Type 0} → List (List ℕ) → ℕ → MergeFault A → Type 0
 Stops files limit (merge.Refused file fault) = (file < length files) × CanMergeBelow files file limit × HasPdbFault (get_or files file []) fault
 Stops files limit (merge.TooLarge file bytes) =

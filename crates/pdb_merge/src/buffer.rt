@@ -1,13 +1,13 @@
-//! Where the bytes of types stand while they are read.
+//! The buffer for the bytes of types while they are read.
 
 use std::alloc::{Allocator, Global};
 use std::marker::Model;
 
-/// Holds the stream of type records of one file, between the file and its types.
+/// Holds the bytes of the TPI stream of one file. The file's records or types are lent from it.
 ///
-/// What it holds can't be read but through the types that are lent from it. It may be handed in
-/// again after any answer: what it held before is given up then, and has no effect. It grows with
-/// the allocator that it was made with.
+/// Its bytes can be read only through what is lent from it. It may be used again after any answer:
+/// the bytes that it held are dropped then, and have no effect. It grows with the allocator that it
+/// was made with.
 #[derive(Drop)]
 pub struct Buffer<A: Allocator = Global> {
     pub(crate) alloc: A,
@@ -21,7 +21,7 @@ impl<A: Allocator> Model for Buffer<A> {
 }
 
 impl<A: Allocator + Copy> Buffer<A> {
-    /// An empty buffer, which grows with this allocator. It does not allocate.
+    /// An empty buffer, which grows with this allocator. This does not allocate.
     pub fn new(alloc: A) -> Buffer<A> {
         Buffer {
             alloc,

@@ -1,4 +1,4 @@
-//! Why a file isn't accepted, and why files aren't merged.
+//! Why a file is not accepted, and why files are not merged.
 
 ghost use Rattle.std.specs.Prelude.{◌≡◌};
 ghost use Rattle.pdb_merge.specs.Fault.{of_msf, of_stream, of_info, of_tpi, of_type, of_pdb, of_join};
@@ -15,8 +15,8 @@ use type_trees::{JoinFault, TypeFault};
 
 /// The first fault of a file on the way to its types.
 ///
-/// The container comes first, then stream 1, then stream 2 and its records. Out of memory is
-/// `Memory` wherever it was met: the faults inside the others never are it.
+/// The container comes first, then stream 1, then stream 2 and its records. Out of memory is always
+/// `Memory`: a fault inside another variant is never out of memory.
 #[derive(Debug, PartialEq, Eq, Drop, Error)]
 pub enum PdbFault<A: Allocator = Global> {
     /// The container is refused.
@@ -34,7 +34,7 @@ pub enum PdbFault<A: Allocator = Global> {
     /// The type records are no types.
     #[error("{0}")]
     Type(TypeFault<A>),
-    /// A growth was refused.
+    /// Out of memory.
     #[error("33 Memory")]
     Memory,
 }
@@ -102,17 +102,16 @@ impl<A: Allocator> From<TypeFault<A>> for PdbFault<A> {
     }
 }
 
-/// Why a file wasn't added to a merge.
+/// Why a file was not added to a merge.
 #[derive(Debug, PartialEq, Eq, Drop, Error)]
 pub enum AddFault<A: Allocator = Global> {
-    /// The file isn't accepted. Want of memory isn't inside.
+    /// The file is not accepted. The fault inside is never out of memory.
     #[error("{0}")]
     Refused(PdbFault<A>),
-    /// The types so far and those of the file have so many bytes together, which is more than the
-    /// limit.
+    /// The types so far and those of the file have `bytes` bytes together, more than the limit.
     #[error("32 TooLarge bytes {bytes}")]
     TooLarge { bytes: u64 },
-    /// A growth was refused.
+    /// Out of memory.
     #[error("33 Memory")]
     Memory,
 }
@@ -139,17 +138,17 @@ impl<A: Allocator> From<JoinFault> for AddFault<A> {
     }
 }
 
-/// Why files weren't merged. A file is named by its position, from 0.
+/// Why files were not merged. A file is named by its position, from 0.
 #[derive(Debug, PartialEq, Eq, Drop, Error)]
 pub enum MergeFault<A: Allocator = Global> {
-    /// This file isn't accepted; those in front of it are. Want of memory isn't inside.
+    /// This file is not accepted. Those before it are. The fault inside is never out of memory.
     #[error("file {file}: {fault}")]
     Refused { file: usize, fault: PdbFault<A> },
-    /// The types of the files up to this one have so many bytes together, which is more than the
-    /// limit; those of the files in front of it are within the limit.
+    /// The types of the files up to this one, with this one, have `bytes` bytes together, more than
+    /// the limit. Those of the files before it are within the limit.
     #[error("file {file}: 32 TooLarge bytes {bytes}")]
     TooLarge { file: usize, bytes: u64 },
-    /// A growth was refused.
+    /// Out of memory.
     #[error("33 Memory")]
     Memory,
 }
@@ -157,13 +156,13 @@ pub enum MergeFault<A: Allocator = Global> {
 /// Why no file was written.
 #[derive(Debug, PartialEq, Eq, Drop, Error)]
 pub enum OutFault<A: Allocator = Global> {
-    /// The files weren't merged. Nothing was written.
+    /// The files were not merged. Nothing was written.
     #[error("{0}")]
     Merge(MergeFault<A>),
-    /// A growth was refused while the file was written. Nothing was written.
+    /// Out of memory for writing, after the files were merged. Nothing was written.
     #[error("33 Memory")]
     Memory,
-    /// The sink took the first bytes of the file, and not all of them.
+    /// The sink took the first bytes of the file, but not all of them.
     #[error("36 Write")]
     Write,
 }

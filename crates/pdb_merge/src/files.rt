@@ -78,9 +78,10 @@ fn list_all<S: BuildHasher + Drop, A: Allocator + Copy>(
 
 /// The canonical list of the types of these files.
 ///
-/// The files are looked at in order, of each first its own fault, then whether the types so far
-/// are within the limit of the settings; the fault names the file by its position, from 0. Only
-/// the types of one file stand in memory beside those of the union.
+/// The files are read in order. The fault of a file comes first, `Refused`. Then comes `TooLarge`,
+/// where the types so far, with those of this file, have more bytes than the limit of the settings.
+/// Both name the file by its position, from 0. `Memory` is out of memory. Beside the types of all
+/// files so far, only the types of one file are in memory.
 pub fn merge_files<S: BuildHasher + Drop, A: Allocator + Copy>(
     alloc: A,
     files: &[&[u8]],
@@ -89,10 +90,10 @@ pub fn merge_files<S: BuildHasher + Drop, A: Allocator + Copy>(
 ) -> Result<Canon<A>, MergeFault<A>>
     ensures value { IfOk result (λ canon. IsCanonOf canon (HasType (texts_of files.now))) }
     ensures can { IfOk result (λ _. CanMerge (texts_of files.now) (record_limit settings.now)) }
-    // Files that can be merged are refused only where memory is.
+    // Files that can be merged are refused only when out of memory.
     ensures found { CanMerge (texts_of files.now) (record_limit settings.now) → IfErr result (λ fault. fault ≡ MergeFault.Memory) }
     ensures first { IfErr result (Stops (texts_of files.now) (record_limit settings.now)) }
-    // What is refused is refused in any order.
+    // Files that are refused in one order are refused in any order.
     ensures any_order { IfErr result (λ fault. fault ≢ MergeFault.Memory → (others : List (List ℕ)) → SameFiles (texts_of files.now) others → CanMerge others (record_limit settings.now) → ⊥) }
 {
     list_all(alloc, files, settings.record_limit(), hasher)

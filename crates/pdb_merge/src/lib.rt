@@ -1,23 +1,24 @@
-//! The types of whole files, and one file for the types of many.
+//! The types of whole files, and one file for the types of many files.
 //!
-//! A Program Database file is *accepted* where all of it that stands on the way to its types is
-//! sound: it is a container; its stream 1, which identifies the file, has at least the 28 bytes of
-//! a header; and its stream 2 holds type records which are types: each names simple types and
-//! records of the file alone, and none leads into a cycle.
+//! A Program Database file is *accepted* where everything on the way to its types is sound. It is a
+//! container. Its stream 1, which identifies the file, has at least the 28 bytes of a header. Its
+//! stream 2 holds type records, and the records are types: each names only simple types and records
+//! of the file, and no record leads into a cycle.
 //!
 //! - [`read_types`] reads the types of a file. They are lent from a [`Buffer`], which the caller
-//!   hands in and may hand in again for the next file, so that two streams of types never stand in
-//!   memory at once. [`PdbFault`] is the first fault on the way.
+//!   passes. The caller may pass the same buffer for the next file, so the TPI streams of two files
+//!   are never in memory at once. [`PdbFault`] is the first fault on the way.
 //! - [`merge_to`] merges files: it writes one file with the types of all of them, each once, into
-//!   a sink. [`merge_files`] gives their canonical list, and [`write_merged`] writes the file of
+//!   a sink. [`merge_files`] returns their canonical list, and [`write_merged`] writes the file of
 //!   such a list. [`Merge`] takes files one after the other.
-//! - [`MergeFault`] names the first file that is at fault, by its position from 0.
+//! - [`MergeFault`] names the first file that is at fault, by its position, from 0.
 //!
 //! What is proved: a file is read exactly where it is accepted (`IsAccepted` of `specs/Accepted`),
-//! out of memory aside, and with the only records with which it is accepted. What `merge_to`
-//! writes (`Wrote` of `specs/Merged`) has exactly the types of the files, each once, in canonical
-//! order; it is accepted with these; and every list of files with the same types has the same
-//! bytes. A refusal is the first fault. The [`laws`] hold of every file that is written so.
+//! except when out of memory. Its records are the only ones with which it is accepted. The file
+//! that `merge_to` writes (`Wrote` of `specs/Merged`) has exactly the types of the files, each
+//! once, in canonical order, and it is accepted with these. Every list of files with the same types
+//! has the same bytes. A refusal is the first fault. The [`laws`] hold of every file that is
+//! written so.
 #![tactic(auto)]
 
 mod buffer;

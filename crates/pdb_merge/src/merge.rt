@@ -15,11 +15,11 @@ use std::hash::BuildHasher;
 use std::marker::Model;
 use type_trees::{Canon, JoinFault, Table};
 
-/// The types of the files so far, and how many bytes they may have together.
+/// The types of the files so far, and the limit: how many bytes they may have together.
 ///
-/// The files are handed in one after the other, so that no two of them need be in memory at once.
-/// `HasTaken merge files` says in contracts which files were taken: [`Merge::new`] begins with
-/// none, and each [`Merge::add`] takes one more.
+/// The files are added one after the other, so no two of them need be in memory at once. In
+/// contracts `HasTaken merge files` says which files were taken: [`Merge::new`] has taken none, and
+/// each [`Merge::add`] takes one more.
 #[derive(Drop)]
 pub struct Merge<S: BuildHasher, A: Allocator = Global> {
     table: Table<S, A>,
@@ -35,7 +35,8 @@ impl<S: BuildHasher, A: Allocator> Model for Merge<S, A> {
 }
 
 impl<S: BuildHasher, A: Allocator + Copy> Merge<S, A> {
-    /// A merge of no files yet, whose types may have `limit` bytes together. It takes no memory.
+    /// A merge that has taken no files. Its types may have at most `limit` bytes together. This
+    /// does not allocate.
     pub fn new(alloc: A, limit: u32, hasher: S) -> Merge<S, A>
         ensures value { result ≡ record { types = []; limit = limit } }
         ensures none { HasTaken result [] }
@@ -64,28 +65,29 @@ impl<S: BuildHasher, A: Allocator + Copy> Merge<S, A> {
         Ok(())
     }
 
-    /// Adds the types of a file, which are read through the buffer.
+    /// Adds the types of a file. They are read through the buffer.
     ///
-    /// The file's own fault comes first, then `TooLarge`, with the bytes that the types of the
-    /// files so far and of this one have together. After any refusal the merge is what it was,
-    /// and it may be given the next file.
+    /// The fault of the file comes first, `Refused`. Then comes `TooLarge`, with the number of
+    /// bytes that the types of the files so far and of this one have together. `Memory` is out of
+    /// memory. After a fault the merge is unchanged, and the next file may be added.
     pub fn add(&mut self, alloc: A, file: &[u8], buffer: &mut Buffer<A>) -> Result<(), AddFault<A>>
         ensures value { IfOk result (λ _. Takes self.old.types self.new.types file.now) }
         ensures limit { self.new.limit ≡ self.old.limit }
         ensures kept { IfErr result (λ _. self.new ≡ self.old) }
         ensures first { IfErr result (Hinders self.old.types self.old.limit file.now) }
 
-        // The files that were taken so far, and this one.
+        // The merge has taken the files so far, and this one.
         ensures taken { IfOk result (λ _. (files : List (List ℕ)) → HasTaken self.old files → HasTaken self.new (files ++ file.now ∷ [])) }
-        // The fault is the first one of the list of all these files.
+        // The fault is the first fault of the list of all these files.
         ensures stops { IfErr result (λ fault. (files : List (List ℕ)) → HasTaken self.old files → Stops (files ++ file.now ∷ []) self.old.limit (of_add (length files) fault)) }
-        // A file that can be merged with them, and with any that follow, is refused only where memory is.
+        // A file that can be merged with them, and with others after it, is refused only when out
+        // of memory.
         ensures found { IfErr result (λ fault. (files more : List (List ℕ)) → HasTaken self.old files → CanMerge ((files ++ file.now ∷ []) ++ more) self.old.limit → fault ≡ AddFault.Memory) }
     {
         self.add_types(alloc, file, buffer)
     }
 
-    /// The canonical list of the types so far. The merge stays as it is.
+    /// The canonical list of the types so far. The merge is unchanged. The only fault is `Memory`.
     pub fn finish(&self, alloc: A) -> Result<Canon<A>, JoinFault>
         ensures value { IfOk result (λ canon. IsCanonOf canon (IsType self.now.types)) }
         ensures taken { IfOk result (λ canon. (files : List (List ℕ)) → HasTaken self.now files → IsCanonOf canon (HasType files)) }

@@ -20,7 +20,7 @@ use std::alloc::Allocator;
 use std::hash::BuildHasher;
 use type_trees::Canon;
 
-/// The fault of a file that isn't too long.
+/// A fault of writing a file that can be written, as a fault of merging.
 fn out_fault<A: Allocator>(fault: WriteFault) -> OutFault<A>
     requires { (fault ≡ WriteFault.Memory) ⊎ (fault ≡ WriteFault.Write) }
     ensures memory { fault ≡ WriteFault.Memory → result ≡ OutFault.Memory }
@@ -32,7 +32,7 @@ fn out_fault<A: Allocator>(fault: WriteFault) -> OutFault<A>
     }
 }
 
-/// Writes the file of a canonical list that fits, and says what it has.
+/// Writes the file of a canonical list that is within the limit. Returns the summary of the file.
 fn write_canon<W: Sink, A: Allocator + Copy>(
     alloc: A,
     canon: &Canon<A>,
@@ -46,7 +46,7 @@ fn write_canon<W: Sink, A: Allocator + Copy>(
         × AppendsPart (W.taken out.old) (W.taken out.new) (merged_file settings.now canon.now)) }
     ensures untouched { IfErr result (λ fault. fault ≢ OutFault.Write → out.new ≡ out.old) }
 {
-    // The proof learns here what holds of all settings.
+    // This call tells the proof what holds of all settings.
     let _ = settings.guid();
     if let Err(fault) = write_merged(alloc, canon, settings, out) {
         return Err(out_fault(fault));
@@ -63,10 +63,11 @@ fn write_canon<W: Sink, A: Allocator + Copy>(
 
 /// Merges files, and writes the file of their types with these settings into a sink.
 ///
-/// It has the types of all files, each once, in canonical order, and is accepted with just these.
-/// Nothing is written unless all files are accepted and their types are within the limit; a fault
-/// of the files is that of [`merge_files`]. After `Write` the sink has taken the first bytes of
-/// the file.
+/// The file has the types of all files, each once, in canonical order, and is accepted with just
+/// these. Nothing is written unless all files are accepted and their types are within the limit.
+/// The faults, in order: `Merge`, with the fault of [`merge_files`]; `Memory`, when out of memory
+/// for writing; and `Write`, where the sink did not take the whole file. After `Write` the sink is
+/// broken and took the first bytes of the file. After any other fault it is unchanged.
 pub fn merge_to<W: Sink, S: BuildHasher + Drop, A: Allocator + Copy>(
     alloc: A,
     files: &[&[u8]],
@@ -76,17 +77,17 @@ pub fn merge_to<W: Sink, S: BuildHasher + Drop, A: Allocator + Copy>(
 ) -> Result<Summary, OutFault<A>>
     ensures value { IfOk result (Wrote (texts_of files.now) settings.now (W.taken out.old) (W.taken out.new)) }
     ensures can { IfOk result (λ _. CanMerge (texts_of files.now) (record_limit settings.now)) }
-    // Files that can be merged are refused only where memory is, or by the sink.
+    // Files that can be merged are refused only when out of memory, or by the sink.
     ensures found { CanMerge (texts_of files.now) (record_limit settings.now) → IfErr result (λ fault. (fault ≡ OutFault.Merge MergeFault.Memory) ⊎ (fault ≡ OutFault.Memory) ⊎ (fault ≡ OutFault.Write)) }
     ensures first { IfErr result (λ fault. (inner : MergeFault A) → fault ≡ OutFault.Merge inner → Stops (texts_of files.now) (record_limit settings.now) inner) }
-    // Files that are refused are refused in any order.
+    // Files that are refused in one order are refused in any order.
     ensures any_order { IfErr result (λ fault. (inner : MergeFault A) → fault ≡ OutFault.Merge inner → inner ≢ MergeFault.Memory
         → (others : List (List ℕ)) → SameFiles (texts_of files.now) others → CanMerge others (record_limit settings.now) → ⊥) }
     ensures write { IfErr result (λ fault. fault ≡ OutFault.Write → (W.is_broken out.new ≡ true)
         × WrotePart (texts_of files.now) settings.now (W.taken out.old) (W.taken out.new)) }
     ensures untouched { IfErr result (λ fault. fault ≢ OutFault.Write → out.new ≡ out.old) }
 {
-    // The proof learns here what holds of all settings.
+    // This call tells the proof what holds of all settings.
     let _ = settings.guid();
     let canon = merge_files(alloc, files, settings, hasher)?;
     write_canon(alloc, &canon, settings, out)

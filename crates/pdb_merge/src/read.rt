@@ -23,7 +23,7 @@ const TPI_STREAM: u32 = 2;
 /// How many bytes the header of the info stream has.
 const INFO_LENGTH: u32 = 28;
 
-/// Checks that stream 1 has the bytes of a header. What they say is not looked at.
+/// Checks that stream 1 has at least as many bytes as a header. The bytes are not read.
 fn check_info<A: Allocator>(layout: &Layout<A>) -> Result<(), PdbFault<A>>
     ensures value { OnOk result ((file : List ℕ) → HasLongInfo file layout.now) }
     ensures first { IfErr result (λ fault. (file : List ℕ) → HasInfoFault file layout.now fault) }
@@ -38,7 +38,7 @@ fn check_info<A: Allocator>(layout: &Layout<A>) -> Result<(), PdbFault<A>>
 }
 
 impl<A: Allocator + Copy> Buffer<A> {
-    /// Gives up what was held.
+    /// Drops the bytes of the buffer.
     fn clear(&mut self) {
         self.bytes = Vec::new(self.alloc);
     }
@@ -58,7 +58,7 @@ impl<A: Allocator + Copy> Buffer<A> {
         Ok(Records::read(alloc, &self.bytes)?)
     }
 
-    /// Stores the stream of a file's type records in place of what was held, and lends the records.
+    /// Replaces the bytes of the buffer by the TPI stream of a file, and lends its records.
     fn records(&mut self, alloc: A, file: &[u8]) -> Result<Records<'_, A>, PdbFault<A>>
         ensures value { IfOk result (HasTypeRecords file.now) }
         ensures first { IfErr result (λ fault. HasRecordsFault file.now fault ⊎ (fault ≡ PdbFault.Memory)) }
@@ -68,7 +68,7 @@ impl<A: Allocator + Copy> Buffer<A> {
         self.stream_records(alloc, file, &layout)
     }
 
-    /// Stores the stream of a file's types in place of what was held, and lends the types.
+    /// Replaces the bytes of the buffer by the TPI stream of a file, and lends its types.
     fn types(&mut self, alloc: A, file: &[u8]) -> Result<Types<'_, A>, PdbFault<A>>
         ensures value { IfOk result (IsAccepted file.now) }
         ensures first { IfErr result (λ fault. HasPdbFault file.now fault ⊎ (fault ≡ PdbFault.Memory)) }
@@ -82,45 +82,46 @@ impl<A: Allocator + Copy> Buffer<A> {
     }
 }
 
-/// Reads the type records of a file: those of its stream 2, which are lent from the buffer.
+/// Reads the type records of a file: those of its stream 2. They are lent from the buffer.
 ///
 /// The faults come in this order: those of the container; a container without a stream 2; those of
-/// that stream. Nothing else of the file is looked at. What the buffer held is given up first;
-/// after a refusal it may be handed in again. The bytes of the stream are allocated by the
-/// allocator of the buffer, all else by `alloc`.
+/// that stream. Nothing else of the file is read. `Memory` is out of memory. The old bytes of the
+/// buffer are dropped first, and after a fault the buffer may be used again. The buffer's own
+/// allocator allocates the bytes of the stream, and `alloc` allocates everything else.
 pub fn read_records<'a, A: Allocator + Copy>(
     alloc: A,
     file: &'a [u8],
     buffer: &'a mut Buffer<A>,
 ) -> Result<Records<'a, A>, PdbFault<A>>
     ensures value { IfOk result (HasTypeRecords file.now) }
-    // A file that has type records is refused only for out of memory.
+    // A file that has type records is refused only when out of memory.
     ensures found { (records : List (List ℕ)) → HasTypeRecords file.now records → IfErr result (λ fault. fault ≡ PdbFault.Memory) }
     ensures first { IfErr result (λ fault. HasRecordsFault file.now fault ⊎ (fault ≡ PdbFault.Memory)) }
 {
     buffer.records(alloc, file)
 }
 
-/// Reads the types of a file: its type records, which are lent from the buffer, and which are
-/// checked.
+/// Reads the types of a file: its type records, which are checked. They are lent from the buffer.
 ///
 /// The faults come in this order: those of the container; a container without a stream 1; a
-/// stream 1 with fewer bytes than a header, of which nothing else is looked at; a container
-/// without a stream 2; those of that stream; those of its records, in order, of each its leaf and
-/// then its references; and last a cycle of references. What the buffer held is given up first,
-/// so that the streams of two files are never in memory at once; after a refusal it may be handed
-/// in again. The bytes of the stream are allocated by the allocator of the buffer, all else by
-/// `alloc`.
+/// stream 1 with fewer bytes than a header; a container without a stream 2; those of that stream;
+/// those of its records, in order, for each record its leaf and then its references; and last a
+/// cycle of references. Nothing of stream 1 is checked but its size. Out of memory, `Memory`, comes
+/// only where the container has no fault.
+///
+/// The old bytes of the buffer are dropped first, so the streams of two files are never in memory
+/// at once. After a fault the buffer may be used again. The buffer's own allocator allocates the
+/// bytes of the stream, and `alloc` allocates everything else.
 pub fn read_types<'a, A: Allocator + Copy>(
     alloc: A,
     file: &'a [u8],
     buffer: &'a mut Buffer<A>,
 ) -> Result<Types<'a, A>, PdbFault<A>>
     ensures value { IfOk result (IsAccepted file.now) }
-    // A file that is accepted is refused only for out of memory.
+    // A file that is accepted is refused only when out of memory.
     ensures found { (records : List (List ℕ)) → IsAccepted file.now records → IfErr result (λ fault. fault ≡ PdbFault.Memory) }
     ensures first { IfErr result (λ fault. HasPdbFault file.now fault ⊎ (fault ≡ PdbFault.Memory)) }
-    // Out of memory is answered only where the container has no fault.
+    // Out of memory comes only where the container has no fault.
     ensures memory { IfErr result (λ fault. fault ≡ PdbFault.Memory → first_failing (layout_checks file.now) ≡ None) }
 {
     buffer.types(alloc, file)

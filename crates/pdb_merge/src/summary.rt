@@ -1,7 +1,7 @@
-//! What is said of a file that was written.
+//! The summary of a file that was written.
 
-/// How many types a written file has, how many bytes their records have together, and how long
-/// it is.
+/// How many types a written file has, how many bytes their records have together, and how many
+/// bytes the file has.
 #[derive(Clone, Copy, Debug, PartialEq, Eq)]
 pub struct Summary {
     pub types: u32,

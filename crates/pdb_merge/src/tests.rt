@@ -1,5 +1,5 @@
-//! What no clause says: the texts of the faults, samples that were changed, one buffer for many
-//! files, and refused growth.
+//! What no clause says: the texts of the faults, changed samples, one buffer for many files, and
+//! out of memory.
 
 mod forward;
 mod merging;
@@ -17,7 +17,7 @@ use std::test::Fail;
 use tpi_records::TpiFault;
 use type_trees::TypeFault;
 
-/// How many types a file has, how many bytes and how many levels; or the fault.
+/// How many types a file has, how many bytes and how many levels, or the fault.
 type Answer<A = Global> = Result<(usize, u32, u32), PdbFault<A>>;
 
 /// Reads the types of a file through a buffer.
@@ -33,14 +33,14 @@ fn changed(alloc: Global, at: usize, bytes: &[u8]) -> Result<Vec<u8>, Fail> {
     Ok(file)
 }
 
-/// The bytes that stand from an offset on in place of the sample's, and what is wanted.
+/// An offset, the bytes that replace those of the sample from it on, and the answer.
 type Row = (usize, &'static [u8], Answer);
 
-/// Changed samples, those that are accepted among those that are not.
+/// Changed samples. Some are accepted, and others are not.
 const ROWS: [Row; 13] = [
     (0, b"", Ok((2, 24, 1))),
     (0, b"m", Err(PdbFault::Msf(MsfFault::Magic))),
-    // one stream, two streams, and two of which the last is short
+    // one stream, two streams, and two streams where the last is short
     (
         2048,
         b"\x01",
@@ -56,7 +56,7 @@ const ROWS: [Row; 13] = [
         b"\x02\0\0\0\0\0\0\0\x1b\0\0\0\x05",
         Err(PdbFault::Info(InfoFault::InfoShort)),
     ),
-    // the info stream is short, nil, just long enough, and with a map of names that is none
+    // the info stream is short, nil, just long enough, or has a faulty named stream map
     (2056, b"\x1b", Err(PdbFault::Info(InfoFault::InfoShort))),
     (
         2056,
@@ -65,7 +65,7 @@ const ROWS: [Row; 13] = [
     ),
     (2056, b"\x1c", Ok((2, 24, 1))),
     (2588, b"\xff\xff\xff\xff", Ok((2, 24, 1))),
-    // the stream of type records is short, and has no records
+    // the TPI stream is short, or has no records
     (2060, b"\x37", Err(PdbFault::Tpi(TpiFault::Short))),
     (3084, b"\0\x10\0\0\0\0\0\0", Ok((0, 0, 0))),
     // the first record names the second
@@ -151,7 +151,7 @@ fn growth_is_refused(rt: HostRuntime) -> Result<(), Fail> {
             refused = refused.saturating_add(1);
         } else {
             assert_eq!(rt; found.ok(), Some((2, 24, 1)));
-            // What was held is given up first, so that the heap has room for the same again.
+            // The old bytes are dropped first, so the heap has room for the same bytes again.
             let again = read(&heap, &file, &mut buffer);
             assert_eq!(rt; again.ok(), Some((2, 24, 1)));
         }
@@ -166,7 +166,7 @@ fn a_buffer_grows_in_its_own_memory(rt: HostRuntime) -> Result<(), Fail> {
     let none = LocalHeap::new(rt.alloc(), 0)?;
     let own = LocalHeap::new(rt.alloc(), 256)?;
     let ample = LocalHeap::new(rt.alloc(), 4096)?;
-    // However much memory the call has, a buffer without any can't hold the stream.
+    // A buffer whose heap is empty cannot hold the stream, however much memory the call has.
     let refused = read(&ample, &file, &mut Buffer::new(&none));
     assert!(rt; matches!(refused, Err(PdbFault::Memory)));
     let read = read(&ample, &file, &mut Buffer::new(&own));

@@ -17,7 +17,7 @@ use std::alloc::Allocator;
 use tpi_records::tpi_header_bytes;
 use type_trees::Canon;
 
-/// The header of the stream of type records of a canonical list.
+/// The header of the TPI stream of a canonical list.
 #[tactic(auto, using(type_trees::proofs::CanonTableLaws::canon_short))]
 fn header_of<A: Allocator>(canon: &Canon<A>) -> [u8; 56]
     ensures { result ≡ header_text (length canon.now) (length (concat canon.now)) }
@@ -26,7 +26,7 @@ fn header_of<A: Allocator>(canon: &Canon<A>) -> [u8; 56]
     tpi_header_bytes(count as u32, canon.bytes_len())
 }
 
-/// Writes the file with this info stream, and a stream of types of this header and these records.
+/// Writes the file with this info stream and a TPI stream of this header and these records.
 fn write_streams<'a, W: Sink, A: Allocator + Copy>(
     alloc: A,
     block_size: u32,
@@ -51,7 +51,8 @@ fn write_streams<'a, W: Sink, A: Allocator + Copy>(
     )
 }
 
-/// How long the file is whose records have so many bytes together, where it can be.
+/// The length in bytes of the file whose records have `bytes` bytes together. `None` where there is
+/// no such file.
 fn file_len(block_size: u32, bytes: u32) -> Option<u32>
     requires { IsBlockSize block_size }
     ensures some { IfSome result (λ n. Fits block_size (merged_sizes bytes) × (56 + bytes < 2 ^ 32) × (n ≡ image_length block_size (merged_sizes bytes))) }
@@ -62,10 +63,16 @@ fn file_len(block_size: u32, bytes: u32) -> Option<u32>
 
 /// Writes the file of a canonical list with these settings into a sink.
 ///
-/// It has five streams, of which 0, 3 and 4 are empty. The checks come before any memory is asked
-/// for, and all memory is there before the first byte is written: only after `Write` has the sink
-/// taken anything, and then the first bytes of the file. `Image` is answered exactly where the
-/// file can't be: a list within `record_limit` of the settings never meets it.
+/// The file has five streams. The streams 0, 3 and 4 are empty. The faults, in order:
+///
+/// 1. `Image`: there is no such file. This never happens where the records have at most
+///    `record_limit` bytes together, the limit of the settings.
+/// 2. `Memory`: out of memory.
+/// 3. `Write`: the sink did not take the whole file. It is broken, and it took the first bytes of
+///    the file.
+///
+/// All checks are made before anything is allocated, and everything is allocated before the first
+/// byte is written. So the sink is unchanged after `Image` and `Memory`.
 pub fn write_merged<W: Sink, A: Allocator + Copy>(
     alloc: A,
     canon: &Canon<A>,
@@ -75,7 +82,7 @@ pub fn write_merged<W: Sink, A: Allocator + Copy>(
     ensures value { OnOk result (Appends (W.taken out.old) (W.taken out.new) (merged_file settings.now canon.now)) }
     ensures image { IfErr result (λ fault. fault ≡ WriteFault.Image → Writable settings.now.block_size (merged_texts settings.now canon.now) → ⊥) }
     ensures found { length (concat canon.now) ≤ record_limit settings.now → IfErr result (λ fault. (fault ≡ WriteFault.Memory) ⊎ (fault ≡ WriteFault.Write)) }
-    // Every answer but `Image` comes only where the file can be.
+    // Every answer except `Image` comes only where there is such a file.
     ensures writable { (result ≡ Err WriteFault.Image) ⊎ Writable settings.now.block_size (merged_texts settings.now canon.now) }
     ensures write { IfErr result (λ fault. fault ≡ WriteFault.Write → (W.is_broken out.new ≡ true)
         × AppendsPart (W.taken out.old) (W.taken out.new) (merged_file settings.now canon.now)) }
@@ -90,7 +97,7 @@ pub fn write_merged<W: Sink, A: Allocator + Copy>(
     write_streams(alloc, block_size, &info, &header, canon.bytes(), out)
 }
 
-/// How long the file is whose records have so many bytes together.
+/// The length in bytes of the file whose records have `bytes` bytes together.
 #[tactic(auto, using(pdb_info::proofs::SettingsLaws::records_fit))]
 pub fn merged_len(settings: &Settings, bytes: u32) -> u32
     requires { bytes ≤ record_limit settings.now }

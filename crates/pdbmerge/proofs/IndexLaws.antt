@@ -1,4 +1,4 @@
--- A word of the command line that is an index.
+-- An argument of the command line that is a type index.
 use Rattle.std.proofs.Common.{◌≡◌, ◌≤◌, ◌<◌, ◌^◌, ◌++◌, ◌∙◌, ℕ, List, [], ◌∷◌, length, get_or, drop, sym, ap, arith}
 use Rattle.std.specs.Prelude.{◌≢◌, Result, Ok, Err, IfNone, codes}
 use Rattle.std.specs.Result.{result_ok}
@@ -9,16 +9,16 @@ use Rattle.std.proofs.lemmas.Str.Parse.{without_leading_plus_none}
 use Rattle.pdbmerge.specs.Index.{IsIndexWord}
 use native.Mathlib.Nat.{pow-le-pow_right}
 
--- digits begin with no sign
+-- digits do not begin with a sign
 no_plus : (digits : List ℕ) → IsNumeral 16 digits → get_or digits 0 0 ≢ 43
 no_plus [] n is = absurd (omega (arith, n.0))
 no_plus (c ∷ cs) n is = let small : digit_value 43 < 16 = rw is at n.1.0 in absurd (omega (arith, small))
 
--- eight of them are a number of four bytes
+-- eight digits are a number of four bytes
 few_digits : (digits : List ℕ) → IsNumeral 16 digits → length digits ≤ 8 → digits_value 16 digits < 2 ^ 32
 few_digits digits n few = omega (arith, digits_value-lt 16 digits n.1, pow-le-pow_right {n = 16} (omega arith) few)
 
--- a word whose digits are refused is no index
+-- a word whose digits are refused is no type index
 pub no_index : {E : Type 0} (word digits : List ℕ) (read : Result ℕ E) → word ≡ codes "0x" ++ digits → ParsesUnsigned 32 16 digits read → length digits ≤ 8
     → IfNone (result_ok read) ((value : ℕ) → IsIndexWord word value → ⊥)
 no_index word digits (Ok value) is parses few = tt

@@ -1,8 +1,8 @@
--- A type index as a word of the command line.
+-- A type index as an argument of the command line.
 use Rattle.std.specs.Prelude.{ℕ, ◌≡◌, ◌≤◌, List, ◌++◌, length, codes}
 use Rattle.std.specs.Str.Parse.{IsNumeral, digits_value}
 
--- the word is an index of this value: 0x, and 1 to 8 hexadecimal digits of either case
+-- the word is an index of this value: 0x and 1 to 8 hexadecimal digits of either case
 abbrev pub IsIndexWord : List ℕ → ℕ → Type 0
 IsIndexWord word value =
     (digits : List ℕ) × (word ≡ codes "0x" ++ digits) × IsNumeral 16 digits × (length digits ≤ 8) × (value ≡ digits_value 16 digits)

@@ -1,4 +1,4 @@
--- What words that are no command come to.
+-- The exit statuses for arguments that are no command.
 use Rattle.std.specs.Prelude.{ℕ, ◌≡◌, ◌≢◌, ◌⊎◌}
 use Rattle.clap.specs.Values.{kind_of}
 use Rattle.clap.specs.declared.error.Error.{Error}
@@ -6,11 +6,11 @@ use Rattle.clap.specs.declared.error.kind.ErrorKind.TheVariants.{DisplayHelp, Di
 use Rattle.pdbmerge.specs.declared.line.LineFault.{LineFault}
 use Rattle.pdbmerge.specs.declared.line.LineFault.TheVariants.{Refused, Word, Memory}
 
--- the error is a mistake in the words: it neither shows help nor the version
+-- the error is a mistake in the arguments: it shows neither help nor the version
 abbrev pub IsMistake : Error → Type 0
 IsMistake error = (kind_of error ≢ DisplayHelp) × (kind_of error ≢ DisplayVersion)
 
--- the exit status of a refusal of words: 2 for a mistake and 0 for a request for help, 2 for a word without a value, 1 for out of memory
+-- the exit status for arguments that are refused: 2 for a mistake, 0 for a request for help, 2 for an argument without a value, 1 for out of memory
 abbrev pub IsStatus : LineFault → ℕ → Type 0
 IsStatus (Refused error) status = (IsMistake error × (status ≡ 2)) ⊎ ((IsMistake error → ⊥) × (status ≡ 0))
 IsStatus Word status = status ≡ 2

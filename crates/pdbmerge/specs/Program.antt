@@ -4,7 +4,7 @@ use Rattle.pdbmerge.specs.declared.ProgramFault.{ProgramFault}
 use Rattle.pdbmerge.specs.declared.ProgramFault.TheVariants.{ReadOne}
 use Rattle.pdb_commands.specs.declared.input.ReadFault.TheVariants as reads
 
--- out of memory is a fault of the run, and never of reading one of several files
+-- out of memory is a fault of the run, never a fault of reading one of several files
 abbrev pub IsOnce : ProgramFault → Type 0
 IsOnce (ReadOne file fault) = fault ≢ reads.Memory
 IsOnce _ = Unit {0}

@@ -1,4 +1,4 @@
-//! The words of the command line.
+//! The arguments of the command line.
 
 ghost use Rattle.std.specs.Prelude.{◌≡◌, ◌⊎◌, []};
 ghost use Rattle.pdbmerge.specs.Line.{IsStatus};
@@ -11,7 +11,7 @@ use pdb_info::Settings;
 use std::alloc::{AllocError, AllocFailed, Global};
 use uuid::Uuid;
 
-/// What is printed where there are no words.
+/// What is printed where there are no arguments.
 pub const USAGE: &str = "usage: pdbmerge COMMAND [WORDS]\n";
 
 /// The head of the help text.
@@ -45,16 +45,16 @@ const STATUSES: &str =
     "Exit status: 0 done; 1 refused, with one line on standard error that begins \
     with 'pdbmerge: '\nand the fault's number and name; 2 the words are wrong.";
 
-/// The limit of `merge` where its words give none, in bytes.
+/// The limit of `merge` where its arguments give none, in bytes.
 const LIMIT: u32 = 1_073_741_824;
 
-/// The size of a block where the words of `merge` give none, in bytes.
+/// The size of a block where the arguments of `merge` give none, in bytes.
 const BLOCK_SIZE: u32 = 4096;
 
-/// A command, with its words as values.
+/// A command with its arguments as values.
 #[derive(Debug, Drop)]
 pub enum Line {
-    /// There are no words.
+    /// There are no arguments.
     Usage,
     /// `records FILE`
     Records {
@@ -89,14 +89,14 @@ pub enum Line {
     },
 }
 
-/// Why the words are no command.
+/// Why the arguments are no command.
 #[derive(Drop)]
 pub enum LineFault {
-    /// The words are refused, or ask for help: the error has the text to print.
+    /// The arguments are refused, or they ask for help. The error has the text to print.
     Refused(clap::Error),
-    /// A word has no value that the command can use.
+    /// An argument has no value that the command can use.
     Word,
-    /// A growth was refused.
+    /// Out of memory.
     Memory,
 }
 
@@ -226,7 +226,7 @@ fn program<'a>(alloc: Global) -> Result<Command<'a>, AllocError> {
         .subcommand(showing(alloc, "info", INFO)?)
 }
 
-/// The word that stands under a name.
+/// A copy of the argument that has a name.
 fn word_of(alloc: Global, words: &ArgMatches<'_>, name: &str) -> Result<String, LineFault> {
     match words.get_str(name) {
         Some(word) => Ok(String::from_str(alloc, word)?),
@@ -247,13 +247,13 @@ fn index_of(words: &ArgMatches<'_>) -> Result<u32, LineFault> {
         .ok_or(LineFault::Word)
 }
 
-/// The number that stands under a name.
+/// The number in the argument that has a name.
 fn number_of(words: &ArgMatches<'_>, name: &str) -> Result<u32, LineFault> {
     let word = words.get_str(name).ok_or(LineFault::Word)?;
     word.parse().map_err(|_| LineFault::Word)
 }
 
-/// The number that stands under a name, or another where there is none.
+/// The number in the argument that has a name, or `default` where there is no such argument.
 fn number_or(words: &ArgMatches<'_>, name: &str, default: u32) -> Result<u32, LineFault> {
     if words.contains_id(name) {
         number_of(words, name)
@@ -281,7 +281,7 @@ fn inputs_of(alloc: Global, words: &ArgMatches<'_>) -> Result<Vec<String>, LineF
     Ok(inputs)
 }
 
-/// Reads the words of a command line, without the program's name.
+/// Reads the arguments of a command line, which come without the program's name.
 pub fn read_line(alloc: Global, words: &[String]) -> Result<Line, LineFault>
     ensures usage { words.now ≡ [] → result ≡ Ok Line.Usage }
 {

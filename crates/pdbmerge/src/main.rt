@@ -1,9 +1,9 @@
 //! The command `pdbmerge`: merges the types of Program Database (PDB) files, and shows what files
 //! hold.
 //!
-//! `line` reads the arguments, `index` a type index among them; `output` is a file that is created
-//! at its first write. The commands are those of `pdb_commands`. This file joins these to the
-//! system: arguments, files, the standard streams and the exit status.
+//! `line` reads the arguments, and `index` reads a type index among them. `output` is a file that
+//! is created at its first write. The commands are those of `pdb_commands`. This module joins these
+//! to the system: arguments, files, the standard streams and the exit status.
 #![tactic(auto)]
 
 ghost use Rattle.std.specs.Prelude.{◌≡◌, IfErr};
@@ -32,22 +32,23 @@ use std::rt::{Env, Files};
 use std::{env, fs};
 use thiserror::Error;
 
-/// Why the program didn't do what the words ask for.
+/// Why the program did not do what the arguments ask for.
 #[derive(Debug, PartialEq, Eq, Drop, Error)]
 pub enum ProgramFault {
     /// The command was refused.
     #[error("{0}")]
     Run(RunFault),
-    /// A file can't be opened.
+    /// A file cannot be opened.
     #[error("40 Open")]
     Open,
-    /// This file of several, counted from 0, can't be opened.
+    /// One of several files cannot be opened: the one at this position, from 0.
     #[error("file {0}: 40 Open")]
     OpenOne(usize),
-    /// This file of several, counted from 0, wasn't read to its end. Out of memory isn't inside.
+    /// One of several files was not read to its end: the one at the position `file`, from 0. The
+    /// fault inside is never out of memory.
     #[error("file {file}: {fault}")]
     ReadOne { file: usize, fault: ReadFault },
-    /// The file that is to be written can't be created.
+    /// The file to write cannot be created.
     #[error("41 Create")]
     Create,
 }
@@ -76,17 +77,17 @@ impl From<RunFault> for ProgramFault {
     }
 }
 
-/// The words of the command line, without the program's name.
+/// The arguments of the command line, without the program's name.
 fn words<R: Env + AllocGlobal>(rt: &R) -> Result<Vec<String>, LineFault> {
     match env::args(rt) {
         Ok(args) => Ok(args.skip(1).collect(rt.alloc())?),
         Err(error) if error.kind() == ErrorKind::OutOfMemory => Err(LineFault::Memory),
-        // A word isn't UTF-8.
+        // An argument is not UTF-8.
         Err(_) => Err(LineFault::Word),
     }
 }
 
-/// Opens a file to be read.
+/// Opens a file to read it.
 fn open<R: Files>(rt: &R, file: &str) -> Result<In<R::File>, ProgramFault> {
     match fs::open(rt, file) {
         Ok(file) => Ok(In::new(file)),
@@ -94,7 +95,7 @@ fn open<R: Files>(rt: &R, file: &str) -> Result<In<R::File>, ProgramFault> {
     }
 }
 
-/// Reads one of several files to its end.
+/// Reads one of several files to its end. `file` is its position, from 0.
 fn read_one<R: Files + AllocGlobal>(
     rt: &R,
     file: usize,
@@ -124,7 +125,7 @@ fn read_each<R: Files + AllocGlobal>(
     Ok(files)
 }
 
-/// Merges files into a new one, and reports on it on standard output.
+/// Merges files into a new one, and writes the report on it to standard output.
 fn merge_with<R: Files + Print + AllocGlobal, S: BuildHasher + Drop>(
     rt: &R,
     settings: &Settings,
@@ -153,7 +154,8 @@ fn merge_with<R: Files + Print + AllocGlobal, S: BuildHasher + Drop>(
     Ok(merged?)
 }
 
-/// Merges files with hashes that nobody can foresee, where the system gives random words.
+/// Merges files with hashes that nobody can predict, where the system gives random numbers. Where
+/// it gives none, the hashes have a fixed seed.
 fn merge_into<R: Files + Print + AllocGlobal + RandomSource>(
     rt: &R,
     settings: &Settings,
@@ -169,7 +171,7 @@ fn merge_into<R: Files + Print + AllocGlobal + RandomSource>(
     }
 }
 
-/// Runs a command on standard output.
+/// Runs a command. What it prints goes to standard output.
 fn run<R: Files + Print + AllocGlobal + RandomSource>(
     rt: &R,
     line: &Line,
@@ -210,7 +212,7 @@ fn run<R: Files + Print + AllocGlobal + RandomSource>(
     Ok(())
 }
 
-/// Says why the words are refused, or prints the help that they ask for.
+/// Prints why the arguments are refused, or the help that they ask for.
 fn explain<R: Print + Eprint>(rt: &R, fault: &LineFault) -> io::Result<()> {
     match fault {
         LineFault::Refused(error) => error.print(rt),
@@ -219,9 +221,9 @@ fn explain<R: Print + Eprint>(rt: &R, fault: &LineFault) -> io::Result<()> {
     }
 }
 
-/// Says why a command was refused.
+/// Prints why a command was refused, and returns the exit status for it.
 fn refuse<R: Eprint>(rt: &R, fault: &ProgramFault) -> ExitCode {
-    // Where even this can't be said, the status is all that is left.
+    // Where even this cannot be printed, only the exit status is left.
     let _ = eprintln!(rt; "pdbmerge: {fault}");
     ExitCode::FAILURE
 }
@@ -231,7 +233,7 @@ fn main(rt: HostRuntime) -> ExitCode {
         Ok(line) => line,
         Err(fault) => {
             return match explain(&rt, &fault) {
-                // Help that wasn't taken is a text like any other.
+                // Help that was not written whole is refused as any other text is.
                 Err(_) if fault.status() == 0 => refuse(&rt, &RunFault::Write.into()),
                 _ => ExitCode::from(fault.status()),
             };

@@ -6,7 +6,7 @@ use msf_blocks::{Out, Sink};
 use std::fs;
 use std::rt::Files;
 
-/// How far a file is that is created at its first write.
+/// The state of a file that is created at its first write.
 #[derive(Drop)]
 enum State<F> {
     Absent,
@@ -14,8 +14,8 @@ enum State<F> {
     Refused,
 }
 
-/// A file that is created at its first write, so that nothing is done to an older one before
-/// there is something to write.
+/// A file that is created at its first write. So an older file at its path is untouched until there
+/// is something to write.
 #[derive(Drop)]
 pub struct NewFile<'a, R: Files> {
     rt: &'a R,
@@ -25,7 +25,7 @@ pub struct NewFile<'a, R: Files> {
 }
 
 impl<'a, R: Files> NewFile<'a, R> {
-    /// The file at this path, which isn't looked at yet. It isn't broken.
+    /// The file at this path. Nothing is done at the path yet. The sink is not broken.
     pub fn new(rt: &'a R, path: &'a str) -> NewFile<'a, R>
         ensures { ⟦<NewFile<'a, R> as Sink>⟧.is_broken result ≡ false }
     {
@@ -37,12 +37,12 @@ impl<'a, R: Files> NewFile<'a, R> {
         }
     }
 
-    /// Whether the file couldn't be created.
+    /// Whether the file could not be created.
     pub fn is_refused(&self) -> bool {
         matches!(&self.state, State::Refused)
     }
 
-    /// Creates the file, where that wasn't tried yet.
+    /// Creates the file, unless that was tried before.
     fn create(&mut self)
         ensures { ⟦<NewFile<'a, R> as Sink>⟧.is_broken self.new ≡ ⟦<NewFile<'a, R> as Sink>⟧.is_broken self.old }
     {

@@ -4,7 +4,8 @@ ghost use Rattle.std.specs.Prelude.{None};
 
 use msf_blocks::Source;
 
-/// Gives one byte a call and counts the calls; then it ends, or fails.
+/// Gives one byte a call, and counts the calls. After its last byte it ends, or it fails where
+/// `fails` is true.
 ///
 /// Clauses do not see its bytes.
 #[derive(Drop)]

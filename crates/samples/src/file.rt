@@ -1,13 +1,13 @@
-//! The sample that is shipped, built from its table.
+//! The sample that is shipped, made from its table.
 
 ghost use Rattle.std.specs.Prelude.{◌≡◌, length, IfOk};
 
 use std::alloc::{AllocError, Global};
 
-/// Its length in bytes: seven blocks of 512.
+/// The length of the sample in bytes: seven blocks of 512.
 pub const LENGTH: usize = 3584;
 
-/// What the sample has that isn't zero, and where.
+/// The bytes of the sample that are not zero, each part with its offset.
 const PARTS: [(usize, &[u8]); 11] = [
     // block 0: the superblock
     (0, b"Microsoft C/C++ MSF 7.00\x0d\x0a\x1aDS\0\0\0"),
@@ -17,7 +17,7 @@ const PARTS: [(usize, &[u8]); 11] = [
     ),
     // block 3: the block map
     (1536, b"\x04\0\0\0"),
-    // block 4: the stream directory, five streams of which two have bytes
+    // block 4: the stream directory: five streams, and two of them have bytes
     (
         2048,
         b"\x05\0\0\0\0\0\0\0\x34\0\0\0\x50\0\0\0\0\0\0\0\0\0\0\0\x05\0\0\0\x06\0\0\0",
@@ -39,7 +39,8 @@ const PARTS: [(usize, &[u8]); 11] = [
     (3140, b"\x0a\x00\x01\x10\x74\0\0\0\x01\x00\xf2\xf1"),
 ];
 
-/// Writes bytes over those that stand from an offset on.
+/// Replaces the bytes of a file from the offset `at` on by others. The file keeps its length: bytes
+/// that lie past its end are left out.
 pub fn put(file: &mut [u8], at: usize, bytes: &[u8])
     ensures { length file.new ≡ length file.old }
 {

@@ -1,4 +1,4 @@
-//! Files with streams of the test.
+//! Files with streams that a test gives.
 
 use msf_blocks::Out;
 use msf_streams::{WriteFault, write_image};
@@ -36,8 +36,8 @@ const GUID: [u8; 16] = [
     0x33, 0x22, 0x11, 0x00, 0x55, 0x44, 0x77, 0x66, 0x88, 0x99, 0xAA, 0xBB, 0xCC, 0xDD, 0xEE, 0xFF,
 ];
 
-/// A file with this GUID and the age 1, whose stream 2 announces so many records and has these
-/// bytes of records.
+/// A file with this GUID and the age 1. The header of its stream 2 gives `count` as the number of
+/// records, and `records` are the bytes after it.
 pub fn pdb(alloc: Global, count: usize, records: &[u8]) -> Result<Vec<u8>, Fail> {
     if count > 20_000 || records.len() > 10_000_000 {
         return Err("too many records for a test".into());

@@ -1,10 +1,10 @@
-//! What tests build on: files, a sink and a source.
+//! What tests use: files, a sink and a source.
 //!
 //! - [`sample()`] is the file that is shipped, byte by byte; [`put`] changes bytes of a file.
-//! - [`container`] and [`pdb`] write files with streams and records of the test.
-//! - [`Narrow`] is a sink with little room, [`Dripping`] a source that gives one byte a call.
+//! - [`container`] and [`pdb`] write files with streams and records that the test gives.
+//! - [`Narrow`] is a sink with little room. [`Dripping`] is a source that gives one byte a call.
 //!
-//! No shipped crate uses this one but for its tests.
+//! Shipped crates use this one only in their tests.
 #![tactic(auto)]
 
 mod dripping;

@@ -5,9 +5,9 @@ ghost use Rattle.std.specs.Prelude.{None};
 use msf_blocks::Sink;
 use std::alloc::Global;
 
-/// Takes at most `step` bytes a call and `room` bytes in all, and is broken then.
+/// Takes at most `step` bytes a call and `room` bytes in all. A call that takes nothing breaks it.
 ///
-/// A test sees what it took; clauses do not.
+/// A test sees the bytes that it took. Clauses do not.
 #[derive(Drop)]
 pub struct Narrow {
     pub taken: Vec<u8>,

@@ -1,4 +1,4 @@
-//! Growth that is refused in turn, by heaps of rising size.
+//! Out of memory at one allocation after the other, with heaps of increasing size.
 
 use crate::check::run_check;
 use crate::fault::RunFault;

@@ -1,5 +1,4 @@
-//! What `merge` writes and reports, its faults, a report that can't be written, and growth that is
-//! refused.
+//! What `merge` writes and reports, its faults, a report that cannot be written, and out of memory.
 
 use crate::fault::RunFault;
 use crate::merge::run_merge;
@@ -11,13 +10,13 @@ use std::alloc::{Allocator, Global};
 use std::hash::{BuildHasherDefault, FoldHasher};
 use std::test::Fail;
 
-/// What is reported of the file with the types of the sample.
+/// The report on the file with the types of the sample.
 const REPORT: &str = "types 2\nbytes 24\nfile 28672\n";
 
-/// How long that file is, in bytes.
+/// The length of that file in bytes.
 const LENGTH: usize = 28672;
 
-/// What was answered, written and reported.
+/// The result, the bytes that were written, and the report.
 type Answer<A = Global> = (Result<(), RunFault<A>>, Vec<u8>, Vec<u8>);
 
 /// Runs the command on files.
@@ -58,7 +57,7 @@ fn the_report(rt: HostRuntime) -> Result<(), Fail> {
     Ok(())
 }
 
-/// The text of the fault of two files, of which nothing is written.
+/// The text of the fault of two files, for which nothing is written.
 fn fault_of<'a>(
     alloc: Global,
     first: &'a [u8],
@@ -116,7 +115,7 @@ fn a_report_that_is_not_taken(rt: HostRuntime) -> Result<(), Fail> {
 
 #[test]
 fn merges_on_small_heaps(rt: HostRuntime) -> Result<(), Fail> {
-    // The first record names the second, so that the types are put in order.
+    // The first record names the second, so the types have to be put in order.
     let mut forward = sample(rt.alloc())?;
     put(&mut forward, 3132, b"\x01\x10");
     let mut refused = 0u32;

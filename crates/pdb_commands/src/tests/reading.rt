@@ -1,4 +1,4 @@
-//! Sources that give little, too much, or fail.
+//! Sources that give little, that give too much, or that fail.
 
 use crate::input::{ReadFault, read_all};
 use crate::records::run_records;
@@ -13,7 +13,7 @@ fn sources_at_the_limit(rt: HostRuntime) {
     for (len, fails, want, calls) in [
         (4, false, Ok(4), 5),
         (5, false, Err(ReadFault::TooLong), 5),
-        // One that doesn't end before the test does.
+        // A source that has more bytes than the test reads.
         (1000, false, Err(ReadFault::TooLong), 5),
         (1, true, Err(ReadFault::Read), 2),
     ] {

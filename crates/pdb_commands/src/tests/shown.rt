@@ -1,4 +1,4 @@
-//! What the commands print of the sample, of changed samples, and of bytes that are none.
+//! What the commands print of the sample, of changed samples, and of bytes that are no file.
 
 use crate::check::run_check;
 use crate::info::run_info;
@@ -51,7 +51,7 @@ fn cut_and_extended_files(rt: HostRuntime) -> Result<(), Fail> {
     Ok(())
 }
 
-/// The bytes that stand from an offset on in place of the sample's, and the answer.
+/// An offset, the bytes that replace those of the sample from it on, and the answer.
 type Row = (usize, &'static [u8], &'static str);
 
 const SUPERBLOCK: [Row; 9] = [
@@ -161,7 +161,7 @@ fn streams_of_the_sample(rt: HostRuntime) -> Result<(), Fail> {
         text.as_str().strip_prefix(container),
         Some("0 0\n1 52 5\n2 80 6\n3 0\n4 0\n")
     );
-    // Block 6 is free by map 1, and not by map 2.
+    // Block 6 is free in map 1, but not in map 2.
     put(&mut file, 512, b"\x40");
     let text = streams_of(rt.alloc(), &file)?;
     assert!(rt; text.as_str().contains("\nfree 1\n"));
@@ -194,11 +194,11 @@ fn info_of(alloc: Global, file: &[u8]) -> Result<String, Fail> {
 const HEADER: &str =
     "version 20000404\nsignature 0x0\nage 1\nguid 00112233-4455-6677-8899-aabbccddeeff\n";
 
-/// A named stream map with one name, and a feature code, from offset 28 of the info stream on.
+/// A named stream map with one name, and a feature code. They come at offset 28 of the info stream.
 const MAP: &[u8] = b"\x07\0\0\0/names\0\x01\0\0\0\x08\0\0\0\x01\0\0\0\x10\0\0\0\0\0\0\0\
 \0\0\0\0\x06\0\0\0\0\0\0\0\xdc\x51\x33\x01";
 
-/// What `info` prints of the sample whose info stream has that map, is of this length, and has
+/// What `info` prints of the sample, where the info stream has that map, has this length, and has
 /// other bytes from an offset on.
 fn info_with(alloc: Global, len: u8, at: usize, bytes: &[u8]) -> Result<String, Fail> {
     let mut file = sample(alloc)?;
@@ -291,7 +291,7 @@ fn records_of_the_sample(rt: HostRuntime) -> Result<(), Fail> {
 type Shown = (u8, &'static [u8], &'static str);
 
 const LEAVES: [Shown; 7] = [
-    // a pointer to a member, and one to no member whose bytes look like it
+    // a pointer to a member, and a pointer to no member whose bytes look the same
     (
         20,
         b"\x12\0\x02\x10\x74\0\0\0\x4c\x80\0\0\0\x10\0\0\x01\0\xf2\xf1",
@@ -302,7 +302,7 @@ const LEAVES: [Shown; 7] = [
         b"\x12\0\x02\x10\x74\0\0\0\x0c\x80\0\0\0\x10\0\0\x01\0\xf2\xf1",
         "12000210740000000c800000001000000100f2f1\n0 0x74\n",
     ),
-    // a method list whose first entry introduces a virtual, and one cut short
+    // a method list whose first entry introduces a virtual function, and one that is cut short
     (
         24,
         b"\x16\0\x06\x12\x13\0\0\0\x74\0\0\0\0\0\0\0\x03\0\0\0\x74\0\0\0",
@@ -365,7 +365,7 @@ fn types_of_the_sample(rt: HostRuntime) -> Result<(), Fail> {
         text.as_str(),
         "0x1000 LF_POINTER 12 0x74\n0x1001 LF_MODIFIER 12 0x74\n"
     );
-    // the second record with a kind that isn't in the table
+    // the second record has a kind that is not in the table
     put(&mut file, 3142, b"\x0a\x15");
     let text = types_of(rt.alloc(), &file)?;
     assert_eq!(rt; text.as_str(), "index 0x1001: 25 Leaf 0x150a");
@@ -392,7 +392,7 @@ const TYPES: [Shown; 6] = [
         b"\x16\0\x05\x15\0\0\x80\0\0\0\0\0\0\0\0\0\0\0\0\0\0\0\0\0",
         "0x1000 LF_STRUCTURE 24 0x0 0x0 0x0 \"\"\n",
     ),
-    // neither types that it names nor a name
+    // no types that it names, and no name
     (8, b"\x06\0\x01\x12\0\0\0\0", "0x1000 LF_ARGLIST 8\n"),
     // a field list with a member of each kind
     (
@@ -441,7 +441,7 @@ fn checked(alloc: Global, file: &[u8]) -> Result<String, Fail> {
     Ok(String::from_utf8(text)?)
 }
 
-/// What `check` says of changed samples, in the order in which the faults come.
+/// What `check` prints of changed samples.
 const CHECKED: [Row; 14] = [
     (0, b"", "accepted\nrecords 2\nbytes 24\nlevels 1\n"),
     (0, b"m", "2 Magic"),
@@ -451,7 +451,7 @@ const CHECKED: [Row; 14] = [
     (2056, b"\x1b", "12 InfoShort"),
     (3088, b"\x14\0\0\0", "22 RecordShort index 0x1001"),
     (3142, b"\x0a\x15", "index 0x1001: 25 Leaf 0x150a"),
-    // the first record names the second, itself, and one after the last
+    // the first record names the second, itself, or one after the last
     (
         3132,
         b"\x01\x10",
@@ -459,13 +459,13 @@ const CHECKED: [Row; 14] = [
     ),
     (3132, b"\0\x10", "34 Cycle 0x1000"),
     (3132, b"\x02\x10", "31 Ref index 0x1000 place 0 to 0x1002"),
-    // both name each other
+    // the two records name each other
     (
         3132,
         b"\x01\x10\0\0\x0c\0\x01\0\x0a\0\x01\x10\0\x10",
         "34 Cycle 0x1000 0x1001",
     ),
-    // the first names itself, and the second one after the last
+    // the first record names itself, and the second names one after the last
     (
         3132,
         b"\0\x10\0\0\x0c\0\x01\0\x0a\0\x01\x10\x05\x10",

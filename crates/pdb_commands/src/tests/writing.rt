@@ -7,7 +7,7 @@ use samples::{Narrow, sample};
 use std::alloc::Global;
 use std::test::Fail;
 
-/// Runs the command on the sample with a sink that takes so many bytes.
+/// Runs the command on the sample with a sink that takes `room` bytes.
 fn written(alloc: Global, room: usize) -> Result<(Narrow, Option<String>), Fail> {
     let file = sample(alloc)?;
     let mut out = Narrow::new(alloc, 5, room);

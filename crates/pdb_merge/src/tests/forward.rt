@@ -11,7 +11,7 @@ use std::test::Fail;
 /// A pointer to the sixth record.
 const Q5: &[u8] = b"\x0a\0\x02\x10\x05\x10\0\0\x0c\0\x01\0";
 
-/// What is said of a file: how many levels its types have, or the text of the fault.
+/// The answer for a file: how many levels its types have, or the text of the fault.
 fn said<A: Allocator + Copy>(alloc: A, text: Global, file: &[u8]) -> Result<String, Fail> {
     let mut buffer = Buffer::new(alloc);
     match read_types(alloc, file, &mut buffer) {
@@ -20,7 +20,7 @@ fn said<A: Allocator + Copy>(alloc: A, text: Global, file: &[u8]) -> Result<Stri
     }
 }
 
-/// Records, and what is said of a file with them.
+/// Records, and the answer for a file with them.
 type Row = (&'static [&'static [u8]], &'static str);
 
 const ROWS: [Row; 9] = [
@@ -59,8 +59,8 @@ fn a_cycle_in_the_second_file(rt: HostRuntime) -> Result<(), Fail> {
     Ok(())
 }
 
-/// A chain of so many pointers and a const int: each record names the next one, or the one before
-/// it.
+/// A chain of `pointers` pointers and a const int. Each record names the next one if `forward` is
+/// true, and the one before it if not.
 fn chain(alloc: Global, pointers: u32, forward: bool) -> Result<Vec<u8>, Fail> {
     let mut bytes = Vec::new(alloc);
     if !forward {
@@ -91,8 +91,8 @@ fn a_forward_chain_merges_as_the_chain_turned_round(rt: HostRuntime) -> Result<(
     Ok(())
 }
 
-/// Reads a file in growing heaps, and says how often memory was refused. Each other answer is
-/// `want`.
+/// Reads a file with heaps of increasing size. Returns how often it was out of memory. Each other
+/// answer is `want`.
 fn refusals(alloc: Global, file: &[u8], want: &str) -> Result<u32, Fail> {
     let mut refused = 0u32;
     for size in 0..64usize {
@@ -117,7 +117,7 @@ fn growth_is_refused_in_turn(rt: HostRuntime) -> Result<(), Fail> {
     Ok(())
 }
 
-/// What is said of a merge of two files: how many types they have, or the text of the fault.
+/// The answer for a merge of two files: how many types they have, or the text of the fault.
 fn said_of_two<'a, A: Allocator + Copy>(
     alloc: A,
     text: Global,

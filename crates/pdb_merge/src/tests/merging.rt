@@ -1,5 +1,5 @@
-//! Merging: what is written for some lists of files, the faults, sinks that break, and growth
-//! that is refused.
+//! Merging: what is written for some lists of files, the faults, sinks that break, and out of
+//! memory.
 
 use crate::{
     AddFault, Buffer, Merge, MergeFault, OutFault, PdbFault, Summary, merge_files, merge_to,
@@ -15,7 +15,7 @@ use std::hash::{BuildHasherDefault, FoldHasher};
 use std::test::Fail;
 use type_trees::Canon;
 
-/// How many bytes the types of a file may have together, where nothing else is said.
+/// How many bytes the types of a file may have together, where a test sets no other limit.
 pub(super) const LIMIT: u32 = 1_073_741_824;
 
 /// The GUID 00112233-4455-6677-8899-aabbccddeeff, as it is stored.
@@ -43,15 +43,15 @@ pub(super) const Q3: &[u8] = b"\x0a\0\x02\x10\x03\x10\0\0\x0c\0\x01\0";
 
 const Q4: &[u8] = b"\x0a\0\x02\x10\x04\x10\0\0\x0c\0\x01\0";
 
-/// A pointer to a member of the class that is the first record, one of the second, and one whose
-/// mode has no containing class.
+/// A pointer to a member of the class that is the first record, a pointer to a member of the second
+/// record, and a pointer whose mode has no containing class.
 const MEMBER0: &[u8] = b"\x12\0\x02\x10\x74\0\0\0\x4c\x80\0\0\0\x10\0\0\x01\0\xf2\xf1";
 
 const MEMBER1: &[u8] = b"\x12\0\x02\x10\x74\0\0\0\x4c\x80\0\0\x01\x10\0\0\x01\0\xf2\xf1";
 
 const MODE0: &[u8] = b"\x12\0\x02\x10\x74\0\0\0\x0c\x80\0\0\0\x10\0\0\x01\0\xf2\xf1";
 
-/// A list of fields, and one that goes on with the first record.
+/// A field list, and a field list that continues in the first record.
 const FIELDS: &[u8] = b"\x0a\0\x03\x12\x02\x15\x03\0\0\0\x41\0";
 
 const MORE: &[u8] =
@@ -62,7 +62,7 @@ const DECLARED: &[u8] = b"\x16\0\x05\x15\0\0\x80\0\0\0\0\0\0\0\0\0\0\0\0\0\0\0\x
 
 const DEFINED: &[u8] = b"\x16\0\x05\x15\0\0\0\0\0\0\0\0\0\0\0\0\0\0\0\0\x01\0\x53\0";
 
-/// The records of two files, and those that are wanted.
+/// The records of two files, and the expected records of their merge.
 type Row = (
     &'static [&'static [u8]],
     &'static [&'static [u8]],
@@ -76,7 +76,7 @@ const ROWS: [Row; 16] = [
     (&[P], &[M], &[M, P]),
     // The same bytes name a const int in one file and a volatile one in the other.
     (&[M, Q0], &[V, Q0], &[M, V, Q0, Q1]),
-    // What came third comes third again, but names the first record.
+    // The record that was third is third again, but names the first record.
     (&[V, M, Q0, Q1], &[], &[M, V, Q0, Q1]),
     (&[M, M, Q0, Q1], &[], &[M, Q0]),
     (&[P, M, MEMBER0], &[], &[M, P, MEMBER1]),
@@ -96,7 +96,7 @@ pub(super) fn settings(limit: u32) -> Result<Settings, Fail> {
     Ok(Settings::new(guid_of(GUID), 1, limit, 4096).ok_or("no settings")?)
 }
 
-/// A hasher of a fixed seed.
+/// A hasher with a fixed seed.
 pub(super) fn hasher() -> BuildHasherDefault<FoldHasher> {
     BuildHasherDefault::new()
 }
@@ -115,7 +115,7 @@ pub(super) fn file_of(alloc: Global, records: &[&[u8]]) -> Result<Vec<u8>, Fail>
     pdb(alloc, records.len(), &joined(alloc, records)?)
 }
 
-/// Merges files, and says what was answered and written.
+/// Merges files, and returns the answer and the bytes that were written.
 pub(super) fn merged(
     alloc: Global,
     files: &[&[u8]],
@@ -196,7 +196,7 @@ fn listed<A: Allocator + Copy>(
     Ok(merge_files(alloc, files, &settings(limit)?, hasher()))
 }
 
-/// Why two files aren't merged, or how many bytes the records of their list have.
+/// Why two files are not merged, or how many bytes the records of their list have.
 fn outcome<'a>(
     alloc: Global,
     first: &'a [u8],
@@ -261,7 +261,7 @@ fn a_merge_goes_on_after_a_refusal(rt: HostRuntime) -> Result<(), Fail> {
     Ok(())
 }
 
-/// Merges a file into a sink that takes so many bytes, and says whether it broke.
+/// Merges a file into a sink that takes `room` bytes, and returns whether the sink broke.
 fn merged_into(
     alloc: Global,
     file: &[u8],
@@ -340,7 +340,8 @@ fn merges_are_refused_growth_in_turn(rt: HostRuntime) -> Result<(), Fail> {
     Ok(())
 }
 
-/// Writes the file of a list while so many bytes of a heap are taken, and again without that.
+/// Writes the file of a list while `taken` bytes of a heap are in use, and again after they are
+/// freed.
 fn written_beside<A: Allocator + Copy>(
     heap: A,
     alloc: Global,

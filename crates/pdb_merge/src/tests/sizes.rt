@@ -11,7 +11,7 @@ use std::test::Fail;
 /// The sizes that a block may have, in bytes.
 const SIZES: [u32; 7] = [512, 1024, 2048, 4096, 8192, 16384, 32768];
 
-/// Merges files into blocks of this size, and says what was answered and written.
+/// Merges files into blocks of this size, and returns the answer and the bytes that were written.
 fn merged_at(
     alloc: Global,
     files: &[&[u8]],
@@ -54,7 +54,7 @@ fn each_size_has_one_file(rt: HostRuntime) -> Result<(), Fail> {
     Ok(())
 }
 
-/// Appends the shape of a virtual function table, a record of this many bytes in all.
+/// Appends the shape of a virtual function table: a record of `len` bytes in all.
 fn push_shape(records: &mut Vec<u8>, len: u32, number: u8) -> Result<(), Fail> {
     let rest = u16::try_from(len.saturating_sub(2))?;
     records.extend_from_slice(&rest.to_le_bytes())?;
@@ -64,7 +64,7 @@ fn push_shape(records: &mut Vec<u8>, len: u32, number: u8) -> Result<(), Fail> {
     Ok(())
 }
 
-/// A file with 127 records of 65,536 bytes, each with bytes of its own, and one of this many.
+/// A file with 127 records of 65,536 bytes, all different, and one record of `last` bytes.
 fn large_file(alloc: Global, last: u32) -> Result<Vec<u8>, Fail> {
     let mut records = Vec::new(alloc);
     for number in 0..127 {

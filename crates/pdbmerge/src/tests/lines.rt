@@ -1,16 +1,16 @@
-//! Words, and what they mean.
+//! Arguments, and what they mean.
 
 use crate::index::read_index;
 use crate::line::{Line, read_line};
 use std::alloc::Global;
 use std::test::Fail;
 
-/// A GUID, and the same in braces.
+/// A GUID, and the same GUID in braces.
 const GUID: &str = "00112233-4455-6677-8899-aabbccddeeff";
 
 const BRACED: &str = "{00112233-4455-6677-8899-AABBCCDDEEFF}";
 
-/// What words mean: the file of `records`, the word `usage`, or the exit status of a fault.
+/// What arguments mean: the file of `records`, the word `usage`, or the exit status of a fault.
 fn meaning(alloc: Global, texts: &[&str]) -> Result<String, Fail> {
     let mut words = Vec::new(alloc);
     for text in texts {
