@@ -59,11 +59,11 @@ blank_kept r places has = rw (blank_is_fill r places) (fill_kept r places (zeros
 
 -- ---- places that are apart
 
--- these places are apart in a record of so many bytes, and the first is not before `from`
+-- these places are apart in a record of this length, and the first is not before `from`
 abbrev pub Fits : ℕ → List ℕ → ℕ → Type 0
 Fits from ps len = (end : ℕ) × Apart from ps end × (end + 4 ≤ len)
 
--- the places of a record are
+-- the places of a record are apart
 pub fits : (r places : List ℕ) → HasPlaces r places → Fits 0 places (length r)
 unfolding body_of
 fits r places has = (length (body_of r), places_apart r places has, omega (arith, has.long, length-drop 4 r))
@@ -111,7 +111,7 @@ fill_read y from (p ∷ ps) (n ∷ ns) f each small =
     number_in_body (fill one ps ns) p ∙ fill_before one (4 + p) (p + 4) ps ns (omega arith) next ∙ put_read y (4 + p) n inside small.0 in
     rw (first, fill_read one (p + 4) ps ns next (omega (arith, each)) small.1) refl
 
--- a number in front of the places is written before or after them
+-- a number that lies before the places may be written before or after them
 put_first : (y : List ℕ) (p n from : ℕ) (ps ms : List ℕ) → p + 4 ≤ from → Fits from ps (length y) → put_four (fill y ps ms) (4 + p) n ≡ fill (put_four y (4 + p) n) ps ms
 put_first y p n from [] ms before f = refl
 put_first y p n from (q ∷ qs) [] before f = refl
@@ -138,7 +138,7 @@ fill_own y from (p ∷ ps) bytes f =
     let apart : p + 4 ≤ f.0 = ends_behind (p + 4) ps f.0 f.1.1 in
     ap (λ (x : List ℕ). fill x ps (map (reference_at y) ps)) own ∙ fill_own y (p + 4) ps bytes (f.0, f.1.1, f.2)
 
--- a text of bytes that is filled is one
+-- a text of bytes stays one when it is filled
 pub fill_bytes : (y ps ns : List ℕ) → AreBytes y → AreBytes (fill y ps ns)
 fill_bytes y [] ns bytes = bytes
 fill_bytes y (p ∷ ps) [] bytes = bytes

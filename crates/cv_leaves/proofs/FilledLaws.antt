@@ -33,7 +33,7 @@ pub filled_has : (r ns : List ℕ) → IsChecked r → HasPlaces (filled r ns) (
 unfolding filled
 filled_has r ns checked = fill_kept r (places_of r) ns (own_places r checked)
 
--- and no others
+-- the places that are met in a filled record are those of the record
 pub filled_places : (r ns : List ℕ) → IsChecked r → places_of (filled r ns) ≡ places_of r
 filled_places r ns checked = sym (places_met (filled r ns) (places_of r) (filled_has r ns checked))
 
@@ -56,7 +56,7 @@ pub filled_len : (r ns : List ℕ) → IsChecked r → length (filled r ns) ≡ 
 unfolding filled
 filled_len r ns checked = fill_len r 0 (places_of r) ns (fits r (places_of r) (own_places r checked))
 
--- so has a blank
+-- a blank has the length of the record
 pub blanked_len : (r : List ℕ) → IsChecked r → length (blanked r) ≡ length r
 blanked_len r checked = ap length (blanked_is_filled r) ∙ filled_len r (zeros (places_of r)) checked
 
@@ -116,15 +116,15 @@ filled_front r ns checked = fill_front r 0 (places_of r) ns (fits r (places_of r
 pub filled_framed : FillKeepsFrame
 filled_framed r ns checked framed = same_frame r (filled r ns) (filled_len r ns checked) (filled_front r ns checked) framed
 
--- so does a blank
+-- a blank keeps its framing
 pub blanked_framed : BlankKeepsFrame
 blanked_framed r checked framed = rw (blanked_is_filled r) (filled_framed r (zeros (places_of r)) checked framed)
 
--- a filled record of bytes is one
+-- a record of bytes stays one when it is filled
 pub filled_bytes : FillKeepsBytes
 unfolding filled
 filled_bytes r ns bytes = fill_bytes r (places_of r) ns bytes
 
--- so is a blank
+-- a record of bytes stays one when it is blanked
 pub blanked_bytes : BlankKeepsBytes
 blanked_bytes r bytes = rw (blanked_is_filled r) (filled_bytes r (zeros (places_of r)) bytes)

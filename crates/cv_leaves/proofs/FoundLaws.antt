@@ -65,7 +65,7 @@ index_found body at held =
     let zero_more : at + 0 ≡ at = omega arith in
     (inside, (0 ∷ [], (omega (arith, text_len body at (at + 4) (omega arith) inside), refl), rw zero_more refl))
 
--- where nothing follows no check holds
+-- where nothing follows, no check holds
 nothing_found : (body : List ℕ) (at : ℕ) → first_failing (part_checks Nothing body at) ≡ None → IsFound Nothing body at
 unfolding part_checks
 nothing_found body at held = absurd cc

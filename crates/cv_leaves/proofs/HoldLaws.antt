@@ -20,7 +20,7 @@ use Rattle.cv_leaves.proofs.RecordLaws.{checks_of_leaf, places_split}
 
 -- ---- one part
 
--- the part at `at` passes its checks, is so long, and has these places
+-- the part at `at` passes its checks, has this length, and has these places
 abbrev Holds : Rest → List ℕ → ℕ → ℕ → List ℕ → Type 0
 Holds rest body at len here =
     (first_failing (part_checks rest body at) ≡ None) × (part_end rest body at ≡ at + len) × (part_places rest body at ≡ map (λ k. at + k) here)
@@ -74,12 +74,12 @@ index_holds body at t back here is part =
     let zero_more : at + 0 ≡ at = omega arith in
     rw (part.0, part.1, zero_more) (fits_holds body at 4 (omega (arith, part.0)), refl, refl)
 
--- a member of a field list, behind which no padding begins
+-- a member of a field list that no padding follows
 members_hold : (body : List ℕ) (at : ℕ) (t back here : List ℕ) → drop at body ≡ t ++ back → Unpadded back → IsPart Members t here → Holds Members body at (length t) here
 unfolding part_checks part_end part_places
 members_hold body at t back here is unpadded part = member_holds body at t back here is unpadded part
 
--- what may stand behind a part: anything, but no padding behind a member, to which it would belong
+-- what may follow a part: anything, but no padding after a member, because it would belong to the member
 abbrev Follows : Rest → List ℕ → Type 0
 Follows Members back = Unpadded back
 Follows _ back = Unit {0}
@@ -99,7 +99,7 @@ abbrev Reaches : Rest → List ℕ → ℕ → Type 0
 Reaches Members body stop = length body ≤ stop
 Reaches _ body stop = Unit {0}
 
--- the parts of a leaf reach so far
+-- the parts of a leaf reach their stop
 stop_reaches : (rest : Rest) (body : List ℕ) → Reaches rest body (stop_of rest body)
 stop_reaches Members body = omega arith
 stop_reaches Nothing body = tt
@@ -107,7 +107,7 @@ stop_reaches Containing body = tt
 stop_reaches Indices body = tt
 stop_reaches Methods body = tt
 
--- behind a member stands the next one, or nothing
+-- after a member comes the next one, or nothing
 member_follows : (body : List ℕ) (stop at : ℕ) (t : List ℕ) (ts : List (List ℕ)) (back others : List ℕ) → drop at body ≡ t ++ (concat ts ++ back) → length body ≤ stop → AreParts Members stop (at + length t) ts others → Unpadded (concat ts ++ back)
 member_follows body stop at t [] back others is reaches parts =
     let none : length back ≤ 0 = omega (arith, reaches, parts.0, length-drop at body, ap length is, length-append t back) in
@@ -115,7 +115,7 @@ member_follows body stop at t [] back others is reaches parts =
 member_follows body stop at t (u ∷ us) back others is reaches parts =
     rw (append_assoc u (concat us) back) (unpadded u parts.1.0 (concat us ++ back) parts.1.2)
 
--- what stands behind a part may
+-- what follows a part may follow it
 part_follows : (rest : Rest) (body : List ℕ) (stop at : ℕ) (t : List ℕ) (ts : List (List ℕ)) (back others : List ℕ) → drop at body ≡ t ++ (concat ts ++ back) → Reaches rest body stop → AreParts rest stop (at + length t) ts others
     → Follows rest (concat ts ++ back)
 part_follows Members body stop at t ts back others is reaches parts = member_follows body stop at t ts back others is reaches parts
@@ -147,7 +147,7 @@ unfolding fixed_checks
 fixed_holds body [] each = refl
 fixed_holds body (p ∷ ps) each = first_failing-append_none (fits body p 4) (fixed_checks body ps) (fits_holds body p 4 each.0) ∙ fixed_holds body ps each.1
 
--- so does what tells how far the parts reach
+-- the field that says how far the parts reach passes its checks
 extent_holds : (rest : Rest) (body : List ℕ) → start_of rest ≤ length body → first_failing (extent_checks rest body) ≡ None
 unfolding extent_checks
 extent_holds Nothing body starts = refl
@@ -156,7 +156,7 @@ extent_holds Indices body starts = fits_holds body 0 4 starts
 extent_holds Methods body starts = refl
 extent_holds Members body starts = refl
 
--- and so does all that follows the fixed places
+-- all that follows the fixed places passes its checks
 rest_holds : (rest : Rest) (body places : List ℕ) → HasParts rest body places → first_failing (rest_checks rest body) ≡ None
 unfolding rest_checks
 rest_holds rest body places has =
@@ -178,11 +178,11 @@ checked_long r checked = checked.1.long
 pub checks_hold : (r : List ℕ) → IsChecked r → first_failing (record_checks r) ≡ None
 checks_hold r checked = has_holds r checked.0 checked.1
 
--- it is not refused
+-- a record that has places is not refused
 pub not_refused : (r places : List ℕ) (fault : LeafFault) → HasPlaces r places → first_failing (record_checks r) ≡ Some fault → ⊥
 not_refused r places fault has fails = let holds = has_holds r places has in cc
 
--- its places are those that are met
+-- the places of a record are those that are met
 pub places_met : (r places : List ℕ) → HasPlaces r places → places ≡ places_of r
 places_met r places has =
     has.places_are

@@ -19,7 +19,7 @@ use Rattle.cv_leaves.proofs.PlaceLaws.{Among, among, among_inside, fixed_end, fi
 
 -- ---- one part
 
--- what is among one place is that place
+-- a place of a list of one place is that place
 only : (p q : ℕ) → Among p (q ∷ []) → p ≡ q
 only p q (inl e) = e
 only p q (inr never) = absurd never
@@ -52,19 +52,19 @@ entry_keeps t here p n false e part in_here =
     let inside : p + 4 ≤ length t = omega (arith, q.0) in
     (inside, rw (two_before t p n (omega arith) (omega arith), e) (put_len t p n inside ∙ q.0, q.1))
 
--- an index
+-- an index of an argument list
 index_keeps : PartKeeps Indices
 index_keeps t here p n part in_here =
     let is : p ≡ 0 = only p 0 (rw part.1 at in_here) in
     let inside : p + 4 ≤ length t = omega (arith, part.0) in
     (inside, (put_len t p n inside ∙ part.0, part.1))
 
--- what is among no places
+-- no place is in an empty list
 nowhere : (i p : ℕ) → Among p (take i []) → ⊥
 nowhere zero p in_none = in_none
 nowhere (suc i) p in_none = in_none
 
--- where the indices of a member stand
+-- where the indices of a member are
 index_place : (i p : ℕ) → Among p (take i (4 ∷ 8 ∷ [])) → (4 ≤ p) × (p ≤ 4 * i)
 index_place zero p in_here = absurd in_here
 index_place (suc zero) p (inl e) = (omega (arith, e), omega (arith, e))
@@ -73,7 +73,7 @@ index_place (suc (suc i)) p (inl e) = (omega (arith, e), omega (arith, e))
 index_place (suc (suc i)) p (inr (inl e)) = (omega (arith, e), omega (arith, e))
 index_place (suc (suc i)) p (inr (inr in_here)) = absurd (nowhere i p in_here)
 
--- a member of a field list: nothing of its indices is looked at
+-- a member of a field list: what its indices are doesn't matter
 member_keeps : PartKeeps Members
 member_keeps t here p n part in_here =
     let tail = part.virtual ++ (part.numerics ++ (part.name ++ part.padding)) in
@@ -109,7 +109,7 @@ member_keeps t here p n part in_here =
       },
     )
 
--- it does so for each kind of part
+-- each kind of part keeps its places
 part_keeps : (rest : Rest) → PartKeeps rest
 part_keeps Nothing t here p n part in_here = absurd part
 part_keeps Containing t here p n part in_here = containing_keeps t here p n (points_to_member (number_at 4 t 0)) refl part in_here
@@ -119,13 +119,13 @@ part_keeps Members t here p n part in_here = member_keeps t here p n part in_her
 
 -- ---- all parts
 
--- what is among two lists is in one of them
+-- a place of two joined lists is in one of them
 among_split : (p : ℕ) (xs ys : List ℕ) → Among p (xs ++ ys) → Among p xs ⊎ Among p ys
 among_split p [] ys in_both = inr in_both
 among_split p (x ∷ xs) ys (inl e) = inl (inl e)
 among_split p (x ∷ xs) ys (inr in_both) = elim (among_split p xs ys in_both) [ inl a ↦ inl (inr a) | inr b ↦ inr b ]
 
--- what is among places further on
+-- a place in a list of places that were moved
 among_map : (p at : ℕ) (qs : List ℕ) → Among p (map (λ k. at + k) qs) → (q : ℕ) × (p ≡ at + q) × Among q qs
 among_map p at [] in_qs = absurd in_qs
 among_map p at (q ∷ qs) (inl e) = (q, e, inl refl)
@@ -173,7 +173,7 @@ parts_keep rest stop at (t ∷ ts) places p n parts in_places =
 
 -- ---- the body
 
--- written behind an offset
+-- a number that is written after an offset
 put_after : (x : List ℕ) (s q n : ℕ) → s ≤ length x → drop s (put_four x (s + q) n) ≡ put_four (drop s x) q n
 put_after x s q n inside =
     let front = take s x in
@@ -182,7 +182,7 @@ put_after x s q n inside =
     ap (λ (y : List ℕ). put_four y (s + q) n) (sym (take-append-drop s x)) ∙ ap (λ (k : ℕ). put_four (front ++ drop s x) (k + q) n) (sym long) ∙ put_back front (drop s x) q n in
     ap (λ (y : List ℕ). drop s y) all ∙ drop_at front (put_four (drop s x) q n) s long
 
--- written before an offset
+-- a number that is written before an offset
 put_before : (x : List ℕ) (s p n : ℕ) → p + 4 ≤ s → s ≤ length x → drop s (put_four x p n) ≡ drop s x
 put_before x s p n before inside =
     let front = take s x in
@@ -191,7 +191,7 @@ put_before x s p n before inside =
     let all : put_four x p n ≡ put_four front p n ++ drop s x = ap (λ (y : List ℕ). put_four y p n) (sym (take-append-drop s x)) ∙ put_front front (drop s x) p n near in
     ap (λ (y : List ℕ). drop s y) all ∙ drop_at (put_four front p n) (drop s x) s (put_len front p n near ∙ long)
 
--- the parts reach as far as before
+-- the stop of the parts stays as it was
 stop_kept : (rest : Rest) (body : List ℕ) (p n : ℕ) → start_of rest ≤ p → p + 4 ≤ length body → stop_of rest (put_four body p n) ≡ stop_of rest body
 stop_kept Nothing body p n behind inside = refl
 stop_kept Containing body p n behind inside = refl
@@ -199,7 +199,7 @@ stop_kept Indices body p n behind inside = ap (λ (k : ℕ). 4 + 4 * k) (four_be
 stop_kept Methods body p n behind inside = put_len body p n inside
 stop_kept Members body p n behind inside = put_len body p n inside
 
--- written at a place of the parts
+-- a number that is written at a place of the parts
 parts_kept : (rest : Rest) (body places : List ℕ) (p n : ℕ) → p + 4 ≤ length body → Among p places → HasParts rest body places → HasParts rest (put_four body p n) places
 parts_kept rest body places p n inside in_places has =
     let kept = parts_keep rest (stop_of rest body) (start_of rest) has.texts places p n has.parts_are in_places in
@@ -214,7 +214,7 @@ parts_kept rest body places p n inside in_places has =
       parts_are = rw (stop_kept rest body p n kept.from inside) kept.parts_are;
     }
 
--- written at a fixed place
+-- a number that is written at a fixed place
 fixed_kept : (rest : Rest) (body places : List ℕ) (p n : ℕ) → p + 4 ≤ length body → p + 4 ≤ fixed_end rest → HasParts rest body places → HasParts rest (put_four body p n) places
 fixed_kept Nothing body places p n inside fixed has = record {
   starts = omega arith;
@@ -240,7 +240,7 @@ fixed_kept Members body places p n inside fixed has = absurd (omega (arith, fixe
 among_fits : (r places : List ℕ) (p : ℕ) → HasPlaces r places → Among p places → p + 4 ≤ length (body_of r)
 among_fits r places p has in_places = (among_inside p 0 places (length (body_of r)) (places_apart r places has) in_places).1
 
--- and its bytes within the record
+-- the bytes of a place lie within the record
 among_long : (r places : List ℕ) (p : ℕ) → HasPlaces r places → Among p places → p + 8 ≤ length r
 unfolding body_of
 among_long r places p has in_places = omega (arith, among_fits r places p has in_places, length-drop 4 r)
@@ -254,7 +254,7 @@ body_kept : (r : List ℕ) (p n : ℕ) → 4 ≤ length r → body_of (put_four 
 unfolding body_of
 body_kept r p n long = put_after r 4 p n long
 
--- its kind
+-- the kind of a record that was written to
 kind_kept : (r : List ℕ) (p n : ℕ) → 4 + p ≤ length r → kind_of (put_four r (4 + p) n) ≡ kind_of r
 unfolding kind_of
 kind_kept r p n long = kind_before r (4 + p) n (omega arith) long
@@ -282,7 +282,7 @@ among_kept r places p n has in_places =
       places_are = has.places_are;
     }
 
--- whichever list of its places is meant
+-- the same for every list of its places
 pub places_kept : (r : List ℕ) (place n : ℕ) → IsPlace r place → (places : List ℕ) → HasPlaces r places → HasPlaces (put_four r (4 + place) n) places
 places_kept r place n is places has =
     let same : is.0 ≡ places = one_places r is.0 places is.1 has in

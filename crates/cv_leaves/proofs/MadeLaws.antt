@@ -1,4 +1,4 @@
--- What it says of a record that every check was made.
+-- What is known of a record when all its checks were made.
 use Rattle.std.proofs.Common.{rules}
 use Rattle.std.specs.Prelude.{ℕ, ◌≤◌, List, length, Result, Ok, Err, IsOk, IfOk}
 use Rattle.byte_fields.specs.Check.{Makes}

@@ -24,7 +24,7 @@ use Rattle.cv_leaves.proofs.MemberLaws.{head_is, few_indices}
 
 -- ---- numeric leaves
 
--- a length that is some number of bytes is at least two
+-- a length of a numeric leaf that isn't 0 is at least two
 lens_long : (a b c d e : Bool) → 0 < cond a 2 (cond b 3 (cond c 4 (cond d 6 (cond e 10 0)))) → 2 ≤ cond a 2 (cond b 3 (cond c 4 (cond d 6 (cond e 10 0))))
 lens_long true b c d e some = omega arith
 lens_long false true c d e some = omega arith
@@ -33,11 +33,11 @@ lens_long false false false true e some = omega arith
 lens_long false false false false true some = omega arith
 lens_long false false false false false some = absurd (omega (arith, some))
 
--- so a known numeric leaf has at least two
+-- a known numeric leaf has at least two bytes
 numeric_long : (n : ℕ) → 0 < numeric_len n → 2 ≤ numeric_len n
 numeric_long n some = lens_long _ _ _ _ _ some
 
--- numeric leaves whose checks hold are some, and end within the body
+-- numeric leaves whose checks hold are numeric leaves, and end within the body
 numerics_found : (n : ℕ) (body : List ℕ) (at : ℕ) → at ≤ length body → first_failing (numerics_checks n body at) ≡ None
     → (at ≤ numerics_end n body at) × (numerics_end n body at ≤ length body) × AreNumerics n (text_of body at (numerics_end n body at))
 unfolding numerics_end numerics_checks
@@ -66,7 +66,7 @@ numerics_found (suc n) body at inside held =
 
 -- ---- names
 
--- the bytes up to the first NUL, and more behind it, have that one first as well
+-- the bytes up to the first NUL, and more after it, have the same first NUL
 name_len-take : (xs : List ℕ) (n : ℕ) → name_len xs < n → n ≤ length xs → name_len (take n xs) ≡ name_len xs
 name_len-take xs n below few =
     let long : length (take n xs) ≡ n = omega (arith, length-take n xs) in
@@ -130,12 +130,12 @@ padding_found body at inside held =
 
 -- ---- the member
 
--- the bytes of a virtual that are looked at fit
+-- the bytes of a virtual fit if they are checked
 virtual_found : (b : Bool) (body : List ℕ) (at : ℕ) → at ≤ length body → first_failing (cond b (fits body at 4) []) ≡ None → at + cond b 4 0 ≤ length body
 virtual_found true body at inside held = fits_held body at 4 held
 virtual_found false body at inside held = omega (arith, inside)
 
--- so do the indices, of which there are at most two
+-- the indices fit if they are checked; there are at most two
 indices_found : (n : ℕ) (body : List ℕ) (at : ℕ) → n ≤ 2 → at + 4 ≤ length body → first_failing (cond (nat_le 1 n) (fits body (at + 4) 4) []) ≡ None → first_failing (cond (nat_le 2 n) (fits body (at + 8) 4) []) ≡ None
     → at + 4 + 4 * n ≤ length body
 indices_found zero body at few front one two = omega (arith, front)
@@ -143,7 +143,7 @@ indices_found (suc zero) body at few front one two = omega (arith, fits_held bod
 indices_found (suc (suc zero)) body at few front one two = omega (arith, fits_held body (at + 8) 4 two)
 indices_found (suc (suc (suc n))) body at few front one two = absurd (omega (arith, few))
 
--- all of them in front of the numeric leaves
+-- all fields before the numeric leaves
 head_found : (m : Member) (body : List ℕ) (at : ℕ) → m.indices ≤ 2 → first_failing (head_checks m body at) ≡ None → head_end m body at ≤ length body
 unfolding head_checks
 head_found m body at few held =

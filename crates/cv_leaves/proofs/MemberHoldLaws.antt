@@ -1,4 +1,4 @@
--- What is a member of a field list passes the checks of one.
+-- A member of a field list passes its checks.
 use Rattle.std.proofs.Common.{◌≡◌, ◌<◌, ◌≤◌, ◌+◌, ◌-◌, ◌*◌, ◌%◌, ◌++◌, ◌∙◌, Bool, true, false, cond, ℕ, zero, suc, List, [], Some, None, length, map, drop, get_or, refl, sym, ap, arith, inl, inr}
 use Rattle.std.specs.Prelude.{◌⊎◌, ◌&&◌, ◌==◌, nat_lt, nat_le, slice_index}
 use Rattle.std.proofs.lemmas.Bool.{cases_lt, le-leb, lt-ltb, lt-leb}
@@ -18,13 +18,13 @@ use Rattle.cv_leaves.specs.declared.fault.LeafFault.TheVariants as fault
 use Rattle.cv_leaves.proofs.TextLaws.{text_inside, text_behind, number_of_text, second_met, fits_holds}
 use Rattle.cv_leaves.proofs.MemberLaws.{head_is, low_kind, member_long}
 
--- ---- what stands behind a member
+-- ---- what follows a member
 
 -- no padding begins here
 abbrev pub Unpadded : List ℕ → Type 0
 Unpadded back = (get_or back 0 0 < 0xF0) ⊎ (0xFF < get_or back 0 0)
 
--- a number of two bytes, of which the lowest isn't one with which padding begins
+-- a number of two bytes, the lowest of which does not begin padding
 low_byte : (t : List ℕ) → number_at 2 t 0 % 256 < 0xF0 → Unpadded t
 unfolding number_at
 low_byte t low = elim (cases_lt (get_or t 0 0) 256) [
@@ -65,14 +65,14 @@ numerics_hold (suc n) body at t back is (first, others, split, numeric, numerics
 
 -- ---- names
 
--- the first NUL of a text is the first one of more
+-- the first NUL of a text is also the first NUL of a longer text
 name_len-append : (xs ys : List ℕ) → name_len xs < length xs → name_len (xs ++ ys) ≡ name_len xs
 name_len-append xs ys below =
     position_or_len_is (λ b. b == 0) (xs ++ ys) (name_len xs) 0 (omega (arith, below, length-append xs ys))
     (λ k lt. let same = get_or_append_left xs ys 0 k (omega (arith, lt, below)) in rw same (fails_before_first (λ b. b == 0) xs k 0 lt))
     (λ lt. let same = get_or_append_left xs ys 0 (name_len xs) below in rw same (passes_at_first (λ b. b == 0) xs 0 below))
 
--- a name that is met at an offset, where there is to be one
+-- a name that is met at an offset, if there has to be one
 name_holds : (named : Bool) (body : List ℕ) (at : ℕ) (t back : List ℕ) → drop at body ≡ t ++ back → IsNamed named t → (first_failing (cond named (name_checks body at) []) ≡ None) × (cond named (name_end body at) at ≡ at + length t)
 unfolding has_name name_end
 name_holds true body at t back is named =
@@ -83,14 +83,14 @@ name_holds false body at t back is named = (refl, omega (arith, ap length named)
 
 -- ---- padding
 
--- the first byte of what stands at an offset
+-- the first byte of the bytes at an offset
 byte_at : (body : List ℕ) (at : ℕ) (x : List ℕ) → drop at body ≡ x → slice_index body at ≡ get_or x 0 0
 byte_at body at x is = ap (λ (k : ℕ). get_or body k 0) (none_more at) ∙ sym (get_or-drop at body 0 0) ∙ ap (λ (xs : List ℕ). get_or xs 0 0) is
   where
     none_more : (n : ℕ) → n ≡ n + 0
     none_more n = omega arith
 
--- a byte with which no padding begins
+-- a byte that does not begin padding
 no_pads : (byte : ℕ) → (byte < 0xF0) ⊎ (0xFF < byte) → pads byte ≡ false
 no_pads byte (inl low) = rw (lt-leb 0xF0 byte low) refl
 no_pads byte (inr high) = rw (lt-leb byte 0xFF high) (and_false (nat_le 0xF0 byte))
@@ -99,7 +99,7 @@ no_pads byte (inr high) = rw (lt-leb byte 0xFF high) (and_false (nat_le 0xF0 byt
     and_false true = refl
     and_false false = refl
 
--- where none begins there is none, and it holds
+-- where no padding begins there is none, and its check holds
 none_holds : (a : Bool) (body : List ℕ) (at : ℕ) → at ≤ length body → nat_lt at (length body) ≡ a → pads (slice_index body at) ≡ false → (padding_holds body at ≡ true) × (padding_len body at ≡ 0)
 unfolding padding_holds padding_len
 none_holds false body at inside follows begins = rw follows (refl, refl)
@@ -109,7 +109,7 @@ none_holds true body at inside follows begins =
     other : (byte : ℕ) → pads byte ≡ false → (byte == 0xF0) ≡ false
     other byte begins = grind (arith, nat_tests)
 
--- padding that is met at an offset, and behind which none begins
+-- padding at an offset that no other padding follows
 padding_met : (body : List ℕ) (at : ℕ) (t back : List ℕ) → at ≤ length body → drop at body ≡ t ++ back → Unpadded back → IsPadding t → (padding_holds body at ≡ true) × (padding_len body at ≡ length t)
 unfolding padding_holds padding_len
 padding_met body at t back inside is unpadded (inl none) =
@@ -133,13 +133,13 @@ virtual_holds : (b : Bool) (body : List ℕ) (at : ℕ) → at + cond b 4 0 ≤ 
 virtual_holds true body at inside = fits_holds body at 4 inside
 virtual_holds false body at inside = refl
 
--- so do indices
+-- indices that fit pass their checks
 indices_hold : (n : ℕ) (body : List ℕ) (at : ℕ) → at + 4 + 4 * n ≤ length body → (first_failing (cond (nat_le 1 n) (fits body (at + 4) 4) []) ≡ None) × (first_failing (cond (nat_le 2 n) (fits body (at + 8) 4) []) ≡ None)
 indices_hold zero body at inside = (refl, refl)
 indices_hold (suc zero) body at inside = (fits_holds body (at + 4) 4 (omega (arith, inside)), refl)
 indices_hold (suc (suc n)) body at inside = rw (le-leb 1 (suc (suc n)) (omega arith), le-leb 2 (suc (suc n)) (omega arith)) (fits_holds body (at + 4) 4 (omega (arith, inside)), fits_holds body (at + 8) 4 (omega (arith, inside)))
 
--- and all that stands in front of the numeric leaves
+-- and all that comes before the numeric leaves
 head_holds : (m : Member) (body : List ℕ) (at : ℕ) → head_end m body at ≤ length body → first_failing (head_checks m body at) ≡ None
 unfolding head_checks
 head_holds m body at inside =
@@ -154,12 +154,12 @@ head_holds m body at inside =
     ∙ first_failing-append_none c d indices.1
     ∙ virtual_holds (has_virtual m body at) body (indices_end m at) (omega (arith, inside, end))
 
--- what a member's fields say where it is met
+-- what is known of a member that is met: its checks hold, and where it ends
 record Met (m : Member) (body : List ℕ) (at : ℕ) (len : ℕ) : Type 0 where
   pub checks : first_failing (fields_checks m body at) ≡ None
   pub end : padded_end m body at ≡ at + len
 
--- the parts of a member and what stands behind it
+-- the parts of a member and what follows it
 six_parts : (a b c d e f back : List ℕ) → (a ++ (b ++ (c ++ (d ++ (e ++ f))))) ++ back ≡ a ++ (b ++ (c ++ (d ++ (e ++ (f ++ back)))))
 six_parts a b c d e f back =
     append_assoc a (b ++ (c ++ (d ++ (e ++ f)))) back
@@ -204,7 +204,7 @@ fields_met body at t back here is unpadded part =
     six_lengths a b c d e f t is four =
         omega (arith, ap length is, four, length-append a (b ++ (c ++ (d ++ (e ++ f)))), length-append b (c ++ (d ++ (e ++ f))), length-append c (d ++ (e ++ f)), length-append d (e ++ f), length-append e f)
 
--- a member that is met passes its checks, is so long, and has these places
+-- a member that is met passes its checks, has this length, and has these places
 pub member_holds : (body : List ℕ) (at : ℕ) (t back here : List ℕ) → drop at body ≡ t ++ back → Unpadded back → IsMember t here
     → (first_failing (member_checks body at) ≡ None) × (member_end body at ≡ at + length t) × (member_places body at ≡ map (λ k. at + k) here)
 unfolding member_checks member_end member_places

@@ -13,12 +13,12 @@ use Rattle.cv_leaves.proofs.TestLaws.{and_both, found_passes}
 
 -- ---- where they end
 
--- four bytes more, or none
+-- an end that is four bytes further on, or not
 either_end : (b : Bool) (end : ℕ) → cond b (end + 4) end ≡ end + cond b 4 0
 either_end true end = refl
 either_end false end = omega arith
 
--- the bytes of a virtual stand behind the indices
+-- the bytes of a virtual come after the indices
 pub head_is : (m : Member) (body : List ℕ) (at : ℕ) → head_end m body at ≡ indices_end m at + cond (has_virtual m body at) 4 0
 unfolding head_end
 head_is m body at = either_end (has_virtual m body at) (indices_end m at)
@@ -29,23 +29,23 @@ unfolding numerics_end numeric_end
 numerics_forward zero body at = omega arith
 numerics_forward (suc n) body at = omega (arith, numerics_forward n body (at + numeric_len (number_at 2 body at)))
 
--- nor does a name
+-- a name doesn't end before it begins
 named_forward : (named : Bool) (body : List ℕ) (at : ℕ) → at ≤ cond named (name_end body at) at
 unfolding name_end
 named_forward true body at = omega arith
 named_forward false body at = omega arith
 
--- the fields end behind the beginning
+-- the fields end after the beginning
 fields_forward : (m : Member) (body : List ℕ) (at : ℕ) → at < fields_end m body at
 fields_forward m body at =
     omega (arith, head_is m body at, numerics_forward m.numerics body (head_end m body at), named_forward m.named body (numbers_end m body at))
 
--- so does a member, if its kind is known
+-- a member ends after its beginning, whether its kind is known or not
 some_forward : (o : Option Member) (body : List ℕ) (at : ℕ) → at < option_map_or (λ m. padded_end m body at) o (at + 4)
 some_forward None body at = omega arith
 some_forward (Some m) body at = omega (arith, fields_forward m body at)
 
--- and in any case
+-- the member at an offset ends after it
 pub member_forward : (body : List ℕ) (at : ℕ) → at < member_end body at
 unfolding member_end
 member_forward body at = some_forward (member_of (number_at 2 body at)) body at
@@ -56,7 +56,7 @@ member_forward body at = some_forward (member_of (number_at 2 body at)) body at
 abbrev is_plain : ℕ → Member → Bool
 is_plain kind m = nat_le m.indices 2 && nat_lt (kind % 256) 0xF0
 
--- each row passes it
+-- each row passes the test
 row_plain : (kind : ℕ) (m : Member) → member_of kind ≡ Some m → (m.indices ≤ 2) × (kind % 256 < 0xF0)
 unfolding member_of
 row_plain kind m is =
@@ -73,7 +73,7 @@ low_kind kind m is = (row_plain kind m is).1
 
 -- ---- places
 
--- so many indices end before their end
+-- the places of n indices are apart and end in their bytes
 indices_apart : (n len : ℕ) → 4 + 4 * n ≤ len → Apart 0 (take n (4 ∷ 8 ∷ [])) len
 indices_apart zero len long = omega (arith, long)
 indices_apart (suc zero) len long = (omega arith, omega (arith, long))

@@ -10,7 +10,7 @@ use Rattle.cv_leaves.proofs.TestLaws.{is_false, chosen, not_chosen}
 use Rattle.memchr.specs.Find.{IsFirstByte, is_byte}
 use Rattle.cv_leaves.specs.Terminated.{name_at, name_len, has_name, name_end, name_checks}
 
--- the first NUL tells how long the name is
+-- the first NUL says how long the name is
 name_len-first : (bytes : List ℕ) (k : ℕ) → IsFirstByte (is_byte 0) bytes (Some k) → name_len bytes ≡ k
 name_len-first bytes k first =
     position_or_len_is (λ b. b == 0) bytes k 0 (omega (arith, first.0.high)) (λ j below. is_false _ (first.0.before j (omega arith) below)) (λ below. first.1)
@@ -35,14 +35,14 @@ no_name_here body bytes at is none =
     let len = name_len-none (drop at body) (rw is at none) in
     rw (len, le-ltb (length (drop at body)) (length (drop at body)) (omega arith)) refl
 
--- the offset lies behind the body
+-- the offset lies after the body
 pub no_name_past : (body : List ℕ) (at : ℕ) → length body < at → name_at body at ≡ None
 unfolding name_at has_name
 no_name_past body at past = let none : drop at body ≡ [] = drop_all at body (omega arith) in rw none refl
 
--- ---- a name that is to be there
+-- ---- a name that has to be there
 
--- a name that was found has its NUL behind it, within the body
+-- a name that was found has its NUL after it, within the body
 pub name_ends : (body name : List ℕ) (at : ℕ) → name_at body at ≡ Some name → at ≤ length body → (name_end body at ≡ at + length name + 1) × (at + length name + 1 ≤ length body)
 unfolding name_at has_name name_end
 name_ends body name at is inside =

@@ -1,4 +1,4 @@
--- Numeric leaves, alone and one after the other.
+-- One numeric leaf, and several one after the other.
 use Rattle.std.proofs.Common.{◌≡◌, ◌<◌, ◌≤◌, ◌+◌, ◌-◌, true, false, cond, ℕ, zero, suc, List, Some, None, length, refl, arith}
 use Rattle.std.specs.Prelude.{◌&&◌, nat_le, nat_lt}
 use Rattle.std.proofs.lemmas.Bool.{leb-true, ltb-true}
@@ -11,7 +11,7 @@ use Rattle.cv_leaves.specs.declared.fault.LeafFault.{LeafFault}
 
 -- ---- one
 
--- a numeric leaf that stands there is known and fits
+-- a numeric leaf at an offset is known and fits
 pub numeric_inside : (body : List ℕ) (at : ℕ) → has_numeric body at ≡ true → (at + 2 ≤ length body) × (0 < numeric_len (number_at 2 body at)) × (numeric_end body at ≤ length body)
 unfolding has_numeric
 numeric_inside body at has =
@@ -20,28 +20,28 @@ numeric_inside body at has =
     let others = and_both (nat_lt 0 len) (nat_le (numeric_end body at) (length body)) first.1 in
     (leb-true (at + 2) (length body) first.0, ltb-true 0 len others.0, leb-true (numeric_end body at) (length body) others.1)
 
--- one that was found stands there
+-- a numeric leaf that was found is there
 pub numeric_found : (body : List ℕ) (at end : ℕ) → cond (has_numeric body at) (Some (numeric_end body at)) None ≡ Some end → (has_numeric body at ≡ true) × (numeric_end body at ≡ end)
 numeric_found body at end is = chosen (has_numeric body at) (numeric_end body at) end is
 
--- one that wasn't found doesn't
+-- a numeric leaf that wasn't found is not there
 pub numeric_missing : (body : List ℕ) (at : ℕ) → cond (has_numeric body at) (Some (numeric_end body at)) None ≡ None → has_numeric body at ≡ false
 numeric_missing body at is = not_chosen (has_numeric body at) (numeric_end body at) is
 
--- it ends behind so many bytes as its first two say
+-- its first two bytes say where it ends
 pub numeric_end_is : (body : List ℕ) (at : ℕ) → numeric_end body at ≡ at + numeric_len (number_at 2 body at)
 unfolding numeric_end
 numeric_end_is body at = refl
 
 -- ---- one after the other
 
--- they end where those behind the first one do
+-- they end where those after the first one end
 pub numerics_more : (n : ℕ) (body : List ℕ) (at : ℕ) → 0 < n → numerics_end n body at ≡ numerics_end (n - 1) body (numeric_end body at)
 unfolding numerics_end
 numerics_more zero body at some = absurd (omega arith)
 numerics_more (suc n) body at some = let e : suc n - 1 ≡ n = omega arith in rw e refl
 
--- where the first one holds, the others tell the first fault
+-- if the first one holds, the first fault is that of the others
 pub numerics_held : (n : ℕ) (body : List ℕ) (at : ℕ) → 0 < n → first_failing (numeric_checks body at) ≡ None
     → first_failing (numerics_checks n body at) ≡ first_failing (numerics_checks (n - 1) body (numeric_end body at))
 unfolding numerics_checks
@@ -56,12 +56,12 @@ unfolding numerics_checks
 numerics_fail zero body at e some fails = absurd (omega arith)
 numerics_fail (suc n) body at e some fails = first_failing-append_some (numeric_checks body at) (numerics_checks n body (numeric_end body at)) e fails
 
--- none end where they begin
+-- no numeric leaves end where they begin
 pub numerics_end_none : (n : ℕ) (body : List ℕ) (at : ℕ) → n ≤ 0 → numerics_end n body at ≡ at
 unfolding numerics_end
 numerics_end_none n body at none = let e : n ≡ 0 = omega arith in rw e refl
 
--- and have no fault
+-- no numeric leaves have no fault
 pub numerics_checks_none : (n : ℕ) (body : List ℕ) (at : ℕ) → n ≤ 0 → first_failing (numerics_checks n body at) ≡ None
 unfolding numerics_checks
 numerics_checks_none n body at none = let e : n ≡ 0 = omega arith in rw e refl

@@ -15,7 +15,7 @@ use Rattle.cv_leaves.specs.declared.fault.LeafFault.{LeafFault}
 
 -- ---- parts of any kind
 
--- each part ends behind its beginning
+-- each part ends after its beginning
 abbrev pub Forward : (ℕ → ℕ) → Type 0
 Forward end = (at : ℕ) → at < end at
 
@@ -41,7 +41,7 @@ collect_enough {X = X} end here stop (suc m) (suc n) at forward le ge =
       | inr past ↦ collect_past end here stop (suc m) at past ∙ sym (collect_past end here stop (suc n) at past)
     ]
 
--- no part begins at the stop or behind it
+-- no part begins at the stop or after it
 pub each_part_past : {X : Type 0} (end : ℕ → ℕ) (here : ℕ → List X) (stop at : ℕ) → stop ≤ at → each_part end here stop at ≡ []
 unfolding each_part
 each_part_past end here stop at past = collect_past end here stop (stop - at) at past
@@ -61,7 +61,7 @@ either_forward : (b : Bool) (at long short : ℕ) → at < at + long → at < at
 either_forward true at long short l s = l
 either_forward false at long short l s = s
 
--- each part of a leaf ends behind its beginning
+-- each part of a leaf ends after its beginning
 pub part_forward : (rest : Rest) (body : List ℕ) → Forward (part_end rest body)
 unfolding part_end
 part_forward Nothing body at = omega arith
@@ -88,23 +88,23 @@ fault_here rest body stop at e below fails =
     rw (each_part_here (part_end rest body) (part_checks rest body) stop at (part_forward rest body) below)
     (first_failing-append_some (part_checks rest body at) (checks_from rest body stop (part_end rest body at)) e fails)
 
--- where the first part has no fault, the others tell the first one
+-- if the first part has no fault, the first fault is that of the others
 pub held_here : (rest : Rest) (body : List ℕ) (stop at : ℕ) → at < stop → first_failing (part_checks rest body at) ≡ None
     → first_failing (checks_from rest body stop at) ≡ first_failing (checks_from rest body stop (part_end rest body at))
 held_here rest body stop at below held =
     rw (each_part_here (part_end rest body) (part_checks rest body) stop at (part_forward rest body) below)
     (first_failing-append_none (part_checks rest body at) (checks_from rest body stop (part_end rest body at)) held)
 
--- where no part has a fault, the first one has none
+-- if no part has a fault, the first part has none
 pub holds_here : (rest : Rest) (body : List ℕ) (stop at : ℕ) → at < stop → first_failing (checks_from rest body stop at) ≡ None → first_failing (part_checks rest body at) ≡ None
 holds_here rest body stop at below held =
     (first_failing-parts (part_checks rest body at) (checks_from rest body stop (part_end rest body at))
     (rw (each_part_here (part_end rest body) (part_checks rest body) stop at (part_forward rest body) below) at held)).0
 
--- checks that hold, and those behind them
+-- checks that hold, and those after them
 pub append_held : (front back : List (Check LeafFault)) → first_failing front ≡ None → first_failing (front ++ back) ≡ first_failing back
 append_held front back held = first_failing-append_none front back held
 
--- a check that fails, and those behind it
+-- a check that fails, and those after it
 pub append_fails : (front back : List (Check LeafFault)) (e : LeafFault) → first_failing front ≡ Some e → first_failing (front ++ back) ≡ Some e
 append_fails front back e fails = first_failing-append_some front back e fails

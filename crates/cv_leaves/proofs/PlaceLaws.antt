@@ -23,20 +23,20 @@ apart_longer : (from : ℕ) (ps : List ℕ) (end longer : ℕ) → Apart from ps
 apart_longer from [] end longer apart le = omega (arith, apart)
 apart_longer from (p ∷ ps) end longer apart le = (apart.0, apart_longer (p + 4) ps end longer apart.1 le)
 
--- places, and others behind them
+-- places, and others after them
 apart_append : (from : ℕ) (ps : List ℕ) (middle : ℕ) (qs : List ℕ) (end : ℕ) → Apart from ps middle → Apart middle qs end → Apart from (ps ++ qs) end
 apart_append from [] middle [] end front back = omega (arith, front, back)
 apart_append from [] middle (q ∷ qs) end front back = (omega (arith, front, back.0), back.1)
 apart_append from (p ∷ ps) middle qs end front back = (front.0, apart_append (p + 4) ps middle qs end front.1 back)
 
--- all of them further on
+-- the same places, all moved by `at`
 apart_shift : (at from : ℕ) (ps : List ℕ) (end : ℕ) → Apart from ps end → Apart (at + from) (map (λ k. at + k) ps) (at + end)
 apart_shift at from [] end apart = omega (arith, apart)
 apart_shift at from (p ∷ ps) end apart =
     let e : at + (p + 4) ≡ at + p + 4 = omega arith in
     (omega (arith, apart.0), rw e at (apart_shift at (p + 4) ps end apart.1))
 
--- an end that each of them keeps
+-- another end, if each of them ends before it
 apart_within : (from : ℕ) (ps : List ℕ) (end other : ℕ) → Apart from ps end → AllByRecursion (λ p. p + 4 ≤ other) ps → from ≤ other → Apart from ps other
 apart_within from [] end other apart each le = le
 apart_within from (p ∷ ps) end other apart each le = (apart.0, apart_within (p + 4) ps end other apart.1 each.1 each.0)
@@ -46,7 +46,7 @@ pub ends_behind : (from : ℕ) (ps : List ℕ) (end : ℕ) → Apart from ps end
 ends_behind from [] end apart = apart
 ends_behind from (p ∷ ps) end apart = omega (arith, apart.0, ends_behind (p + 4) ps end apart.1)
 
--- each of them lies within so many bytes
+-- each of them lies within `len` bytes
 all_fit : (from : ℕ) (ps : List ℕ) (end len : ℕ) → end + 4 ≤ len → Apart from ps end → AllByRecursion (λ p. p + 8 ≤ len) ps
 all_fit from [] end len le apart = tt
 all_fit from (p ∷ ps) end len le apart = (omega (arith, le, ends_behind (p + 4) ps end apart.1), all_fit (p + 4) ps end len le apart.1)
@@ -56,13 +56,13 @@ abbrev pub Among : ℕ → List ℕ → Type 0
 Among p [] = ⊥
 Among p (q ∷ qs) = (p ≡ q) ⊎ Among p qs
 
--- what stands at a position is among the places
+-- the place at a position is among the places
 among_at : (p : ℕ) (qs : List ℕ) (i : ℕ) → i < length qs → get_or qs i p ≡ p → Among p qs
 among_at p [] i below is = absurd (omega (arith, below))
 among_at p (q ∷ qs) zero below is = inl (sym is)
 among_at p (q ∷ qs) (suc i) below is = inr (among_at p qs i (omega (arith, below)) is)
 
--- the same in two words
+-- both definitions of being one of the places agree
 pub among : (p : ℕ) (qs : List ℕ) → Contains qs p → Among p qs
 among p qs contains = among_at p qs contains.0 contains.1 contains.2
 
@@ -127,7 +127,7 @@ parts_apart rest stop at (t ∷ ts) places parts =
     let end : at + length t + length (concat ts) ≡ at + length (t ++ concat ts) = omega (arith, length-append t (concat ts)) in
     rw parts.1.4 (apart_append at (map (λ k. at + k) here) (at + length t) others (at + length (t ++ concat ts)) first (rw end at later))
 
--- the places behind the fixed ones lie in the body
+-- the places after the fixed ones lie in the body
 pub rest_apart : (rest : Rest) (body places : List ℕ) → HasParts rest body places → Apart (start_of rest) places (length body)
 rest_apart rest body places has =
     apart_longer (start_of rest) places (start_of rest + length (concat has.texts)) (length body)
@@ -141,7 +141,7 @@ nothing_follows stop (t ∷ ts) places none parts = absurd (omega (arith, parts.
 
 -- ---- the record
 
--- the fixed places and those behind them
+-- the fixed places and those after them
 record_apart : (rest : Rest) (body fixed others : List ℕ) → Apart 0 fixed (fixed_end rest) → AllByRecursion (λ p. p + 4 ≤ length body) fixed → HasParts rest body others → Apart 0 (fixed ++ others) (length body)
 record_apart Nothing body fixed others apart each has =
     let none = nothing_follows 0 has.texts others (omega arith) has.parts_are in

@@ -9,7 +9,7 @@ use Rattle.byte_fields.proofs.NumberLaws.{length-four_bytes, number_at-drop, fou
 use Rattle.cv_leaves.specs.Checks.{body_of}
 use Rattle.cv_leaves.specs.Blank.{put_four}
 
--- a number of the body stands four bytes further in the record
+-- a number of the body is four bytes further on in the record
 pub number_in_body : (r : List ℕ) (place : ℕ) → number_at 4 (body_of r) place ≡ number_at 4 r (4 + place)
 unfolding number_at body_of
 number_in_body r place = rw (drop-drop place 4 r) refl
@@ -20,7 +20,7 @@ unfolding put_four
 put_len x at n inside =
     omega (arith, length-append (take at x) (four_bytes n ++ drop (at + 4) x), length-append (four_bytes n) (drop (at + 4) x), length-take at x, length-drop (at + 4) x, length-four_bytes n)
 
--- the bytes in front of it stay
+-- the bytes before it stay
 byte_before : (x : List ℕ) (at n i : ℕ) → i < at → at ≤ length x → get_or (put_four x at n) i 0 ≡ get_or x i 0
 unfolding put_four
 byte_before x at n i below inside =
@@ -53,7 +53,7 @@ kind_before x at n above inside =
     let b : get_or (drop 2 y) 1 0 ≡ get_or (drop 2 x) 1 0 = get_or-drop 2 y 1 0 ∙ byte_before x at n 3 (omega arith) inside ∙ sym (get_or-drop 2 x 1 0) in
     rw (a, b) refl
 
--- a number of four bytes in front of it stays
+-- a number of four bytes before it stays
 pub read_before : (x : List ℕ) (p at n : ℕ) → p + 4 ≤ at → at ≤ length x → number_at 4 (put_four x at n) p ≡ number_at 4 x p
 unfolding number_at
 read_before x p at n apart inside =
@@ -61,7 +61,7 @@ read_before x p at n apart inside =
     λ i below. get_or-drop p (put_four x at n) i 0 ∙ byte_before x at n (p + i) (omega (arith, below, apart)) inside ∙ sym (get_or-drop p x i 0) in
     rw (byte 0 (omega arith), byte 1 (omega arith), byte 2 (omega arith), byte 3 (omega arith)) refl
 
--- written in the first of two texts
+-- a number that is written in the first of two texts
 pub put_front : (a b : List ℕ) (p n : ℕ) → p + 4 ≤ length a → put_four (a ++ b) p n ≡ put_four a p n ++ b
 unfolding put_four
 put_front a b p n inside =
@@ -69,7 +69,7 @@ put_front a b p n inside =
     let d : drop (p + 4) (a ++ b) ≡ drop (p + 4) a ++ b = drop-append-le (p + 4) a b inside in
     rw (t, d) (ap (λ (xs : List ℕ). take p a ++ xs) (sym (append_assoc (four_bytes n) (drop (p + 4) a) b)) ∙ sym (append_assoc (take p a) (four_bytes n ++ drop (p + 4) a) b))
 
--- written in the second of two texts
+-- a number that is written in the second of two texts
 pub put_back : (a b : List ℕ) (p n : ℕ) → put_four (a ++ b) (length a + p) n ≡ a ++ put_four b p n
 unfolding put_four
 put_back a b p n =
@@ -78,7 +78,7 @@ put_back a b p n =
     let d : drop (length a + (p + 4)) (a ++ b) ≡ drop (p + 4) b = drop-append-add a b (p + 4) in
     rw (t, e, d) (append_assoc a (take p b) (four_bytes n ++ drop (p + 4) b))
 
--- a number of four bytes that stands in front
+-- a number of four bytes at the beginning
 number_front : (n : ℕ) (rest : List ℕ) → n < 2 ^ 32 → number_at 4 (four_bytes n ++ rest) 0 ≡ n
 unfolding number_at four_bytes
 number_front n rest small = omega arith
@@ -104,11 +104,11 @@ unfolding put_four
 put_bytes x at n bytes =
     bytes_append (take at x) (four_bytes n ++ drop (at + 4) x) (bytes_take at x bytes) (bytes_append (four_bytes n) (drop (at + 4) x) (four_are_bytes n) (bytes_drop (at + 4) x bytes))
 
--- also in the body of a record
+-- what is written at a place is read again in the body of a record
 pub body_read : (r : List ℕ) (place n : ℕ) → place + 8 ≤ length r → n < 2 ^ 32 → number_at 4 (body_of (put_four r (4 + place) n)) place ≡ n
 body_read r place n inside small = number_in_body (put_four r (4 + place) n) place ∙ put_read r (4 + place) n (omega (arith, inside)) small
 
--- written twice at one place, the second number stays
+-- if two numbers are written at one place, the second one stays
 pub put_twice : (x : List ℕ) (p m n : ℕ) → p + 4 ≤ length x → put_four (put_four x p m) p n ≡ put_four x p n
 unfolding put_four
 put_twice x p m n inside =
@@ -119,7 +119,7 @@ put_twice x p m n inside =
     sym (drop-drop 4 p (take p x ++ rest)) ∙ ap (λ (y : List ℕ). drop 4 y) (drop_at (take p x) rest p long) ∙ drop_at (four_bytes m) (drop (p + 4) x) 4 (length-four_bytes m) in
     rw (front, behind) refl
 
--- written at two places, in either order
+-- numbers at two places may be written in either order
 pub put_swap : (x : List ℕ) (p q m n : ℕ) → p + 4 ≤ q → q + 4 ≤ length x → put_four (put_four x q m) p n ≡ put_four (put_four x p n) q m
 put_swap x p q m n apart inside =
     let a = take q x in

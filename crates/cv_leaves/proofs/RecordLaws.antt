@@ -31,12 +31,12 @@ fixed_held r l checked is = (first_failing-parts (fixed_checks (body_of r) l.pla
 rest_held : (r : List ℕ) (l : Leaf) → first_failing (record_checks r) ≡ None → Some l ≡ leaf_of (kind_of r) → first_failing (rest_checks l.rest (body_of r)) ≡ None
 rest_held r l checked is = (first_failing-parts (fixed_checks (body_of r) l.places) (rest_checks l.rest (body_of r)) (rw (checks_of_leaf r l is) at checked)).1
 
--- so does what tells how far the parts reach
+-- the field that says how far the parts reach passes its checks
 pub extent_held : (r : List ℕ) (l : Leaf) → first_failing (record_checks r) ≡ None → Some l ≡ leaf_of (kind_of r) → first_failing (extent_checks l.rest (body_of r)) ≡ None
 unfolding rest_checks
 extent_held r l checked is = (first_failing-parts (extent_checks l.rest (body_of r)) (checks_from l.rest (body_of r) (stop_of l.rest (body_of r)) (start_of l.rest)) (rest_held r l checked is)).0
 
--- and so do the parts
+-- the parts pass their checks
 pub parts_held : (r : List ℕ) (l : Leaf) → first_failing (record_checks r) ≡ None → Some l ≡ leaf_of (kind_of r)
     → first_failing (checks_from l.rest (body_of r) (stop_of l.rest (body_of r)) (start_of l.rest)) ≡ None
 unfolding rest_checks

@@ -14,12 +14,12 @@ pub and_both : (a b : Bool) → (a && b) ≡ true → (a ≡ true) × (b ≡ tru
 and_both true b e = (refl, e)
 and_both false b e = absurd cc
 
--- what is chosen where a test holds, is chosen because it does
+-- if something is chosen, the test holds, and it is what the test chooses
 pub chosen : {X : Type 0} (b : Bool) (x y : X) → cond b (Some x) None ≡ Some y → (b ≡ true) × (x ≡ y)
 chosen true x y is = (refl, cc)
 chosen false x y is = absurd cc
 
--- nothing is chosen where it doesn't
+-- if nothing is chosen, the test doesn't hold
 pub not_chosen : {X : Type 0} (b : Bool) (x : X) → cond b (Some x) None ≡ None → b ≡ false
 not_chosen true x is = absurd cc
 not_chosen false x is = refl

@@ -17,7 +17,7 @@ use Rattle.cv_leaves.specs.declared.fault.LeafFault.TheVariants.{Body}
 abbrev pub text_of : List ℕ → ℕ → ℕ → List ℕ
 text_of body at end = take (end - at) (drop at body)
 
--- what stands from `at` on is that text and what stands from `end` on
+-- the bytes from `at` on are that text and the bytes from `end` on
 pub cut : (body : List ℕ) (at end : ℕ) → at ≤ end → drop at body ≡ text_of body at end ++ drop end body
 cut body at end le =
     let e : at + (end - at) ≡ end = omega arith in
@@ -36,7 +36,7 @@ text_split body a b c first second =
     let d : drop (b - a) (drop a body) ≡ drop b body = drop-drop (b - a) a body ∙ ap (λ (n : ℕ). drop n body) s in
     rw e (take-add (b - a) (c - b) (drop a body) ∙ ap (λ (xs : List ℕ). take (b - a) (drop a body) ++ take (c - b) xs) d)
 
--- the number of two bytes behind its first two
+-- the number of two bytes after its first two bytes
 pub second_of_text : (body : List ℕ) (at len : ℕ) → 4 ≤ len → number_at 2 (take len (drop at body)) 2 ≡ number_at 2 body (at + 2)
 second_of_text body at len long =
     let e : len ≡ 2 + (len - 2) = omega arith in
@@ -50,7 +50,7 @@ second_of_text body at len long =
 pub text_inside : (body : List ℕ) (at : ℕ) (t back : List ℕ) → drop at body ≡ t ++ back → 0 < length t → at + length t ≤ length body
 text_inside body at t back is some = omega (arith, length-drop at body, ap length is, length-append t back)
 
--- what is met behind it
+-- what comes after it
 pub text_behind : (body : List ℕ) (at end : ℕ) (t back : List ℕ) → drop at body ≡ t ++ back → at + length t ≡ end → drop end body ≡ back
 text_behind body at end t back is ends =
     ap (λ (n : ℕ). drop n body) (sym ends) ∙ sym (drop-drop (length t) at body) ∙ ap (λ (x : List ℕ). drop (length t) x) is ∙ drop_at t back (length t) refl
@@ -60,7 +60,7 @@ pub number_of_text : (count : ℕ) (body : List ℕ) (at : ℕ) (t back : List �
 number_of_text count body at t back is long =
     sym (number_at-drop count body at) ∙ ap (λ (x : List ℕ). number_at count x 0) is ∙ number_at-append count t back long
 
--- and so is the number of two bytes behind its first two
+-- its number of two bytes after its first two bytes is that of the body
 pub second_met : (body : List ℕ) (at : ℕ) (t back : List ℕ) → drop at body ≡ t ++ back → 4 ≤ length t → number_at 2 body (at + 2) ≡ number_at 2 t 2
 second_met body at t back is long =
     let cut_off : take (length t) (drop at body) ≡ t = ap (λ (xs : List ℕ). take (length t) xs) is ∙ take-append_seam t back in

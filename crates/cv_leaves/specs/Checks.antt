@@ -12,11 +12,11 @@ use Rattle.cv_leaves.specs.declared.leaf.Rest.{Rest}
 use Rattle.cv_leaves.specs.declared.fault.LeafFault.{LeafFault}
 use Rattle.cv_leaves.specs.declared.fault.LeafFault.TheVariants as fault
 
--- the kind of a record: the number behind its length
+-- the kind of a record: the number after its length
 unfoldable pub kind_of : List ℕ → ℕ
 kind_of r = number_at 2 r 2
 
--- the bytes of a record behind its length and its kind
+-- the body of a record: the bytes after its length and its kind
 unfoldable pub body_of : List ℕ → List ℕ
 body_of r = drop 4 r
 
@@ -52,6 +52,6 @@ record_checks r = option_map_or (λ l. leaf_checks l (body_of r)) (leaf_of (kind
 abbrev pub leaf_places : Leaf → List ℕ → List ℕ
 leaf_places l body = l.places ++ rest_places l.rest body
 
--- the places of a record, as they are met
+-- the places of a record, in the order in which they are met
 unfoldable pub places_of : List ℕ → List ℕ
 places_of r = option_map_or (λ l. leaf_places l (body_of r)) (leaf_of (kind_of r)) []

@@ -4,6 +4,6 @@ use Rattle.byte_fields.specs.Check.{Check}
 use Rattle.cv_leaves.specs.declared.fault.LeafFault.{LeafFault}
 use Rattle.cv_leaves.specs.declared.fault.LeafFault.TheVariants.{Body}
 
--- the field of so many bytes at `at` fits the body
+-- the field of `len` bytes at `at` fits the body
 abbrev pub fits : List ℕ → ℕ → ℕ → List (Check LeafFault)
 fits body at len = record { holds = nat_le (at + len) (length body); fault = Body at } ∷ []

@@ -12,12 +12,12 @@ use Rattle.cv_leaves.specs.Checks.{kind_of, body_of}
 use Rattle.cv_leaves.specs.declared.leaf.Rest.{Rest}
 use Rattle.cv_leaves.specs.declared.leaf.Rest.TheVariants.{Nothing, Containing, Indices, Methods, Members}
 
--- the text is the attributes of a pointer, and where it points to a member the containing class
+-- the text is the attributes of a pointer, and the containing class if it points to a member
 abbrev pub IsContaining : Bool → List ℕ → List ℕ → Type 0
 IsContaining true text places = (length text ≡ 8) × (places ≡ 4 ∷ [])
 IsContaining false text places = (length text ≡ 4) × (places ≡ [])
 
--- the text is an entry of a method list: attributes, two bytes, an index, and where it introduces a virtual four bytes more
+-- the text is an entry of a method list: attributes, two bytes, an index, and four more bytes if it introduces a virtual
 abbrev pub IsEntry : Bool → List ℕ → List ℕ → Type 0
 IsEntry true text places = (length text ≡ 12) × (places ≡ 4 ∷ [])
 IsEntry false text places = (length text ≡ 8) × (places ≡ 4 ∷ [])
@@ -26,21 +26,21 @@ IsEntry false text places = (length text ≡ 8) × (places ≡ 4 ∷ [])
 abbrev pub IsNumeric : List ℕ → Type 0
 IsNumeric text = (2 ≤ length text) × (length text ≡ numeric_len (number_at 2 text 0))
 
--- the text is so many numeric leaves, one after the other
+-- the text is this number of numeric leaves, one after the other
 abbrev pub AreNumerics : ℕ → List ℕ → Type 0
 AreNumerics zero text = text ≡ []
 AreNumerics (suc n) text = (first : List ℕ) × (others : List ℕ) × (text ≡ first ++ others) × IsNumeric first × AreNumerics n others
 
--- where there is to be a name, the text is a name and its NUL, the only NUL in it; else it is empty
+-- if there has to be a name, the text is a name and its NUL, the only NUL in it; otherwise the text is empty
 abbrev pub IsNamed : Bool → List ℕ → Type 0
 IsNamed true text = name_len text + 1 ≡ length text
 IsNamed false text = text ≡ []
 
--- the text is padding, of 1 to 15 bytes, of which the first is 0xF0 and their number; or there is none
+-- the text is padding: 1 to 15 bytes, the first of which is 0xF0 plus their number; or it is empty
 abbrev pub IsPadding : List ℕ → Type 0
 IsPadding text = (text ≡ []) ⊎ ((0 < length text) × (length text ≤ 15) × (slice_index text 0 ≡ 0xF0 + length text))
 
--- the text is a member of a field list with its padding: kind and two bytes, indices, four bytes where it introduces a virtual, numeric leaves, a name, padding; and these are the places in it
+-- the text is a member of a field list with its padding: kind and two bytes, indices, four bytes if it introduces a virtual, numeric leaves, a name, padding; and these are the places in it
 pub record IsMember (text places : List ℕ) : Type 0 where
   pub member : Member
   pub kind : member_of (number_at 2 text 0) ≡ Some member
@@ -67,7 +67,7 @@ IsPart Indices text places = (length text ≡ 4) × (places ≡ 0 ∷ [])
 IsPart Methods text places = IsEntry (introduces (number_at 2 text 0)) text places
 IsPart Members text places = IsMember text places
 
--- the texts are parts, of which the first begins at `at` and the last reaches `stop`, and these are the places in them
+-- the texts are parts; the first begins at `at`, the last reaches `stop`, and these are the places in them
 abbrev pub AreParts : Rest → ℕ → ℕ → List (List ℕ) → List ℕ → Type 0
 AreParts rest stop at [] places = (stop ≤ at) × (places ≡ [])
 AreParts rest stop at (text ∷ texts) places =
@@ -99,7 +99,7 @@ IsChecked r = (places : List ℕ) × HasPlaces r places
 abbrev pub IsPlace : List ℕ → ℕ → Type 0
 IsPlace r place = (places : List ℕ) × HasPlaces r places × Contains places place
 
--- these places rise from an offset on, each ends before the next one begins, and the last ends within so many bytes
+-- these places rise from the offset `from` on, each ends before the next one begins, and the last ends at `end` or before it
 abbrev pub Apart : ℕ → List ℕ → ℕ → Type 0
 Apart from [] end = from ≤ end
 Apart from (p ∷ ps) end = (from ≤ p) × Apart (p + 4) ps end

@@ -30,7 +30,7 @@ FillKeeps = (r places ns : List ℕ) → HasPlaces r places → HasPlaces (fill 
 abbrev pub BlankKeeps : Type 0
 BlankKeeps = (r places : List ℕ) → HasPlaces r places → HasPlaces (blank r places) places
 
--- a record with zeros at its places stays as it is where they are written again
+-- a record with zeros at its places stays as it is when they are written again
 abbrev pub BlankStays : Type 0
 BlankStays = (r places : List ℕ) → HasPlaces r places → blank (blank r places) places ≡ blank r places
 

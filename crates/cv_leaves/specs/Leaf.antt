@@ -7,7 +7,7 @@ use Rattle.cv_leaves.specs.declared.leaf.Naming.{Naming}
 use Rattle.cv_leaves.specs.declared.leaf.Naming.TheVariants.{Unnamed, At, AfterNumeric}
 use Rattle.cv_leaves.specs.declared.leaf.Leaf as declared
 
--- a leaf: what it is called, the places at fixed offsets of the body, what follows them, and where the name of the type begins
+-- a leaf: its name, the places at fixed offsets of the body, what follows them, and where the name of the type begins
 pub record Leaf : Type 0 where
   pub text : List ℕ
   pub places : List ℕ

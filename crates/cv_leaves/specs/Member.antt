@@ -13,7 +13,7 @@ use Rattle.cv_leaves.specs.declared.member.Member as declared
 use Rattle.cv_leaves.specs.declared.fault.LeafFault.{LeafFault}
 use Rattle.cv_leaves.specs.declared.fault.LeafFault.TheVariants as fault
 
--- a member: how many type indices stand from 4 on, whether it may introduce a virtual, how many numeric leaves follow, and whether a name does
+-- a member: how many type indices it has from the offset 4 on, whether it may introduce a virtual, how many numeric leaves follow, and whether a name follows
 pub record Member : Type 0 where
   pub indices : ℕ
   pub introducing : Bool
@@ -49,7 +49,7 @@ member_of kind = find members kind
 abbrev pub seen : declared.Member → Member
 seen m = record { indices = m.indices; introducing = m.introducing; numerics = m.numerics; named = m.named }
 
--- the places of a member, from where it begins
+-- the places of a member, as offsets from its beginning
 abbrev pub index_places : Member → List ℕ
 index_places m = take m.indices (4 ∷ 8 ∷ [])
 
@@ -65,7 +65,7 @@ indices_end m at = at + 4 + 4 * m.indices
 unfoldable pub head_end : Member → List ℕ → ℕ → ℕ
 head_end m body at = if has_virtual m body at then indices_end m at + 4 else indices_end m at
 
--- the checks of its two bytes behind the kind, its indices and its bytes of a virtual
+-- the checks of the two bytes after its kind, of its indices and of its bytes of a virtual
 unfoldable pub head_checks : Member → List ℕ → ℕ → List (Check LeafFault)
 head_checks m body at =
     fits body (at + 2) 2 ++ (
@@ -84,14 +84,14 @@ fields_end m body at = if m.named then name_end body (numbers_end m body at) els
 abbrev pub padded_end : Member → List ℕ → ℕ → ℕ
 padded_end m body at = fields_end m body at + padding_len body (fields_end m body at)
 
--- its checks behind its kind, in order
+-- the checks of what follows its kind, in order
 unfoldable pub fields_checks : Member → List ℕ → ℕ → List (Check LeafFault)
 fields_checks m body at =
     head_checks m body at ++ (
     numerics_checks m.numerics body (head_end m body at) ++ (
     (if m.named then name_checks body (numbers_end m body at) else []) ++ padding_checks body (fields_end m body at)))
 
--- the offset at which the member at `at` ends, its padding counted
+-- the offset at which the member at `at` ends, with its padding
 unfoldable pub member_end : List ℕ → ℕ → ℕ
 member_end body at = option_map_or (λ m. padded_end m body at) (member_of (number_at 2 body at)) (at + 4)
 

@@ -8,7 +8,7 @@ use Rattle.cv_leaves.specs.Checks.{kind_of, body_of}
 use Rattle.cv_leaves.specs.declared.leaf.Naming.{Naming}
 use Rattle.cv_leaves.specs.declared.leaf.Naming.TheVariants.{Unnamed, At, AfterNumeric}
 
--- the name in a body, by where its leaf has it
+-- the name in a body, at the offset where its leaf has it
 unfoldable pub name_in : Naming → List ℕ → Option (List ℕ)
 name_in Unnamed body = None
 name_in (At k) body = name_at body k

@@ -18,7 +18,7 @@ start_of Indices = 4
 start_of Methods = 0
 start_of Members = 0
 
--- the offset that the parts reach
+-- the offset at which the parts stop
 abbrev pub stop_of : Rest → List ℕ → ℕ
 stop_of Nothing body = 0
 stop_of Containing body = 8
@@ -26,7 +26,7 @@ stop_of Indices body = 4 + 4 * number_at 4 body 0
 stop_of Methods body = length body
 stop_of Members body = length body
 
--- the checks of what tells how far the parts reach
+-- the checks of the field that says how far the parts reach
 unfoldable pub extent_checks : Rest → List ℕ → List (Check LeafFault)
 extent_checks Indices body = fits body 0 4
 extent_checks _ body = []

@@ -11,9 +11,7 @@ use crate::leaf::{Leaf, Rest, leaf_of};
 use crate::part::{extent, fits, part_at};
 use byte_fields::u16_at;
 
-/// The kind of a record, which tells its leaf.
-///
-/// It takes no memory.
+/// The kind of a record, which is its leaf. This does not allocate.
 #[tactic(auto, unfolding(crate::specs::Checks::kind_of))]
 pub fn kind_of(record: &[u8]) -> u16
     requires { 4 ≤ length «record».now }
@@ -22,7 +20,7 @@ pub fn kind_of(record: &[u8]) -> u16
     u16_at(record, 2)
 }
 
-/// The bytes of a record behind its length and its kind.
+/// The body of a record: the bytes after its length and its kind.
 #[tactic(auto, unfolding(crate::specs::Checks::body_of))]
 pub fn body_of(record: &[u8]) -> &[u8]
     requires { 4 ≤ length «record».now }
@@ -32,7 +30,7 @@ pub fn body_of(record: &[u8]) -> &[u8]
     &record[4..]
 }
 
-/// Checks the type indices at fixed places.
+/// Checks that the type indices at fixed places fit.
 #[tactic(auto, unfolding(crate::specs::Checks::fixed_checks))]
 fn check_fixed(body: &[u8], places: &[u8]) -> Result<(), LeafFault>
     ensures { Makes result (fixed_checks body.now places.now) }
@@ -43,7 +41,7 @@ fn check_fixed(body: &[u8], places: &[u8]) -> Result<(), LeafFault>
     Ok(())
 }
 
-/// Checks the parts from an offset on.
+/// Checks the parts from the offset `start` on, up to `stop`.
 #[tactic(auto, using(crate::proofs::PartLaws::no_checks, crate::proofs::PartLaws::fault_here, crate::proofs::PartLaws::held_here, crate::proofs::PartLaws::part_forward))]
 fn check_parts(rest: Rest, body: &[u8], start: usize, stop: usize) -> Result<(), LeafFault>
     requires { (start < 2 ^ 17) × (length body.now < 2 ^ 17) }
@@ -67,7 +65,7 @@ fn check_leaf(leaf: Leaf, body: &[u8]) -> Result<(), LeafFault>
     check_parts(leaf.rest, body, start, stop)
 }
 
-/// Makes each check of a record, in order.
+/// Makes all checks of a record, in order.
 #[tactic(auto, using(crate::proofs::RecordLaws::checks_of_leaf, crate::proofs::RecordLaws::checks_of_no_leaf))]
 fn check_record(record: &[u8]) -> Result<(), LeafFault>
     requires { (4 ≤ length «record».now) × (length «record».now ≤ 2 ^ 16) }
@@ -80,16 +78,16 @@ fn check_record(record: &[u8]) -> Result<(), LeafFault>
     }
 }
 
-/// Checks that a record has a known leaf, and that each field that is looked at fits its body.
+/// Checks that the leaf of a record is known, and that each field that is read fits the body.
 ///
-/// The kind is checked first, and then the fields in the order of their offsets: the type
-/// indices, and what says where they stand (the attributes of a pointer and of a method, the
-/// count of an argument list, all fields of the members of a field list). The name of the type is
-/// not looked at. It takes no memory. ("CodeView Type Records".)
+/// The kind is checked first, and then the fields in the order of their offsets. These are the
+/// type indices, and the fields that say where type indices are: the attributes of a pointer and
+/// of a method, the count of an argument list, and all fields of the members of a field list. The
+/// name of the type is not checked. This does not allocate. ("CodeView Type Records".)
 pub fn check(record: &[u8]) -> Result<(), LeafFault>
     requires { (4 ≤ length «record».now) × (length «record».now ≤ 2 ^ 16) }
     ensures value { IfOk result (λ _. (places : List ℕ) × HasPlaces «record».now places) }
-    // Nothing that has places is refused.
+    // A record that has places is not refused.
     ensures found { (places : List ℕ) → HasPlaces «record».now places → IsOk result }
     ensures first { Makes result (record_checks «record».now) }
 {

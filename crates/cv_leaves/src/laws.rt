@@ -14,51 +14,50 @@ pub fn places_are_met()
     ensures { PlacesMet }
 {}
 
-/// The places of a record rise, are at least four bytes apart, and the four bytes at each lie
-/// within the body.
+/// The places of a record rise, and they are at least four bytes apart. The four bytes at each of
+/// them lie within the body.
 pub fn places_are_apart()
     ensures { PlacesApart }
 {}
 
-/// Whatever numbers are written at the places of a record, it keeps the places.
+/// A record keeps its places, whatever numbers are written there.
 pub fn filling_keeps_the_places()
     ensures { FillKeeps }
 {}
 
-/// With zeros at its places, a record keeps the places.
+/// A record keeps its places when zeros are written there.
 pub fn blanking_keeps_the_places()
     ensures { BlankKeeps }
 {}
 
-/// Zeros that are written again at the places of a record change nothing.
+/// Writing zeros at the places of a record a second time changes nothing.
 pub fn blanking_again_changes_nothing()
     ensures { BlankStays }
 {}
 
-/// A type index that is written at a place is read there again.
+/// A type index that is written at a place is read back there.
 pub fn what_is_written_is_read()
     ensures { WrittenIsRead }
 {}
 
-/// Type indices that are written at all places of a record are then the record's references.
+/// When type indices are written at all places of a record, they are its references.
 pub fn filled_numbers_are_read()
     ensures { FilledIsRead }
 {}
 
-/// Whatever numbers are written at the places of a record, its blank stays the same. The *blank* of
-/// a record is the record with zeros at its places.
+/// A record keeps its blank, whatever numbers are written at its places. The *blank* of a record is
+/// the record with zeros at its places.
 pub fn filling_keeps_the_blank()
     ensures { FillKeepsBlank }
 {}
 
-/// The blank of a record is the record again, once the record's references are written at the
-/// places.
+/// When the references of a record are written into its blank, the blank is the record again.
 pub fn own_references_fill_the_blank()
     ensures { OwnFill }
 {}
 
-/// Whatever numbers are written at the places of a record, it stays a whole record: its length
-/// field still says how long it is.
+/// A record stays whole, whatever numbers are written at its places: its length field still says
+/// how long it is.
 pub fn filling_keeps_the_frame()
     ensures { FillKeepsFrame }
 {}
@@ -68,7 +67,7 @@ pub fn blanking_keeps_the_frame()
     ensures { BlankKeepsFrame }
 {}
 
-/// Whatever numbers are written at the places of a record, it is made of bytes.
+/// A record of bytes stays one, whatever numbers are written at its places.
 pub fn filling_keeps_bytes()
     ensures { FillKeepsBytes }
 {}
@@ -78,13 +77,12 @@ pub fn blanking_keeps_bytes()
     ensures { BlankKeepsBytes }
 {}
 
-/// The entries of a method list stand one after the other and fill its body.
+/// The entries of a method list lie one after the other and fill its body.
 pub fn methods_fill_the_body()
     ensures { MethodsFill }
 {}
 
-/// The members of a field list, each with its padding, stand one after the other and fill its
-/// body.
+/// The members of a field list, each with its padding, lie one after the other and fill its body.
 pub fn members_fill_the_body()
     ensures { MembersFill }
 {}

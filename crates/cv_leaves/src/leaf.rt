@@ -3,14 +3,14 @@
 ghost use Rattle.std.specs.Prelude.{◌≡◌, option_map};
 ghost use Rattle.cv_leaves.specs.Leaf.{leaf_of, seen};
 
-/// What follows the fields at fixed places: nothing, or parts one after the other.
+/// What follows the fields at fixed places: nothing, or parts that lie one after the other.
 #[derive(Clone, Copy)]
 pub enum Rest {
     /// Nothing that names a type.
     Nothing,
-    /// The attributes of a pointer, and its containing class where it points to a member.
+    /// The attributes of a pointer, and its containing class if it points to a member.
     Containing,
-    /// A count, and so many type indices.
+    /// A count, and that many type indices.
     Indices,
     /// The entries of a method list, to the end of the body.
     Methods,
@@ -25,7 +25,7 @@ pub enum Naming {
     Unnamed,
     /// At this offset of the body.
     At(u8),
-    /// Behind the numeric leaf at this offset of the body.
+    /// After the numeric leaf at this offset of the body.
     AfterNumeric(u8),
 }
 
@@ -39,7 +39,7 @@ pub struct Leaf {
     pub naming: Naming,
 }
 
-/// The row of a kind.
+/// The row of a kind. `None` where the table does not have it.
 #[tactic(auto, unfolding(crate::specs::Leaf::leaf_of))]
 pub fn leaf_of(kind: u16) -> Option<Leaf>
     ensures { option_map seen result ≡ leaf_of kind }
@@ -92,9 +92,9 @@ pub fn leaf_of(kind: u16) -> Option<Leaf>
     })
 }
 
-/// What the leaf of a kind is called, as `LF_POINTER`.
+/// The name of the leaf of a kind, `LF_POINTER` for example.
 ///
-/// There is nothing where the table of leaves has no such kind. It takes no memory.
+/// `None` where the kind is not in the table of leaves. This does not allocate.
 pub fn leaf_text(kind: u16) -> Option<&'static str>
     ensures { option_map (λ t. t.now) result ≡ option_map (λ l. l.text) (leaf_of kind) }
 {

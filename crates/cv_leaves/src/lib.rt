@@ -1,37 +1,37 @@
-//! The leaves of type records: where a record names other types, and what it is called.
+//! The leaves of type records: where a record names other types, and the name of its type.
 //!
-//! A type record is its length, its kind, and a *body*: the bytes behind these four. What stands
-//! in the body is told by the kind, which is also called the record's *leaf*. Here only two things
-//! of it are read: the type indices, by which a record names other types, and the name of the
-//! type that it describes.
+//! A type record has its length, its kind, and a *body*: the bytes after these four. The kind,
+//! which is also called the record's *leaf*, says what is in the body. This crate reads only two
+//! things there: the type indices, by which a record names other types, and the name of the type
+//! that it describes.
 //!
-//! - [`check`] makes sure that a record has a leaf of the table and that each field that is looked
-//!   at fits its body. [`LeafFault`] is the first check that it fails.
-//! - [`places`] gives the *places* of a record that was checked: the offsets in its body at which
-//!   type indices stand, in rising order. [`ref_at`] reads the index at a place, and [`set_ref`]
-//!   writes another one there.
-//! - [`type_name`] is the name of the type, where it has one that can be read. A name that can't
-//!   be read is no fault.
-//! - [`kind_of`] and [`leaf_text`] give the kind and what its leaf is called.
+//! - [`check`] makes sure that the leaf of a record is in the table and that each field that is
+//!   read fits the body. [`LeafFault`] is the first check that fails.
+//! - [`places`] returns the *places* of a checked record: the offsets in its body, in bytes, at
+//!   which there are type indices. They rise. [`ref_at`] reads the index at a place, and
+//!   [`set_ref`] writes another one there.
+//! - [`type_name`] returns the name of the type, where it has one that can be read. A name that
+//!   can't be read is not a fault.
+//! - [`kind_of`] returns the kind, and [`leaf_text`] returns the name of its leaf.
 //!
-//! A leaf is one row of the table in `leaf`: the places at fixed offsets, and in one word what
-//! follows them, as the indices of an argument list, the entries of a method list or the members
-//! of a field list. That is a run of *parts* one after the other, and one step, `part_at` of
-//! `part`, finds for each kind of part the places in it, where it ends, and whether it fits. The
-//! check and the places are two loops over that step. A kind of member is one row of the table in
+//! A leaf is one row of the table in `leaf`. The row has the places at fixed offsets, and it says
+//! what follows them: the indices of an argument list, for example, the entries of a method list
+//! or the members of a field list. What follows is cut into *parts*, one after the other. One step,
+//! `part_at` of `part`, finds the places in a part, where it ends, and whether it fits. The check
+//! and the places are two loops over that step. A kind of member is one row of the table in
 //! `member`.
 //!
 //! What is proved: a record is accepted exactly where it has places (`HasPlaces` of
-//! `specs/HasPlaces`: the record is made of these parts, and these are the places in them); a
-//! refusal names the first check that fails; [`places`] gives the places; and writing an index at
-//! one of them leaves the places of the record as they are.
+//! `specs/HasPlaces`: the record is made of these parts, and these are the places in them). A
+//! refusal names the first check that fails. [`places`] returns the places. A record keeps its
+//! places when an index is written at one of them.
 //!
-//! What holds of every record is in [`laws`]. There is one list of its places: those that the walk
+//! [`laws`] says what holds of every record. A record has one list of places: those that the walk
 //! meets. They are at least four bytes apart and lie within the body. Numbers that are written at
 //! all of them are then the record's references. The record's places, its framing and its *blank*
 //! (the record with zeros at its places) stay as they are, and bytes stay bytes. The blank, filled
-//! with the record's own references, is the record again. The entries of a method list and the
-//! members of a field list fill its body. No call takes memory. ("CodeView Type Records".)
+//! with the record's own references, is the record again. The entries of a method list fill its
+//! body, and so do the members of a field list. No function allocates. ("CodeView Type Records".)
 #![tactic(auto)]
 
 mod checks;

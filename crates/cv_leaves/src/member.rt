@@ -11,21 +11,21 @@ use crate::padding::after_padding;
 use crate::part::{Part, fits, introduces};
 use byte_fields::u16_at;
 
-/// A row of the table: what stands in a member behind its kind and two bytes more, one after the
-/// other. Padding follows.
+/// A row of the table: what follows the kind of a member and two more bytes, in this order.
+/// Padding comes after it.
 #[derive(Clone, Copy)]
 pub struct Member {
-    /// How many type indices.
+    /// How many type indices there are.
     pub indices: u8,
-    /// Whether the two bytes are attributes, and four bytes follow where these introduce a virtual.
+    /// Whether the two bytes are attributes. If they introduce a virtual, four bytes follow.
     pub introducing: bool,
-    /// How many numeric leaves.
+    /// How many numeric leaves there are.
     pub numerics: u8,
-    /// Whether a name.
+    /// Whether there is a name.
     pub named: bool,
 }
 
-/// The row of a kind.
+/// The row of a kind. `None` where the table does not have it.
 #[tactic(auto, unfolding(crate::specs::Member::member_of))]
 pub fn member_of(kind: u16) -> Option<Member>
     ensures row { option_map seen result ≡ member_of kind }
@@ -66,7 +66,7 @@ pub fn member_of(kind: u16) -> Option<Member>
     })
 }
 
-/// The places of so many indices.
+/// The places of the first `indices` type indices, from the member's beginning.
 fn index_places(indices: u8) -> &'static [u8]
     requires { indices ≤ 2 }
     ensures { result.now ≡ take indices (4 ∷ 8 ∷ []) }
@@ -78,7 +78,7 @@ fn index_places(indices: u8) -> &'static [u8]
     }
 }
 
-/// Where the indices of a member end, and the bytes of a virtual.
+/// Where the indices of a member end, and the four bytes of a virtual if it introduces one.
 #[tactic(auto, unfolding(crate::specs::Member::head_end, crate::specs::Member::head_checks))]
 fn after_head(member: Member, body: &[u8], at: usize) -> Result<usize, LeafFault>
     requires { (at < 2 ^ 17) × (length body.now < 2 ^ 17) × (member.indices ≤ 2) }
@@ -101,7 +101,7 @@ fn after_head(member: Member, body: &[u8], at: usize) -> Result<usize, LeafFault
     Ok(end)
 }
 
-/// Where a member ends, its padding counted.
+/// Where a member ends, with its padding.
 #[tactic(auto, using(crate::proofs::PartLaws::append_held, crate::proofs::PartLaws::append_fails), unfolding(crate::specs::Member::fields_checks))]
 fn after_fields(member: Member, body: &[u8], at: usize) -> Result<usize, LeafFault>
     requires { (at < 2 ^ 17) × (length body.now < 2 ^ 17) × (member.indices ≤ 2) }
@@ -117,7 +117,7 @@ fn after_fields(member: Member, body: &[u8], at: usize) -> Result<usize, LeafFau
     after_padding(body, end)
 }
 
-/// The member that begins at an offset.
+/// The member that begins at the offset `at`.
 #[tactic(auto, unfolding(crate::specs::Member::member_end, crate::specs::Member::member_places, crate::specs::Member::member_checks))]
 pub fn member_at(body: &[u8], at: usize) -> Result<Part, LeafFault>
     requires { (at < 2 ^ 17) × (length body.now < 2 ^ 17) }

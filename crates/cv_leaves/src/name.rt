@@ -11,7 +11,7 @@ use crate::leaf::{Naming, leaf_of};
 use crate::numeric::after_numeric;
 use memchr::memchr;
 
-/// The bytes from an offset on.
+/// The bytes from the offset `at` on.
 fn rest_from(body: &[u8], at: usize) -> &[u8]
     requires { at ≤ length body.now }
     ensures { result.now ≡ drop at body.now }
@@ -19,7 +19,7 @@ fn rest_from(body: &[u8], at: usize) -> &[u8]
     &body[at..]
 }
 
-/// The name that begins at an offset, without its NUL.
+/// The name that begins at the offset `at`, without its NUL. `None` where no NUL follows.
 #[tactic(auto, using(crate::proofs::NameLaws::name_here, crate::proofs::NameLaws::no_name_here, crate::proofs::NameLaws::no_name_past))]
 fn name_at(body: &[u8], at: usize) -> Option<&[u8]>
     ensures { option_map (λ n. n.now) result ≡ name_at body.now at }
@@ -32,7 +32,7 @@ fn name_at(body: &[u8], at: usize) -> Option<&[u8]>
     Some(&rest[..len])
 }
 
-/// Where the name at an offset ends, its NUL counted.
+/// Where the name at the offset `at` ends, with its NUL.
 #[tactic(auto, using(crate::proofs::NameLaws::name_ends, crate::proofs::NameLaws::name_holds, crate::proofs::NameLaws::name_fails))]
 pub fn after_name(body: &[u8], at: usize) -> Result<usize, LeafFault>
     requires { (at ≤ length body.now) × (length body.now < 2 ^ 17) }
@@ -46,7 +46,7 @@ pub fn after_name(body: &[u8], at: usize) -> Result<usize, LeafFault>
     }
 }
 
-/// The name in a body, by where its leaf has it.
+/// The name in a body. `naming` says where it begins.
 #[tactic(auto, unfolding(crate::specs::Name::name_in))]
 fn name_in(naming: Naming, body: &[u8]) -> Option<&[u8]>
     requires { length body.now < 2 ^ 17 }
@@ -61,9 +61,8 @@ fn name_in(naming: Naming, body: &[u8]) -> Option<&[u8]>
 
 /// The name of the type that a record describes, lent from the record.
 ///
-/// There is nothing where its leaf has no name, where the numeric leaf in front of the name is
-/// not a known one or doesn't fit, or where no NUL follows. A name may be empty. It takes no
-/// memory.
+/// `None` where its leaf has no name, where the numeric leaf before the name is unknown or doesn't
+/// fit, or where no NUL follows. A name may be empty. This does not allocate.
 #[tactic(auto, unfolding(crate::specs::Name::name_of))]
 pub fn type_name(record: &[u8]) -> Option<&[u8]>
     requires { (4 ≤ length «record».now) × (length «record».now ≤ 2 ^ 16) }

@@ -1,4 +1,4 @@
-//! Numeric leaves: numbers that say themselves how many bytes they have.
+//! Numeric leaves: numbers whose first two bytes say how many bytes they have.
 
 ghost use Rattle.std.specs.Prelude.{◌≡◌, ◌≤◌, ◌^◌, ◌<◌, length, Some, None, IfOk, if◌then◌else◌};
 ghost use Rattle.byte_fields.specs.Check.{Makes};
@@ -7,7 +7,8 @@ ghost use Rattle.cv_leaves.specs.Numeric.{numeric_len, numeric_end, numeric_chec
 use crate::fault::LeafFault;
 use byte_fields::u16_at;
 
-/// How many bytes a numeric leaf has that begins with this number, or 0 where none does.
+/// How many bytes a numeric leaf has if it begins with the number `first`. 0 where no numeric leaf
+/// begins with it.
 fn numeric_len(first: u16) -> usize
     ensures value { result ≡ numeric_len first }
     ensures few { result ≤ 10 }
@@ -15,7 +16,7 @@ fn numeric_len(first: u16) -> usize
     match first {
         // The number itself.
         0..=0x7FFF => 2,
-        // A kind, and the number behind it.
+        // A kind, and the number after it.
         0x8000 => 3,
         0x8001 | 0x8002 => 4,
         0x8003 | 0x8004 => 6,
@@ -24,7 +25,7 @@ fn numeric_len(first: u16) -> usize
     }
 }
 
-/// Where the numeric leaf at an offset ends, if one stands there and fits.
+/// Where the numeric leaf at the offset `at` ends. `None` where it is unknown or doesn't fit.
 #[tactic(auto, unfolding(crate::specs::Numeric::numeric_end, crate::specs::Numeric::has_numeric))]
 pub fn after_numeric(body: &[u8], at: usize) -> Option<usize>
     requires { (at < 2 ^ 17) × (length body.now < 2 ^ 17) }
@@ -39,7 +40,7 @@ pub fn after_numeric(body: &[u8], at: usize) -> Option<usize>
     None
 }
 
-/// Where the numeric leaf that is to stand at an offset ends.
+/// Where the numeric leaf at the offset `at` ends. `Numeric` where it is unknown or doesn't fit.
 fn end_of_numeric(body: &[u8], at: usize) -> Result<usize, LeafFault>
     requires { (at ≤ length body.now) × (length body.now < 2 ^ 17) }
     ensures inside { IfOk result (λ e. e ≤ length body.now) }
@@ -52,7 +53,7 @@ fn end_of_numeric(body: &[u8], at: usize) -> Result<usize, LeafFault>
     }
 }
 
-/// Where so many numeric leaves end, of which the first stands at an offset.
+/// Where the last of `count` numeric leaves ends. The first of them is at the offset `at`.
 #[tactic(auto, using(crate::proofs::NumericLaws::numerics_more, crate::proofs::NumericLaws::numerics_held, crate::proofs::NumericLaws::numerics_fail, crate::proofs::NumericLaws::numerics_end_none, crate::proofs::NumericLaws::numerics_checks_none))]
 pub fn after_numerics(count: u8, body: &[u8], at: usize) -> Result<usize, LeafFault>
     requires { (at ≤ length body.now) × (length body.now < 2 ^ 17) }

@@ -1,4 +1,4 @@
-//! Padding behind the members of a field list.
+//! The padding after a member of a field list.
 
 ghost use Rattle.std.specs.Prelude.{◌≡◌, ◌≤◌, ◌+◌, ◌^◌, ◌<◌, length, IfOk};
 ghost use Rattle.byte_fields.specs.Check.{Makes};
@@ -6,10 +6,10 @@ ghost use Rattle.cv_leaves.specs.Padding.{padding_len, padding_checks};
 
 use crate::fault::LeafFault;
 
-/// The first byte of padding is this one and the number of its bytes.
+/// The first byte of padding is this number plus the number of bytes of the padding.
 const PADDING: u8 = 0xF0;
 
-/// Where the padding at an offset ends.
+/// Where the padding at the offset `at` ends. This is `at` where there is no padding.
 #[tactic(auto, unfolding(crate::specs::Padding::padding_len, crate::specs::Padding::padding_holds))]
 pub fn after_padding(body: &[u8], at: usize) -> Result<usize, LeafFault>
     requires { (at ≤ length body.now) × (length body.now < 2 ^ 17) }

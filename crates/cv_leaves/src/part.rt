@@ -11,14 +11,14 @@ use crate::leaf::Rest;
 use crate::member::member_at;
 use byte_fields::{u16_at, u32_at};
 
-/// A part: its places, counted from where it begins, and where it ends in the body.
+/// A part: its places, as offsets from its beginning, and the offset in the body at which it ends.
 #[derive(Clone, Copy)]
 pub struct Part {
     pub places: &'static [u8],
     pub end: usize,
 }
 
-/// Checks that a field of so many bytes fits.
+/// Checks that the field of `len` bytes at the offset `at` fits the body.
 pub fn fits(body: &[u8], at: usize, len: usize) -> Result<(), LeafFault>
     requires { at + len < 2 ^ 32 }
     ensures { Makes result (fits body.now at len) }
@@ -29,7 +29,7 @@ pub fn fits(body: &[u8], at: usize, len: usize) -> Result<(), LeafFault>
     Ok(())
 }
 
-/// Whether the attributes of a method introduce a virtual: then its offset follows.
+/// Whether the attributes of a method introduce a virtual. If they do, its offset follows.
 pub fn introduces(attributes: u16) -> bool
     ensures { result ≡ introduces attributes }
 {
@@ -43,7 +43,7 @@ fn points_to_member(attributes: u32) -> bool
     matches!(attributes >> 5 & 7, 2 | 3)
 }
 
-/// Where the parts begin, and where they stop.
+/// The offsets in the body at which the parts begin and stop.
 #[tactic(auto, unfolding(crate::specs::Part::extent_checks))]
 pub fn extent(rest: Rest, body: &[u8]) -> Result<(usize, usize), LeafFault>
     ensures value { IfOk result (λ e. (e.0 ≤ 4) × (e.0 ≡ start_of rest) × (e.1 ≡ stop_of rest body.now)) }
@@ -60,7 +60,7 @@ pub fn extent(rest: Rest, body: &[u8]) -> Result<(usize, usize), LeafFault>
     }
 }
 
-/// The part that begins at an offset.
+/// The part that begins at the offset `at`.
 #[tactic(auto, unfolding(crate::specs::Part::part_end, crate::specs::Part::part_places, crate::specs::Part::part_checks))]
 pub fn part_at(rest: Rest, body: &[u8], at: usize) -> Result<Part, LeafFault>
     requires { (at < 2 ^ 17) × (length body.now < 2 ^ 17) }
@@ -70,7 +70,7 @@ pub fn part_at(rest: Rest, body: &[u8], at: usize) -> Result<Part, LeafFault>
     ensures first { Makes result (part_checks rest body.now at) }
 {
     match rest {
-        // Where nothing follows, parts stop where they begin, so that none is asked for.
+        // Where nothing follows, parts stop where they begin, so no call gets here.
         Rest::Nothing => Err(LeafFault::Body(at as u32)),
         Rest::Containing => {
             fits(body, at, 4)?;

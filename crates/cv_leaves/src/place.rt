@@ -1,4 +1,4 @@
-//! Going over the places of a record.
+//! The iterator over the places of a record.
 
 ghost use Rattle.std.specs.Prelude.{IfNone, IfSome, [], ◌++◌, map, ◌≡◌, ◌≤◌, ◌+◌, ◌^◌, ◌<◌, None, length};
 ghost use Rattle.std.specs.Iterator.{YieldsFirst, item_count};
@@ -10,17 +10,17 @@ use crate::leaf::{Rest, leaf_of};
 use crate::part::{Part, extent, part_at};
 use std::marker::Model;
 
-/// The places of a record that are left, in rising order.
+/// The places of a record that are still to come, in rising order.
 ///
-/// Made by [`places`](crate::places).
+/// [`places`](crate::places) makes it.
 #[derive(Drop)]
 pub struct Places<'a> {
     body: &'a [u8],
     rest: Rest,
-    // the part that is being walked: where it begins, and its places that are left
+    // where the current part begins, and those of its places that are still to come
     base: usize,
     pending: &'static [u8],
-    // where the next part begins, and where parts stop
+    // where the next part begins, and where the parts stop
     next: usize,
     stop: usize,
 }
@@ -57,7 +57,7 @@ impl<'a> Iterator for Places<'a> {
     }
 }
 
-/// A place of the part that begins at `base`.
+/// A place in the body, of the part that begins at `base`.
 fn place_in(base: usize, place: u8) -> usize
     requires { base < 2 ^ 17 }
     ensures { result ≡ base + place }
@@ -65,7 +65,8 @@ fn place_in(base: usize, place: u8) -> usize
     base + usize::from(place)
 }
 
-/// The first part from an offset on that has places, and where it begins.
+/// The first part from the offset `start` on that has places, and where it begins. `None` where no
+/// part before `stop` has any.
 #[tactic(auto, using(crate::proofs::PartLaws::no_places, crate::proofs::PartLaws::places_here, crate::proofs::PartLaws::held_here, crate::proofs::PartLaws::holds_here, crate::proofs::PartLaws::part_forward))]
 fn next_placed(rest: Rest, body: &[u8], start: usize, stop: usize) -> Option<(usize, Part)>
     requires few { (start < 2 ^ 17) × (length body.now < 2 ^ 17) }

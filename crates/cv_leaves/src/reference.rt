@@ -1,4 +1,4 @@
-//! The type indices of a record.
+//! Reading and writing the type indices of a record.
 
 ghost use Rattle.std.specs.Prelude.{◌≡◌, ◌≤◌, ◌+◌, List, ℕ, length};
 ghost use Rattle.byte_fields.specs.Number.{number_at};
@@ -9,9 +9,7 @@ ghost use Rattle.cv_leaves.specs.HasPlaces.{HasPlaces, IsPlace};
 use byte_fields::u32_at;
 use byteorder::{ByteOrder, LittleEndian};
 
-/// The type index at a place of a record.
-///
-/// It takes no memory.
+/// The type index at a place of a record. This does not allocate.
 #[tactic(auto, using(crate::proofs::PutLaws::number_in_body), unfolding(crate::specs::Checks::body_of))]
 pub fn ref_at(record: &[u8], place: usize) -> u32
     requires { place + 8 ≤ length «record».now }
@@ -20,7 +18,7 @@ pub fn ref_at(record: &[u8], place: usize) -> u32
     u32_at(record, 4 + place)
 }
 
-/// Writes four bytes at an offset.
+/// Writes a number of four bytes at the offset `at`.
 #[tactic(auto, unfolding(crate::specs::Blank::put_four, byte_fields::specs::Number::four_bytes))]
 fn put_u32(bytes: &mut [u8], at: usize, number: u32)
     requires { at + 4 ≤ length bytes.old }
@@ -31,7 +29,7 @@ fn put_u32(bytes: &mut [u8], at: usize, number: u32)
 
 /// Writes a type index at a place of a record.
 ///
-/// It changes these four bytes alone, and the record keeps its places. It takes no memory.
+/// This changes only these four bytes, and the record keeps its places. It does not allocate.
 #[tactic(auto, using(crate::proofs::KeepLaws::place_fits, crate::proofs::KeepLaws::places_kept))]
 pub fn set_ref(record: &mut [u8], place: usize, to: u32)
     requires { IsPlace «record».old place }

@@ -1,4 +1,4 @@
-//! What no clause says: the texts of the faults, and the table against the format's own figures.
+//! What no contract says: the texts of the faults, and the table against the format's own figures.
 
 use crate::{LeafFault, check, kind_of, leaf_text, places, ref_at, set_ref, type_name};
 use std::rt::HostRuntime;
@@ -43,14 +43,14 @@ fn records_that_are_refused(rt: HostRuntime) {
         check(&[6, 0, 0x01, 0x12, 0xFF, 0xFF, 0xFF, 0xFF]),
         Err(LeafFault::Body(4))
     );
-    // an entry of a method list that ends behind its attributes and two bytes
+    // an entry of a method list that ends after its attributes and two more bytes
     assert_eq!(rt;
         check(&[6, 0, 0x06, 0x12, 3, 0, 0, 0]),
         Err(LeafFault::Body(4))
     );
 }
 
-/// What the check says of the first `len` bytes of a record, where they are one.
+/// What the check says of the first `len` bytes of a record, if they are a record.
 fn check_first(record: &[u8], len: usize) -> Option<Result<(), LeafFault>> {
     match record.get(..len) {
         Some(cut) if 4 <= cut.len() && cut.len() <= 64 => Some(check(cut)),
@@ -60,7 +60,7 @@ fn check_first(record: &[u8], len: usize) -> Option<Result<(), LeafFault>> {
 
 #[test]
 fn each_leaf_at_its_smallest(rt: HostRuntime) {
-    // kind, the length of the smallest record that is accepted, the fault of one byte less
+    // the kind, the length of the smallest record that is accepted, and the fault of one byte less
     for (kind, len, at) in [
         (0x1001u16, 8usize, 0u32),
         (0x1002, 12, 4),
@@ -154,7 +154,7 @@ fn each_property_of_a_method(rt: HostRuntime) {
     }
 }
 
-/// Two entries of a method list, of which the first introduces a virtual.
+/// Two entries of a method list. The first one introduces a virtual.
 const METHODS: [u8; 24] = [
     0x16, 0x00, 0x06, 0x12, 0x13, 0x00, 0x00, 0x00, 0x74, 0x00, 0x00, 0x00, //
     0x00, 0x00, 0x00, 0x00, 0x03, 0x00, 0x00, 0x00, 0x74, 0x00, 0x00, 0x00,
@@ -190,7 +190,7 @@ fn the_name_of_a_structure(rt: HostRuntime) {
 
 #[test]
 fn each_form_of_a_numeric_leaf(rt: HostRuntime) {
-    // the first number, and how many bytes the name has that stands behind the leaf
+    // the first number, and how many bytes the name after the leaf has
     for (first, len) in [
         (0x0000u16, Some(13usize)),
         (0x7FFF, Some(13)),
@@ -206,7 +206,7 @@ fn each_form_of_a_numeric_leaf(rt: HostRuntime) {
         (0x800B, None),
         (0xFFFF, None),
     ] {
-        // a union: its numeric leaf stands at 8, and bytes that are no NUL follow
+        // a union: its numeric leaf is at 8, and bytes that are not NUL follow
         let mut record = [0x41u8; 28];
         record[2] = 0x06;
         record[3] = 0x15;
@@ -270,10 +270,11 @@ fn field_lists_that_are_refused(rt: HostRuntime) {
     }
 }
 
-/// Room for a field list with one member of the smallest size and the longest padding.
+/// How many bytes are enough for a field list with one member of the smallest size and the longest
+/// padding.
 const ROOM: usize = 40;
 
-/// A field list with one member of a kind, whose other bytes are 0.
+/// A field list with one member of a kind. The other bytes of the member are 0.
 fn one_member(kind: u16) -> [u8; ROOM] {
     let mut record = [0u8; ROOM];
     record[2] = 0x03;
@@ -285,8 +286,8 @@ fn one_member(kind: u16) -> [u8; ROOM] {
 
 #[test]
 fn each_member_at_its_smallest(rt: HostRuntime) {
-    // kind, the length of the smallest member, and for the length of each shorter body that is
-    // cut from it, in turn, until which length which fault is met
+    // the kind, the length of the smallest member, and the faults of the shorter bodies that are
+    // cut from it: each fault with the length up to which it is met
     let body = LeafFault::Body;
     let number = LeafFault::Numeric;
     let name = LeafFault::Name;
@@ -443,7 +444,7 @@ fn each_member_at_its_smallest(rt: HostRuntime) {
                 "{kind:#x} cut to {cut}"
             );
         }
-        // One byte is no kind.
+        // One byte is not a kind.
         assert_eq!(rt; check_first(&record, 5), Some(Err(body(0))));
     }
 }
@@ -473,11 +474,11 @@ fn each_property_of_a_member(rt: HostRuntime) {
 #[test]
 fn each_byte_of_padding(rt: HostRuntime) {
     for low in 0..16usize {
-        // so many bytes are left behind a member that ends at 8
+        // how many bytes are left after a member that ends at 8
         for left in 1..17usize {
             let mut record = one_member(0x1404);
             record[12] = 0xF0 + low as u8;
-            // what is left behind the padding is a member cut short, or nothing
+            // after the padding there is a member cut short, or nothing
             let wanted = if low == 0 || left < low {
                 Err(LeafFault::Pad(8))
             } else if left == low {
@@ -497,7 +498,7 @@ fn each_byte_of_padding(rt: HostRuntime) {
             );
         }
     }
-    // a byte below begins the next member
+    // a lower byte begins the next member
     let mut record = one_member(0x1404);
     record[12] = 0xEF;
     assert_eq!(rt;

@@ -5,10 +5,10 @@ ghost use Rattle.cv_leaves.specs.HasPlaces.{HasPlaces, IsChecked};
 
 use crate::place::Places;
 
-/// The places of a record: the offsets in its body at which type indices stand, in rising order.
+/// The places of a record: the offsets in its body, in bytes, at which there are type indices.
 ///
-/// The record is one that [`check`](crate::check) accepts, of at most 65,536 bytes. It takes no
-/// memory.
+/// They rise. The record has to be one that [`check`](crate::check) accepts, of at most 65,536
+/// bytes. This does not allocate.
 #[tactic(auto, using(crate::proofs::FoundLaws::places_found, crate::proofs::HoldLaws::checks_hold, crate::proofs::HoldLaws::checked_long))]
 pub fn places(record: &[u8]) -> Places<'_>
     requires short { length «record».now ≤ 2 ^ 16 }

@@ -7,7 +7,7 @@ use Rattle.std.proofs.Math.Seq.{get_or-append_seam}
 use borrow.Author.Tests.{eqb-true, eqb-false}
 use Rattle.key_chains.specs.Chains.{IsNewest, AreChained}
 
--- what stands from `end` on doesn't matter
+-- the keys from `end` on don't matter
 newest_still : (keys after : List ℕ) (key end link : ℕ) → ((j : ℕ) → j < end → get_or after j 0 ≡ get_or keys j 0) → IsNewest keys key end link → IsNewest after key end link
 newest_still keys after key end link same h = record {
   inside = h.inside;
@@ -15,7 +15,7 @@ newest_still keys after key end link same h = record {
   others = λ j from below. rw (same j below) (h.others j from below);
 }
 
--- one position more, of another key
+-- one more position, of another key
 newest_past : (keys : List ℕ) (key end link : ℕ) → IsNewest keys key end link → get_or keys end 0 ≢ key → IsNewest keys key (end + 1) link
 newest_past keys key end link h apart = record {
   inside = omega (arith, h.inside);
@@ -26,7 +26,7 @@ newest_past keys key end link h apart = record {
   ];
 }
 
--- and of this key
+-- one more position, of this key
 newest_here : (keys : List ℕ) (key end : ℕ) → get_or keys end 0 ≡ key → IsNewest keys key (end + 1) (end + 1)
 newest_here keys key end is = record {
   inside = omega arith;
@@ -34,7 +34,7 @@ newest_here keys key end is = record {
   others = λ j from below. absurd (omega (arith, from, below));
 }
 
--- and back: one position less, of another key
+-- one position fewer, where the last one has another key
 newest_front : (keys : List ℕ) (key end link : ℕ) → IsNewest keys key (end + 1) link → get_or keys end 0 ≢ key → IsNewest keys key end link
 newest_front keys key end link h apart = record {
   inside = elim (cases_lt end link) [
@@ -52,7 +52,7 @@ chained_none newest none = record {
   links_lead = λ k below. absurd (omega (arith, below));
 }
 
--- ---- one position more
+-- ---- one more position
 
 module _ (keys links : List ℕ) (newest after : ℕ → Option ℕ) (key : ℕ) (h : AreChained keys newest links) (updates : (q : ℕ) → after q ≡ cond (nat_eq key q) (Some (length keys + 1)) (newest q)) where
   all : List ℕ
@@ -90,7 +90,7 @@ module _ (keys links : List ℕ) (newest after : ℕ → Option ℕ) (key : ℕ)
         links_lead = λ k below. link_after link many is k (rw long at below);
       }
 
--- ---- one position less
+-- ---- one position fewer
 
 -- the key of the last position is in the map
 pub last_is_there : (keys links : List ℕ) (newest : ℕ → Option ℕ) (last : ℕ) → AreChained keys newest links → last + 1 ≡ length keys → IsSome (newest (get_or keys last 0))

@@ -1,9 +1,9 @@
 //! Finds the positions of a growing list by key, the newest first.
 //!
-//! [`KeyChains`] keeps a 32-bit key for each position, and nothing of the value there: its owner
-//! keeps the values, and takes the hash of each as its key. So no value is hashed twice, and the
-//! values may lie wherever their owner wants them. The owner compares the value at each position
-//! that is found, since different values may have one hash.
+//! [`KeyChains`] keeps a 32-bit key for each position, but not the value there. Its owner keeps the
+//! values, and uses the hash of each as its key. So no value is hashed twice, and the values may
+//! lie anywhere. The owner compares the value at each position that is found, because different
+//! values may have the same hash.
 #![tactic(auto)]
 
 ghost use Rattle.std.specs.Prelude.{◌≡◌, ◌≢◌, ◌+◌, ◌-◌, ◌^◌, ◌<◌, ◌≤◌, ◌++◌, ◌↔◌, [], ◌∷◌, ℕ, length, get_or, take, nat_eq, unwrap_or, if◌then◌else◌, IsTrue, IfOk, IfErr, IfSome, IfNone};
@@ -18,16 +18,17 @@ use std::alloc::{AllocError, Allocator, Global};
 use std::hash::{BuildHasherDefault, FoldHasher};
 use std::marker::Model;
 
-/// The key of each position, with the chains of the positions that have one key.
+/// The key of each position, with the chains of the positions that have the same key.
 ///
-/// A link is one more than a position, or 0 where it leads nowhere. Positions are below 2^31.
+/// A link is one more than a position, or 0 where it leads nowhere. Positions count from 0 and are
+/// below 2^31.
 #[derive(Drop)]
 pub struct KeyChains<A: Allocator = Global> {
     // the key of each position
     keys: Vec<u32, A>,
     // for each position, the link to the newest one before it that has the same key
     links: Vec<u32, A>,
-    // for each key that stands there, the link to its newest position
+    // for each key that some position has, the link to its newest position
     newest: IndexMap<u32, u32, BuildHasherDefault<FoldHasher>, A>,
 }
 
@@ -43,7 +44,7 @@ impl<A: Allocator> Model for KeyChains<A> {
     ghost invariant = { λ c. (length c.links.items ≡ length c.keys.items) × (length c.keys.items < 2 ^ 31) × AreChained c.keys.items (get nat_eq c.newest) c.links.items };
 }
 
-/// The position that a link leads to.
+/// The position that a link leads to. `None` for the link 0.
 fn position_of(link: u32) -> Option<usize>
     ensures some { IfSome result (λ k. link ≡ k + 1) }
     ensures none { IfNone result (link ≡ 0) }
@@ -51,7 +52,7 @@ fn position_of(link: u32) -> Option<usize>
     (link as usize).checked_sub(1)
 }
 
-/// Changes the link of a key, and takes the key out where the link leads nowhere.
+/// Changes the link of a key. If the new link leads nowhere, the key is removed.
 fn relink<A: Allocator>(
     newest: &mut IndexMap<u32, u32, BuildHasherDefault<FoldHasher>, A>,
     key: u32,
@@ -68,7 +69,7 @@ fn relink<A: Allocator>(
 }
 
 impl<A: Allocator + Copy> KeyChains<A> {
-    /// No positions. It takes no memory.
+    /// An empty list of keys. This does not allocate.
     #[tactic(auto, using(crate::proofs::ChainLaws::chained_none))]
     pub fn new(alloc: A) -> KeyChains<A>
         ensures { result ≡ [] }
@@ -97,7 +98,7 @@ impl<A: Allocator> KeyChains<A> {
         self.keys.is_empty()
     }
 
-    /// The key of each position.
+    /// The keys of all positions, in order.
     pub fn keys(&self) -> &[u32]
         ensures { result.now ≡ self.now }
     {
@@ -106,14 +107,14 @@ impl<A: Allocator> KeyChains<A> {
 
     /// Appends a position with this key after the others.
     ///
-    /// Out of memory, all stays as it was.
+    /// If this runs out of memory, everything stays as it was.
     #[tactic(auto, using(crate::proofs::ChainLaws::chained_pushed))]
     pub fn push(&mut self, key: u32) -> Result<(), AllocError>
         requires few { length self.old + 1 < 2 ^ 31 }
         ensures ok { IfOk result (λ _. self.new ≡ self.old ++ key ∷ []) }
         ensures err { IfErr result (λ _. self.new ≡ self.old) }
     {
-        // What can fail comes first: with the space reserved, the pushes after `insert` succeed.
+        // What can fail comes first: the space is reserved, so the pushes after `insert` succeed.
         self.keys.reserve(1)?;
         self.links.reserve(1)?;
         let link = self.newest.insert(key, self.keys.len() as u32 + 1)?;
@@ -134,7 +135,7 @@ impl<A: Allocator> KeyChains<A> {
         self.links.truncate(last);
     }
 
-    /// Keeps the first `len` positions, and removes the others. It takes no memory.
+    /// Keeps the first `len` positions, and removes the others. This does not allocate.
     pub fn truncate(&mut self, len: usize)
         requires inside { len ≤ length self.old }
         ensures { self.new ≡ take len self.old }
@@ -144,7 +145,7 @@ impl<A: Allocator> KeyChains<A> {
         }
     }
 
-    /// The newest position that has this key.
+    /// The newest position that has this key. `None` where no position has it.
     pub fn newest(&self, key: u32) -> Option<usize>
         ensures found { IfSome result (λ k. (k < length self.now) × (get_or self.now k 0 ≡ key)) }
         ensures last { IfSome result (λ k. NoneFrom self.now key (k + 1) (length self.now)) }
@@ -153,7 +154,7 @@ impl<A: Allocator> KeyChains<A> {
         position_of(self.newest.get(&key).copied().unwrap_or(0))
     }
 
-    /// The newest position before this one that has the same key.
+    /// The newest position before this one that has the same key. `None` where there is none.
     pub fn older(&self, position: usize) -> Option<usize>
         requires inside { position < length self.now }
         ensures found { IfSome result (λ k. (k < position) × (get_or self.now k 0 ≡ get_or self.now position 0)) }

@@ -1,4 +1,4 @@
-//! What no clause says: chains walked by hand, and memory that is refused.
+//! What no contract says: chains walked by hand, and running out of memory.
 
 ghost use Rattle.std.specs.Prelude.{◌≤◌, length};
 
@@ -8,7 +8,7 @@ use std::alloc::Allocator;
 use std::process::Abort;
 use std::test::Fail;
 
-/// Pushes the keys in turn until one is refused, and gives how many were pushed.
+/// Pushes the keys in turn until one is refused. Returns how many were pushed.
 fn push_each<A: Allocator>(rt: &impl Abort, chains: &mut KeyChains<A>, keys: &[u32]) -> usize
     ensures { result ≤ length keys.now }
 {

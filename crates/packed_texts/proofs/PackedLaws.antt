@@ -90,19 +90,19 @@ text_at bytes words k start end h inside s e =
     sym (at ∙ ap (λ (n : ℕ). take (n - get_or (0 ∷ in_bytes words) k 0) (drop (get_or (0 ∷ in_bytes words) k 0 - 0) bytes)) b
     ∙ ap (λ (n : ℕ). take (end - n) (drop (n - 0) bytes)) a ∙ ap (λ (n : ℕ). take (end - start) (drop n bytes)) z)
 
--- it ends where it starts, or after
+-- the end of a text is its start or comes after it
 pub text_forward : (bytes words : List ℕ) (k start end : ℕ) → Rise 0 (in_bytes words) (length bytes) → k < length words → start ≡ 4 * get_or (0 ∷ words) k 0 → end ≡ 4 * get_or words k 0 → start ≤ end
 text_forward bytes words k start end h inside s e =
     let le = end_ge 0 (length bytes) (in_bytes words) k h (omega (arith, inside, many_in words)) in
     omega (arith, le.0, start_in words k (omega (arith, inside)), end_in words k inside, s, e)
 
--- and its end lies within the bytes
+-- the end of a text lies within the bytes
 pub text_inside : (bytes words : List ℕ) (k end : ℕ) → Rise 0 (in_bytes words) (length bytes) → k < length words → end ≡ 4 * get_or words k 0 → end ≤ length bytes
 text_inside bytes words k end h inside e =
     let le = end_ge 0 (length bytes) (in_bytes words) k h (omega (arith, inside, many_in words)) in
     omega (arith, le.1, end_in words k inside, e)
 
--- ---- one text more
+-- ---- one more text
 
 pub rise_more : (from last new : ℕ) (ends : List ℕ) → Rise from ends last → last ≤ new → Rise from (ends ++ new ∷ []) new
 rise_more from last new [] h le = (omega (arith, h, le), refl)

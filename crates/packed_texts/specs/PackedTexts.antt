@@ -1,7 +1,7 @@
 -- Texts that lie one after the other in one list of bytes.
 use Rattle.std.specs.Prelude.{ℕ, ◌≡◌, ◌-◌, ◌*◌, ◌≤◌, List, [], ◌∷◌, map, take, drop}
 
--- the texts that end at these offsets, where the bytes begin at the offset `from`, and the first text with them
+-- the texts that end at these offsets; the bytes begin at the offset `from`, and so does the first text
 unfoldable pub texts_in : List ℕ → ℕ → List ℕ → List (List ℕ)
 texts_in bytes from [] = []
 texts_in bytes from (end ∷ ends) = take (end - from) bytes ∷ texts_in (drop (end - from) bytes) end ends
@@ -11,6 +11,6 @@ abbrev pub Rise : ℕ → List ℕ → ℕ → Type 0
 Rise from [] last = from ≡ last
 Rise from (end ∷ ends) last = (from ≤ end) × Rise end ends last
 
--- offsets that count words of four bytes, as offsets that count bytes
+-- offsets that count groups of four bytes, as offsets in bytes
 unfoldable pub in_bytes : List ℕ → List ℕ
 in_bytes words = map (λ w. 4 * w) words

@@ -1,8 +1,8 @@
 //! Texts that lie one after the other in one vector.
 //!
 //! [`PackedTexts`] keeps the bytes of all its texts in one vector, and for each text the offset at
-//! which it ends. The length of each text is a multiple of four, so offsets count words of four
-//! bytes, and 32 bits are enough for 16 GB of text.
+//! which it ends. The length of each text is a multiple of four bytes. So these offsets count
+//! groups of four bytes, and 32 bits are enough for 16 GB of text.
 #![tactic(auto)]
 
 ghost use Rattle.std.specs.Prelude.{◌≡◌, ◌+◌, ◌-◌, ◌*◌, ◌%◌, ◌^◌, ◌<◌, ◌≤◌, ◌++◌, ◌↔◌, [], ◌∷◌, ℕ, length, get_or, take, IsTrue, IfOk, IfErr};
@@ -16,12 +16,12 @@ use std::marker::Model;
 
 /// Texts in one vector, with the offset at which each ends.
 ///
-/// The length of each text is a multiple of four bytes. All together are below 16 GB.
+/// The length of each text is a multiple of four bytes. All texts together have less than 16 GB.
 #[derive(Drop)]
 pub struct PackedTexts<A: Allocator = Global> {
     // the texts, one after the other
     bytes: Vec<u8, A>,
-    // for each text, the offset at which it ends, in words of four bytes
+    // for each text, the offset at which it ends, in groups of four bytes
     ends: Vec<u32, A>,
 }
 
@@ -57,7 +57,7 @@ fn end_of(ends: &[u32], position: usize) -> usize
 }
 
 impl<A: Allocator + Copy> PackedTexts<A> {
-    /// No texts. It takes no memory.
+    /// An empty list of texts. This does not allocate.
     #[tactic(auto, using(crate::proofs::PackedLaws::no_texts, crate::proofs::PackedLaws::no_rise))]
     pub fn new(alloc: A) -> PackedTexts<A>
         ensures { result ≡ [] }
@@ -95,7 +95,7 @@ impl<A: Allocator> PackedTexts<A> {
         self.bytes.as_slice()
     }
 
-    /// The bytes of the text at a position. Positions count from 0.
+    /// The bytes of the text at a position, from 0.
     #[tactic(auto, using(crate::proofs::PackedLaws::many_texts, crate::proofs::PackedLaws::text_at, crate::proofs::PackedLaws::text_inside, crate::proofs::PackedLaws::text_forward))]
     pub fn get(&self, position: usize) -> &[u8]
         requires inside { position < length self.now }
@@ -123,7 +123,7 @@ impl<A: Allocator> PackedTexts<A> {
         Ok(())
     }
 
-    /// Keeps the first `len` texts, and removes the others. It takes no memory.
+    /// Keeps the first `len` texts, and removes the others. This does not allocate.
     #[tactic(auto, using(crate::proofs::PackedLaws::many_texts, crate::proofs::PackedLaws::texts_cut, crate::proofs::PackedLaws::rise_cut))]
     pub fn truncate(&mut self, len: usize)
         requires inside { len ≤ length self.old }

@@ -1,4 +1,4 @@
-//! What no clause says: texts typed by hand, and memory that is refused.
+//! What no contract says: texts typed by hand, and running out of memory.
 
 ghost use Rattle.std.specs.Prelude.{◌≤◌, length};
 
@@ -31,7 +31,7 @@ fn texts_are_got_back(rt: HostRuntime) -> Result<(), Fail> {
 /// Texts of 4, 8 and 12 bytes.
 const TEXTS: [&[u8]; 3] = [b"four", b"eight by", b"twelve bytes"];
 
-/// Pushes the texts in turn until one is refused, and gives how many were pushed.
+/// Pushes the texts in turn until one is refused. Returns how many were pushed.
 fn push_each<A: Allocator>(rt: &impl Abort, texts: &mut PackedTexts<A>, more: &[&[u8]]) -> usize
     ensures { result ≤ length more.now }
 {

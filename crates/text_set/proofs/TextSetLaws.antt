@@ -1,4 +1,4 @@
--- Where texts stand.
+-- The positions of texts.
 use Rattle.std.proofs.Common.{◌≡◌, ◌≢◌, ℕ, suc, ◌+◌, ◌*◌, ◌<◌, ◌≤◌, ◌^◌, Option, Some, None, List, [], ◌∷◌, ◌++◌, length, map, take, get_or, refl, sym, ap, ◌∙◌, arith, inl, inr, length-append}
 use Rattle.std.specs.Prelude.{IfSome, IfNone}
 use Rattle.std.specs.List.{Contains, concat}
@@ -28,7 +28,7 @@ hashes_pushed h texts hashes text hash are is = rw (are, is) (sym (map-append h 
 pub hashes_first : (h : List ℕ → ℕ) (texts : List (List ℕ)) (hashes : List ℕ) (n : ℕ) → hashes ≡ map h texts → take n hashes ≡ map h (take n texts)
 hashes_first h texts hashes n are = rw are (take-map h n texts)
 
--- a text of four bytes or more that isn't there is appended
+-- a text of at least four bytes that isn't there is appended
 pub distinct_pushed : (texts : List (List ℕ)) (text : List ℕ) → AreDistinct texts → 4 ≤ length text → (Contains texts text → ⊥) → AreDistinct (texts ++ text ∷ [])
 distinct_pushed texts text h long new = record {
   distinct = all_pairs_push (λ x y. x ≢ y) texts text h.distinct (λ k d lt e. new (k, lt, get_or_default texts k text d lt ∙ e));
@@ -47,7 +47,7 @@ distinct_first texts n inside h =
       long = λ k k_in. rw (get_or-take n texts k [] (omega (arith, k_in, many))) (h.long k (omega (arith, k_in, many, inside)));
     }
 
--- each has four bytes or more
+-- if each text has at least four bytes, all together have at least four for each
 pub four_each : (texts : List (List ℕ)) → ((k : ℕ) → k < length texts → 4 ≤ length (get_or texts k [])) → 4 * length texts ≤ length (concat texts)
 four_each [] each = omega arith
 four_each (t ∷ texts) each =
@@ -55,15 +55,15 @@ four_each (t ∷ texts) each =
     let first : 4 ≤ length t = each 0 (omega arith) in
     omega (arith, rest, first, length-append t (concat texts))
 
--- there are few of them
+-- there are few texts
 pub few_texts : (texts : List (List ℕ)) (text : List ℕ) → AreDistinct texts → length (concat texts) + length text < 2 ^ 33 → 4 ≤ length text → length texts + 1 < 2 ^ 31
 few_texts texts text h few long = omega (arith, four_each texts h.long, few, long)
 
--- there is a hash for each
+-- there is a hash for each text
 pub hashes_each : (h : List ℕ → ℕ) (texts : List (List ℕ)) (hashes : List ℕ) → hashes ≡ map h texts → length hashes ≡ length texts
 hashes_each h texts hashes are = rw are (length-map texts h)
 
--- what was placed keeps the set as it should be
+-- the set stays a set, with the hash of each text, when a text is placed
 pub placed_kept : (h : List ℕ → ℕ) (texts after : List (List ℕ)) (hashes hashes_after : List ℕ) (text : List ℕ) (hash : ℕ) → Placed texts after hashes hashes_after text hash → AreDistinct texts → hashes ≡ map h texts → hash ≡ h text → 4 ≤ length text
     → AreDistinct after × (hashes_after ≡ map h after)
 placed_kept h texts after hashes hashes_after text hash placed distinct are is long = elim placed [
@@ -71,7 +71,7 @@ placed_kept h texts after hashes hashes_after text hash placed distinct are is l
   | inr more ↦ (rw more.0 (distinct_pushed texts text distinct long more.2), rw (more.0, more.1) (hashes_pushed h texts hashes text hash are is))
 ]
 
--- and holds the text
+-- the set holds the text that was placed
 pub placed_holds : (texts after : List (List ℕ)) (hashes hashes_after : List ℕ) (text : List ℕ) (hash : ℕ) → Placed texts after hashes hashes_after text hash → Holds texts after text
 placed_holds texts after hashes hashes_after text hash placed = elim placed [ inl same ↦ inl same.0 | inr more ↦ inr (more.0, more.2) ]
 
@@ -103,7 +103,7 @@ unfolding bound
 none_first texts hashes text hash None same many last none = none_left texts hashes text hash 0 (length texts) same (omega arith) (rw (← many) none)
 none_first texts hashes text hash (Some k) same many last none = none_left texts hashes text hash (k + 1) (length texts) same (omega arith) (rw (← many) last)
 
--- and the next one before a position where another text stands
+-- and the next one before a position that has another text
 pub here_next : (texts : List (List ℕ)) (hashes : List ℕ) (hash position : ℕ) (o : Option ℕ) → position < length texts → get_or hashes position 0 ≡ hash → IfSome o (λ k. (k < position) × (get_or hashes k 0 ≡ get_or hashes position 0))
     → IfSome o (λ k. (k < length texts) × (get_or hashes k 0 ≡ hash))
 here_next texts hashes hash position None inside at found = tt
@@ -129,6 +129,6 @@ pub bound_none : bound None ≡ 0
 unfolding bound
 bound_none = refl
 
--- where it is at no position, it isn't there
+-- a text that is at no position isn't there
 pub not_there : (texts : List (List ℕ)) (text : List ℕ) → NotFrom texts text 0 (length texts) → Contains texts text → ⊥
 not_there texts text none h = none h.0 (omega arith) h.1 (get_or_default texts h.0 [] text h.1 ∙ h.2)

@@ -2,7 +2,7 @@
 use Rattle.std.specs.Prelude.{ℕ, ◌≡◌, ◌≢◌, ◌<◌, ◌≤◌, ◌⊎◌, List, [], ◌∷◌, ◌++◌, length, get_or}
 use Rattle.std.specs.List.{AllPairs, Contains}
 
--- no two texts are equal, and each has four bytes or more
+-- no two texts are equal, and each has at least four bytes
 pub record AreDistinct (texts : List (List ℕ)) : Type 0 where
   pub distinct : AllPairs (λ x y. x ≢ y) texts
   pub long : (k : ℕ) → k < length texts → 4 ≤ length (get_or texts k [])

@@ -1,4 +1,4 @@
-//! Finds a text among others by its hash.
+//! Finds a text in a set by its hash.
 
 ghost use Rattle.std.specs.Prelude.{◌≡◌, ◌/◌, ◌^◌, ◌<◌, ℕ, [], length, get_or, IfSome, IfNone};
 ghost use Rattle.std.specs.List.{Contains};
@@ -8,7 +8,7 @@ use packed_texts::PackedTexts;
 use std::alloc::Allocator;
 use std::hash::{BuildHasher, Hasher};
 
-/// The hash of a text: the high half of what its hasher gives.
+/// The hash of a text: the high half of the number that the hasher returns.
 pub(crate) fn hash_of<S: BuildHasher>(hasher: &S, text: &[u8]) -> u32
     ensures { result ≡ S.Hasher.finish (S.Hasher.write (S.build_hasher hasher.now) text.now) / 2 ^ 32 }
 {
@@ -17,7 +17,7 @@ pub(crate) fn hash_of<S: BuildHasher>(hasher: &S, text: &[u8]) -> u32
     (state.finish() >> 32) as u32
 }
 
-/// The position of a text that has this hash.
+/// The position of a text with the hash `hash`. `None` where the text isn't there.
 pub(crate) fn find<A: Allocator>(
     texts: &PackedTexts<A>,
     hashes: &KeyChains<A>,
@@ -31,7 +31,7 @@ pub(crate) fn find<A: Allocator>(
 {
     let mut candidate = hashes.newest(hash);
     while let Some(position) = candidate {
-        // Different texts may have one hash.
+        // Different texts may have the same hash.
         if texts.get(position) == text {
             return Some(position);
         }

@@ -1,9 +1,9 @@
 //! Distinct texts in the order in which they arrived.
 //!
-//! [`TextSet`] finds a text by its bytes. It first compares the text with a guess: the text that
-//! came next the last time, after the one that its caller has just met. Only where the guess is
-//! wrong is the text hashed, by one `write` of all its bytes. Either way the bytes are compared
-//! before they count as equal, so the answer never depends on the hash.
+//! [`TextSet`] finds a text by its bytes. It first compares the text with a guess. The caller says
+//! which text it met just before, and the guess is the text that followed that one the last time.
+//! Only if the guess is wrong, the text is hashed, by one `write` of all its bytes. In both cases
+//! the bytes are compared before two texts count as equal, so the result never depends on the hash.
 #![tactic(auto)]
 
 mod find;

@@ -1,4 +1,4 @@
-//! Places a text that a set may lack.
+//! Finds a text, or appends it where it isn't there.
 
 ghost use Rattle.std.specs.Prelude.{◌≡◌, ◌+◌, ◌%◌, ◌^◌, ◌<◌, ◌++◌, [], ◌∷◌, ℕ, length, get_or, IfOk, IfErr};
 ghost use Rattle.std.specs.List.{concat};
@@ -9,7 +9,7 @@ use key_chains::KeyChains;
 use packed_texts::PackedTexts;
 use std::alloc::{AllocError, Allocator};
 
-/// Appends a text after the others, or leaves all as it was.
+/// Appends a text after the others. If this runs out of memory, the texts stay as they were.
 fn append<A: Allocator>(
     texts: &mut PackedTexts<A>,
     hashes: &mut KeyChains<A>,
@@ -28,7 +28,7 @@ fn append<A: Allocator>(
     ensures hashes_kept { IfErr result (λ _. hashes.new ≡ hashes.old) }
 {
     let position = texts.len();
-    // There may be more guesses than texts, of any value: a guess is never trusted.
+    // There may be more guesses than texts, and they may have any value: no guess is trusted.
     guesses.resize(position + 1, 0)?;
     hashes.push(hash)?;
     let pushed = texts.push(text);

@@ -14,13 +14,13 @@ use std::marker::Model;
 
 /// Distinct texts, in the order in which they arrived.
 ///
-/// The length of each text is a multiple of four bytes, and four at least. Positions count from 0.
+/// The length of each text is a multiple of four bytes, and at least four. Positions count from 0.
 #[derive(Drop)]
 pub struct TextSet<S: BuildHasher, A: Allocator = Global> {
     texts: PackedTexts<A>,
     // the hash of each text
     hashes: KeyChains<A>,
-    // for each text, a guess of the one that comes next: the one that came next the last time
+    // for each text, a guess of the position of the next one: the one that came next the last time
     guesses: Vec<u32, A>,
     hasher: S,
 }
@@ -36,7 +36,7 @@ impl<S: BuildHasher, A: Allocator> Model for TextSet<S, A> {
     ghost invariant = { λ t. AreDistinct t.texts × (t.hashes ≡ map (λ x. S.Hasher.finish (S.Hasher.write (S.build_hasher t.hasher) x) / 2 ^ 32) t.texts) };
 }
 
-/// Keeps in mind that the text at `position` came next after the one at `after`.
+/// Notes that the text at `position` came next after the one at `after`.
 fn note<A: Allocator>(guesses: &mut Vec<u32, A>, after: usize, position: usize)
     requires { position < 2 ^ 32 }
 {
@@ -46,7 +46,7 @@ fn note<A: Allocator>(guesses: &mut Vec<u32, A>, after: usize, position: usize)
 }
 
 impl<S: BuildHasher, A: Allocator + Copy> TextSet<S, A> {
-    /// No texts. It takes no memory.
+    /// An empty set. This does not allocate.
     pub fn with_hasher(alloc: A, hasher: S) -> TextSet<S, A>
         ensures { result ≡ [] }
     {
@@ -85,7 +85,7 @@ impl<S: BuildHasher, A: Allocator> TextSet<S, A> {
         self.texts.bytes()
     }
 
-    /// The bytes of the text at a position.
+    /// The bytes of the text at a position, from 0.
     pub fn get(&self, position: usize) -> &[u8]
         requires inside { position < length self.now }
         ensures { result.now ≡ get_or self.now position [] }
@@ -104,10 +104,10 @@ impl<S: BuildHasher, A: Allocator> TextSet<S, A> {
         None
     }
 
-    /// The position of this text, which is appended if it isn't there.
+    /// The position of this text. The text is appended if it isn't there.
     ///
-    /// `after` is the position of the text that its caller met just before. It only makes a guess:
-    /// any number will do. If this runs out of memory, the texts stay as they were.
+    /// `after` is the position of the text that the caller met just before. It is only used for a
+    /// guess, so any number will do. If this runs out of memory, the texts stay as they were.
     #[tactic(auto, using(crate::proofs::TextSetLaws::same_hashes, crate::proofs::TextSetLaws::few_texts, crate::proofs::TextSetLaws::hashes_each))]
     pub fn intern(&mut self, text: &[u8], after: usize) -> Result<usize, AllocError>
         requires padded { length text.now % 4 ≡ 0 }
@@ -132,7 +132,7 @@ impl<S: BuildHasher, A: Allocator> TextSet<S, A> {
         Ok(position)
     }
 
-    /// Keeps the first `len` texts, and removes the others. It takes no memory.
+    /// Keeps the first `len` texts, and removes the others. This does not allocate.
     #[tactic(auto, using(crate::proofs::TextSetLaws::distinct_first, crate::proofs::TextSetLaws::hashes_first))]
     pub fn truncate(&mut self, len: usize)
         requires inside { len ≤ length self.old }

@@ -1,4 +1,4 @@
-//! What no clause says: texts typed by hand, texts with one hash, and memory that is refused.
+//! What no contract says: texts typed by hand, texts with one hash, and running out of memory.
 
 ghost use Rattle.std.specs.Prelude.{◌≤◌, length};
 
@@ -9,7 +9,7 @@ use std::hash::{BuildHasher, BuildHasherDefault, FoldHasher, Hasher};
 use std::process::Abort;
 use std::test::Fail;
 
-/// A hasher that gives the same number for every text.
+/// A hasher that returns the same number for every text.
 #[derive(Clone, Copy)]
 struct Collides;
 
@@ -35,7 +35,7 @@ impl BuildHasher for Collides {
     }
 }
 
-/// Interns a text after the one at `after`, and gives its position, or none if memory is refused.
+/// Interns a text after the one at `after`. Returns its position, or `None` when out of memory.
 fn intern<S: BuildHasher, A: Allocator>(
     rt: &impl Abort,
     texts: &mut TextSet<S, A>,
@@ -47,7 +47,7 @@ fn intern<S: BuildHasher, A: Allocator>(
     texts.intern(text, after).ok()
 }
 
-/// Interns the texts in turn until one is refused, and gives how many were interned.
+/// Interns the texts in turn until one is refused. Returns how many were interned.
 fn intern_each<S: BuildHasher, A: Allocator>(
     rt: &impl Abort,
     texts: &mut TextSet<S, A>,
@@ -67,7 +67,7 @@ fn intern_each<S: BuildHasher, A: Allocator>(
 fn each_text_stands_once(rt: HostRuntime) -> Result<(), Fail> {
     let mut texts = TextSet::with_hasher(rt.alloc(), BuildHasherDefault::<FoldHasher>::new());
     assert!(rt; texts.is_empty());
-    // the text, the text before it, and where it stands
+    // the text, the position of the text before it, and its own position
     for (text, after, position) in [
         (b"four".as_slice(), 9usize, 0usize),
         (b"eight by", 0, 1),
@@ -75,7 +75,7 @@ fn each_text_stands_once(rt: HostRuntime) -> Result<(), Fail> {
         (b"four", 2, 0),
         // the guess after "four" is right
         (b"eight by", 0, 1),
-        // and here it is wrong: for a text that is there, and for one that isn't
+        // here the guess is wrong: for a text that is there, and for one that isn't
         (b"more", 0, 2),
         (b"else", 1, 3),
     ] {

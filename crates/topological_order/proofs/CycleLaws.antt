@@ -5,15 +5,15 @@ use Rattle.topological_order.specs.Laws.{OneCycleSet, CyclesHaveNoRank}
 use Rattle.topological_order.proofs.WalkLaws.{none_in}
 use Rattle.topological_order.proofs.OrderLaws.{in_cons, in_head, in_tail, ranked_uncaught}
 
--- what stands in a rising list behind the first is greater
+-- in a rising list, each number after the first one is greater
 first_least : (x : ℕ) (xs : List ℕ) (n : ℕ) → AllPairs (λ a b. a < b) (x ∷ xs) → Contains xs n → x < n
 first_least x xs n rising (k, lt, at) = omega (arith, rising 0 (suc k) n (omega arith) (omega (arith, lt)), at)
 
--- what stands behind it rises too
+-- the numbers after the first one rise too
 others_rise : (x : ℕ) (xs : List ℕ) → AllPairs (λ a b. a < b) (x ∷ xs) → AllPairs (λ a b. a < b) xs
 others_rise x xs rising = λ i j d lt below. rising (suc i) (suc j) d (omega (arith, lt)) (omega (arith, below))
 
--- two rising lists of the same numbers are one
+-- two rising lists of the same numbers are equal
 same_rising : (xs ys : List ℕ) → AllPairs (λ a b. a < b) xs → AllPairs (λ a b. a < b) ys → ((n : ℕ) → Contains xs n → Contains ys n) → ((n : ℕ) → Contains ys n → Contains xs n) → xs ≡ ys
 same_rising [] [] rise rose there back = refl
 same_rising [] (y ∷ ys) rise rose there back = none_in y (back y (in_head y ys))
@@ -43,10 +43,10 @@ same_rising (x ∷ xs) (y ∷ ys) rise rose there back =
       | inr later ↦ later
     ]
 
--- one largest set
+-- a graph has at most one largest set
 pub one_cycle_set : OneCycleSet
 one_cycle_set graph nodes others a b = same_rising nodes others a.rising b.rising (λ n on. b.largest nodes a.names n on) (λ n on. a.largest others b.names n on)
 
--- no rank
+-- a graph with nodes that lead into a cycle has no rank
 pub cycles_have_no_rank : CyclesHaveNoRank
 cycles_have_no_rank graph nodes rank set ranked = ranked_uncaught graph nodes rank set ranked

@@ -29,7 +29,7 @@ in_tail x xs y (k, lt, at) = (suc k, omega (arith, lt), at)
 
 -- ---- the place in an order
 
--- the place at which a node stands first
+-- the first place of a node
 place_in : List ℕ → ℕ → ℕ
 place_in [] p = 0
 place_in (x ∷ xs) p = if nat_eq x p then 0 else suc (place_in xs p)
@@ -42,7 +42,7 @@ place_later : (x : ℕ) (xs : List ℕ) (p : ℕ) → (x ≡ p → ⊥) → plac
 unfolding place_in
 place_later x xs p other = rw (ne_eqb x p other) refl
 
--- what is in the order stands at its place
+-- a node of the order is at its place
 place_is : (order : List ℕ) (p : ℕ) → Contains order p → (place_in order p < length order) × (get_or order (place_in order p) 0 ≡ p)
 place_is [] p there = none_in p there
 place_is (x ∷ xs) p there = elim (cases_eq x p) [
@@ -55,7 +55,7 @@ place_is (x ∷ xs) p there = elim (cases_eq x p) [
   ]
 ]
 
--- what is in front of a place has a lower one
+-- a node before a place has a lower place
 place_below : (order : List ℕ) (k p : ℕ) → Contains (take k order) p → place_in order p < k
 place_below order zero p there = none_in p there
 place_below [] (suc k) p there = none_in p there
@@ -67,7 +67,7 @@ place_below (x ∷ xs) (suc k) p there = elim (cases_eq x p) [
   ]
 ]
 
--- what is in front is in the order
+-- a node among the first ones is in the order
 front_in : (xs : List ℕ) (n p : ℕ) → Contains (take n xs) p → Contains xs p
 front_in xs zero p there = none_in p there
 front_in [] (suc n) p there = none_in p there
@@ -114,7 +114,7 @@ walk_orders graph passed marks order nodes w marked a none = record {
 
 -- ---- where some are caught
 
--- of nodes that are placed none is in a set of nodes each of which names one of the set
+-- no node that is placed is in a set of nodes in which each names one of the set
 none_placed : (graph : List (List ℕ)) (order others : List ℕ) → ComesAfter graph order → NameOneAnother graph others → (fuel i : ℕ) → place_in order i < fuel → Contains order i → Contains others i → ⊥
 none_placed graph order others after names zero i lt there member = omega (arith, lt)
 none_placed graph order others after names (suc fuel) i lt there member =
@@ -122,7 +122,7 @@ none_placed graph order others after names (suc fuel) i lt there member =
     let lower = names_below graph order i one.0 after there one.1 in
     none_placed graph order others after names fuel one.0 (omega (arith, lower.1, lt)) lower.0 one.2
 
--- what a walk that has met all leaves out is the largest set of nodes each of which names one of the set
+-- the nodes that a walk leaves out when it has met all are the largest set of nodes in which each names one of the set
 pub walk_catches : (graph : List (List ℕ)) (passed : List ℕ) (marks : List Mark) (order nodes : List ℕ) → IsWalk graph passed marks [] order → ((i : ℕ) → i < length graph → mark_at marks i ≡ New → ⊥) → AreCaught marks nodes
     → 0 < length nodes → IsCycleSet graph nodes
 walk_catches graph passed marks order nodes w marked a some = record {
@@ -162,7 +162,7 @@ walk_catches graph passed marks order nodes w marked a some = record {
 pub orders_rank : OrdersRank
 orders_rank graph order o = (place_in order, λ i n names. (names_below graph order i n o.after (o.whole i (names_inside graph i n names)) names).1)
 
--- where a graph has a rank, no node is in a set of nodes each of which names one of the set
+-- if a graph has a rank, no node is in a set of nodes in which each names one of the set
 ranked_apart : (graph : List (List ℕ)) (rank : ℕ → ℕ) (nodes : List ℕ) → IsRank graph rank → NameOneAnother graph nodes → (fuel i : ℕ) → rank i < fuel → Contains nodes i → ⊥
 ranked_apart graph rank nodes ranked names zero i lt member = omega (arith, lt)
 ranked_apart graph rank nodes ranked names (suc fuel) i lt member =

@@ -16,11 +16,11 @@ use Rattle.topological_order.specs.declared.walk.Mark.TheVariants.{New, Met, Pla
 mark_same : (marks : List Mark) (i : ℕ) (m : Mark) → i < length marks → mark_at (set marks i m) i ≡ m
 mark_same marks i m inside = get_or-set_same marks i m New inside
 
--- the others
+-- the other marks stay
 mark_other : (marks : List Mark) (i j : ℕ) (m : Mark) → (j ≡ i → ⊥) → mark_at (set marks i m) j ≡ mark_at marks j
 mark_other marks i j m other = get_or-set_other marks i j m New other
 
--- two marks at one position
+-- a position has no two marks
 two_marks : {A : Type 0} (marks : List Mark) (i j : ℕ) (m n : Mark) → mark_at marks i ≡ m → mark_at marks j ≡ n → (m ≡ n → ⊥) → i ≡ j → A
 two_marks marks i j m n here there apart same = absurd (apart (sym here ∙ ap (mark_at marks) same ∙ there))
 
@@ -41,11 +41,11 @@ mark_read marks i m inside read = get_or_default marks i New m inside ∙ sym re
 number_read : (xs : List ℕ) (i x : ℕ) → i < length xs → x ≡ get_or xs i x → get_or xs i 0 ≡ x
 number_read xs i x inside read = get_or_default xs i 0 x inside ∙ sym read
 
--- what is marked lies within
+-- a node that is marked is a node of the graph
 pub marked_inside : (marks : List Mark) (i : ℕ) → (mark_at marks i ≡ New → ⊥) → i < length marks
 marked_inside marks i marked = elim (cases_lt i (length marks)) [ inl lt ↦ lt | inr le ↦ absurd (marked (get_or_past marks i New le)) ]
 
--- what is placed stays so where another node, which isn't placed, gets a mark
+-- a placed node stays placed when a node that isn't placed gets a mark
 placed_stays : (marks : List Mark) (to : ℕ) (before after : Mark) → mark_at marks to ≡ before → (before ≡ Placed → ⊥) → (n : ℕ) → IsPlaced marks n → IsPlaced (set marks to after) n
 placed_stays marks to before after is isnt n placed = elim (cases_eq n to) [
   | inl same ↦ two_marks marks to n before Placed is placed isnt (sym same)
@@ -54,14 +54,14 @@ placed_stays marks to before after is isnt n placed = elim (cases_eq n to) [
 
 -- ---- the start
 
--- at first all are new
+-- at first all nodes are new
 new_all : (n i : ℕ) → mark_at (replicate n New) i ≡ New
 new_all n i = elim (cases_lt i n) [
   | inl lt ↦ get_or-replicate n i New New lt
   | inr le ↦ get_or_past (replicate n New) i New (omega (arith, le, length-replicate n New))
 ]
 
--- and none is passed
+-- at first no named node is passed
 zero_all : (n i : ℕ) → ◌≡◌ {A = ℕ} (get_or (replicate {A = ℕ} n 0) i 0) 0
 zero_all n i = elim (cases_lt i n) [
   | inl lt ↦ get_or-replicate n i 0 0 lt
@@ -90,7 +90,7 @@ walk_starts graph n many = record {
 
 -- ---- a node that is met
 
--- one more is met, which the last of the path names
+-- a new node that the last node of the path names is met
 pub walk_meets : (graph : List (List ℕ)) (passed : List ℕ) (marks : List Mark) (path order : List ℕ) (to : ℕ) → IsWalk graph passed marks path order → mark_at marks to ≡ New → to < length graph
     → ((k : ℕ) → k + 1 ≡ length path → Contains (get_or graph (get_or path k 0) []) to) → IsWalk graph passed (set marks to Met) (path ++ to ∷ []) order
 walk_meets graph passed marks path order to w is inside names = record {
@@ -140,7 +140,7 @@ walk_meets graph passed marks path order to w is inside names = record {
 
 -- ---- a node that is placed
 
--- the last of the path, of which all is passed, is placed
+-- the last node of the path is placed when all nodes that it names are passed
 pub walk_places : (graph : List (List ℕ)) (passed : List ℕ) (marks : List Mark) (path front order : List ℕ) (top : ℕ) → IsWalk graph passed marks path order → path ≡ front ++ top ∷ [] → length (get_or graph top []) ≤ get_or passed top 0
     → IsWalk graph passed (set marks top Placed) front (order ++ top ∷ [])
 walk_places graph passed marks path front order top w split all = record {
@@ -210,7 +210,7 @@ walk_places graph passed marks path front order top w split all = record {
 
 -- ---- a cycle
 
--- where the last of the path names a node that was met and isn't placed, all of the path is caught
+-- if the last node of the path names a node that was met and isn't placed, the whole path is caught
 pub walk_stops : (graph : List (List ℕ)) (passed : List ℕ) (marks : List Mark) (path front order : List ℕ) (top to : ℕ) → IsWalk graph passed marks path order → path ≡ front ++ top ∷ [] → Contains (get_or graph top []) to → mark_at marks to ≡ Met
     → IsWalk graph passed marks [] order
 walk_stops graph passed marks path front order top to w split names is = record {
@@ -266,7 +266,7 @@ walk_passes graph passed marks path order i at w inside p = record {
   caught = w.caught;
 }
 
--- where the next node of a row is placed, one more is passed
+-- if the next node of a row is placed, one more is passed
 pub passed_more : (marks : List Mark) (row : List ℕ) (at : ℕ) → IsPassed marks row at → at < length row → IsPlaced marks (get_or row at 0) → IsPassed marks row (at + 1)
 passed_more marks row at p lt placed =
     (omega (arith, lt), subst (All (IsPlaced marks)) (sym (take_more row at 0 lt)) (All-push (IsPlaced marks) (take at row) (get_or row at 0) p.1 placed))
@@ -289,7 +289,7 @@ top_marked graph passed marks path order top w = marked_inside marks top (λ new
 pub top_inside : (graph : List (List ℕ)) (passed : List ℕ) (marks : List Mark) (path order : List ℕ) (top : ℕ) → IsWalk graph passed marks (path ++ top ∷ []) order → top < length graph
 top_inside graph passed marks path order top w = omega (arith, w.marks_many, top_marked graph passed marks path order top w)
 
--- of what the last of a path names, so many are passed as are noted
+-- `passed` says how many of the nodes that the last node of a path names are passed
 pub top_passed : (graph : List (List ℕ)) (passed : List ℕ) (marks : List Mark) (path order : List ℕ) (top n : ℕ) → IsWalk graph passed marks (path ++ top ∷ []) order → n ≡ get_or passed top n → IsPassed marks (get_or graph top []) n
 top_passed graph passed marks path order top n w read =
     subst (IsPassed marks (get_or graph top [])) (number_read passed top n (omega (arith, w.passed_many, top_inside graph passed marks path order top w)) read) (w.passes top)
@@ -314,7 +314,7 @@ top_passes : (graph : List (List ℕ)) (passed : List ℕ) (marks : List Mark) (
     → IsWalk graph (set passed top at) marks (path ++ top ∷ []) order
 top_passes graph passed marks path order top at w p = walk_passes graph passed marks (path ++ top ∷ []) order top at w (top_inside graph passed marks path order top w) p
 
--- where all that it names is passed, it is placed
+-- if all nodes that it names are passed, it is placed
 pub step_places : (graph : List (List ℕ)) (passed : List ℕ) (marks : List Mark) (path order : List ℕ) (top at : ℕ) → IsWalk graph passed marks (path ++ top ∷ []) order → IsPassed marks (get_or graph top []) at
     → length (get_or graph top []) ≤ at → IsWalk graph (set passed top at) (set marks top Placed) path (order ++ top ∷ [])
 step_places graph passed marks path order top at w p all =
@@ -328,7 +328,7 @@ step_meets graph passed marks path order top at to nodes w p names new =
     walk_meets graph (set passed top at) marks (path ++ top ∷ []) order to (top_passes graph passed marks path order top at w p) new (nodes top to names)
     (λ k last. subst (λ (x : ℕ). Names graph x to) (sym (last_of path top k last)) names)
 
--- where it names one that was met, the path is given up
+-- if it names a node that was met, the path is cleared
 pub step_stops : (graph : List (List ℕ)) (passed : List ℕ) (marks : List Mark) (path order : List ℕ) (top at to : ℕ) → IsWalk graph passed marks (path ++ top ∷ []) order → IsPassed marks (get_or graph top []) at
     → Names graph top to → mark_at marks to ≡ Met → IsWalk graph (set passed top at) marks [] order
 step_stops graph passed marks path order top at to w p names met =
@@ -336,27 +336,27 @@ step_stops graph passed marks path order top at to w p names met =
 
 -- ---- how many are new
 
--- a new one that is met
+-- a new node that is met
 pub count_meets : (marks : List Mark) (i : ℕ) → i < length marks → mark_at marks i ≡ New → new_count (set marks i Met) + 1 ≡ new_count marks
 unfolding new_count new_one
 count_meets [] i inside new = absurd (omega (arith, inside))
 count_meets (m ∷ ms) zero inside new = rw new (omega arith)
 count_meets (m ∷ ms) (suc i) inside new = omega (arith, count_meets ms i (omega (arith, inside)) new)
 
--- one that is placed
+-- a node that is placed
 pub count_places : (marks : List Mark) (i : ℕ) → mark_at marks i ≡ Met → new_count (set marks i Placed) ≡ new_count marks
 unfolding new_count new_one
 count_places [] i met = refl
 count_places (m ∷ ms) zero met = rw met refl
 count_places (m ∷ ms) (suc i) met = ap (λ (n : ℕ). new_one m + n) (count_places ms i met)
 
--- the end of a path that is placed
+-- the last node of a path that is placed
 pub count_top : (graph : List (List ℕ)) (passed : List ℕ) (marks : List Mark) (path order : List ℕ) (top : ℕ) → IsWalk graph passed marks (path ++ top ∷ []) order → new_count (set marks top Placed) ≡ new_count marks
 count_top graph passed marks path order top w = count_places marks top (top_met graph passed marks path order top w)
 
 -- ---- marks that stay
 
--- a mark that is set takes none away
+-- setting a mark takes no mark away
 pub set_stays : (marks : List Mark) (i : ℕ) (m : Mark) → i < length marks → (m ≡ New → ⊥) → StayMarked marks (set marks i m)
 set_stays marks i m inside isnt j marked new = elim (cases_eq j i) [
   | inl same ↦ isnt (sym (mark_same marks i m inside) ∙ ap (mark_at (set marks i m)) (sym same) ∙ new)
@@ -369,7 +369,7 @@ walk_from_root graph passed marks order root w new inside = walk_meets graph pas
 
 -- ---- those that are caught
 
--- a mark with one more behind it
+-- marks with one more after them
 mark_push : (marks : List Mark) (m : Mark) (i : ℕ) → mark_at (marks ++ m ∷ []) i ≡ Met → ((i < length marks) × (mark_at marks i ≡ Met)) ⊎ ((i ≡ length marks) × (m ≡ Met))
 mark_push marks m i met = elim (cases_lt i (length marks)) [
   | inl lt ↦ inl (lt, sym (get_or_append_left marks (m ∷ []) New i lt) ∙ met)
@@ -379,11 +379,11 @@ mark_push marks m i met = elim (cases_lt i (length marks)) [
       inr (last, sym (get_or_push marks m New i (sym last)) ∙ met)
 ]
 
--- what was met stays so
+-- a node that was met stays met
 met_push : (marks : List Mark) (m : Mark) (i : ℕ) → mark_at marks i ≡ Met → mark_at (marks ++ m ∷ []) i ≡ Met
 met_push marks m i met = get_or_append_left marks (m ∷ []) New i (marked_inside marks i (λ new. new_met (sym new ∙ met))) ∙ met
 
--- at first there are none
+-- at first no node is caught
 pub none_caught : AreCaught [] []
 none_caught = record {
   rising = λ i j d lt below. absurd (omega (arith, below));
@@ -391,7 +391,7 @@ none_caught = record {
   whole = λ i met. absurd (new_met met);
 }
 
--- one more that was met
+-- one more node, which was met
 pub caught_more : (marks : List Mark) (nodes : List ℕ) (m : Mark) (node : ℕ) → AreCaught marks nodes → m ≡ Met → node ≡ length marks → AreCaught (marks ++ m ∷ []) (nodes ++ node ∷ [])
 caught_more marks nodes m node a is at = record {
   rising = all_pairs_push (λ x y. x < y) nodes node a.rising (λ k d lt.
@@ -406,7 +406,7 @@ caught_more marks nodes m node a is at = record {
   ];
 }
 
--- one more that wasn't
+-- one more node, which wasn't met
 pub caught_other : (marks : List Mark) (nodes : List ℕ) (m : Mark) → AreCaught marks nodes → (m ≡ Met → ⊥) → AreCaught (marks ++ m ∷ []) nodes
 caught_other marks nodes m a isnt = record {
   rising = a.rising;

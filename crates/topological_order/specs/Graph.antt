@@ -6,7 +6,7 @@ use Rattle.std.specs.List.{Contains}
 abbrev pub Names : List (List ℕ) → ℕ → ℕ → Type 0
 Names graph i n = Contains (get_or graph i []) n
 
--- each node names nodes of the graph alone
+-- each node names only nodes of the graph
 abbrev pub NamesNodes : List (List ℕ) → Type 0
 NamesNodes graph = (i n : ℕ) → Names graph i n → n < length graph
 

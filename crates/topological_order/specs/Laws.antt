@@ -8,7 +8,7 @@ use Rattle.topological_order.specs.Cycle.{IsCycleSet}
 abbrev pub OrdersRank : Type 0
 OrdersRank = (graph : List (List ℕ)) (order : List ℕ) → IsOrder graph order → (rank : ℕ → ℕ) × IsRank graph rank
 
--- a graph has one set of nodes that lead into a cycle at most
+-- a graph has at most one set of nodes that lead into a cycle
 abbrev pub OneCycleSet : Type 0
 OneCycleSet = (graph : List (List ℕ)) (nodes others : List ℕ) → IsCycleSet graph nodes → IsCycleSet graph others → nodes ≡ others
 

@@ -22,7 +22,7 @@ IsPassed marks row n = (n ≤ length row) × All (IsPlaced marks) (take n row)
 abbrev pub NamesCaught : List (List ℕ) → List Mark → List ℕ → ℕ → Type 0
 NamesCaught graph marks path i = (n : ℕ) × Names graph i n × (mark_at marks n ≡ Met) × (Contains path n → ⊥)
 
--- a walk along a graph: how many of the nodes that each node names are passed, the marks, the path from where the walk began, and the order of those that are placed
+-- a walk along a graph: for each node how many of the nodes that it names are passed, the marks, the path from where the walk began, and the order of the nodes that are placed
 pub record IsWalk (graph : List (List ℕ)) (passed : List ℕ) (marks : List Mark) (path order : List ℕ) : Type 0 where
   pub passed_many : length passed ≡ length graph
   pub marks_many : length marks ≡ length graph
@@ -42,11 +42,11 @@ pub record AreCaught (marks : List Mark) (nodes : List ℕ) : Type 0 where
   pub met : All (λ n. mark_at marks n ≡ Met) nodes
   pub whole : (i : ℕ) → mark_at marks i ≡ Met → Contains nodes i
 
--- a node that isn't new stays so
+-- a node that isn't new does not become new
 abbrev pub StayMarked : List Mark → List Mark → Type 0
 StayMarked before after = (i : ℕ) → mark_at before i ≢ New → mark_at after i ≢ New
 
--- 1 for a new node, else 0
+-- 1 for a new node, otherwise 0
 unfoldable pub new_one : Mark → ℕ
 new_one New = 1
 new_one Met = 0

@@ -9,11 +9,11 @@ use thiserror::Error;
 /// Why there is no topological order.
 #[derive(Debug, PartialEq, Eq, Drop, Error)]
 pub enum OrderFault<A: Allocator = Global> {
-    /// Each of these nodes, in rising order, names one of them. They are all nodes that lead into
-    /// a cycle.
+    /// These are all nodes that lead into a cycle, in rising order. Each of them names one of
+    /// them.
     #[error("some nodes lead into a cycle")]
     Cycle { nodes: Vec<u32, A> },
-    /// Memory was refused.
+    /// Out of memory.
     #[error("out of memory")]
     Memory,
 }

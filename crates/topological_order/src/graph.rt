@@ -8,8 +8,8 @@ use std::marker::Model;
 
 /// A graph: for each node, the nodes that it names.
 ///
-/// Nodes are numbered from 0, in the order in which they were pushed. There are fewer than 2^32,
-/// and they name fewer than 2^32 together.
+/// Nodes are numbered from 0, in the order in which they were pushed. There are fewer than 2^32
+/// nodes, and together they name fewer than 2^32.
 #[derive(Drop)]
 pub struct Graph<A: Allocator = Global> {
     // what node 0 names, then what node 1 names, and so on
@@ -29,7 +29,7 @@ impl<A: Allocator> Model for Graph<A> {
     ghost invariant = { λ g. Rise 0 g.ends.items (length g.named.items) × (length g.named.items < 2 ^ 32) × (length g.ends.items < 2 ^ 32) };
 }
 
-/// Where the part of a node begins.
+/// Where the part of a node begins in the list of named nodes.
 #[tactic(auto, using(packed_texts::proofs::PackedLaws::first_start, packed_texts::proofs::PackedLaws::next_start))]
 fn start_of(ends: &[u32], node: usize) -> usize
     requires inside { node < length ends.now }
@@ -41,7 +41,7 @@ fn start_of(ends: &[u32], node: usize) -> usize
     }
 }
 
-/// Where the part of a node ends.
+/// Where the part of a node ends in the list of named nodes.
 fn end_of(ends: &[u32], node: usize) -> usize
     requires inside { node < length ends.now }
     ensures { result ≡ get_or ends.now node 0 }
@@ -50,7 +50,7 @@ fn end_of(ends: &[u32], node: usize) -> usize
 }
 
 impl<A: Allocator + Copy> Graph<A> {
-    /// A graph without nodes, and with the space for this many.
+    /// A graph without nodes, with space for `nodes` of them.
     #[tactic(auto, using(crate::proofs::GraphLaws::no_nodes))]
     pub fn with_capacity(alloc: A, nodes: usize) -> Result<Graph<A>, AllocError>
         ensures { IfOk result (λ graph. graph ≡ []) }
@@ -91,7 +91,7 @@ impl<A: Allocator> Graph<A> {
         &self.named[start..end]
     }
 
-    /// Adds a node that names these nodes.
+    /// Appends a node that names these nodes.
     ///
     /// If this runs out of memory, the graph stays as it was.
     #[tactic(auto, using(packed_texts::proofs::PackedLaws::whole, packed_texts::proofs::PackedLaws::length_of_texts, crate::proofs::GraphLaws::row_pushed, crate::proofs::GraphLaws::rise_pushed))]

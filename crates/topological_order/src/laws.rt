@@ -1,7 +1,7 @@
 //! Laws of topological orders and of cycles.
 //!
-//! Each function here does nothing: its contract is the law. A *rank* is a number for each node
-//! that is higher than those of the nodes that it names.
+//! Each function here does nothing: its contract is the law. A *rank* gives each node a number that
+//! is higher than the numbers of the nodes that it names.
 
 ghost use Rattle.topological_order.specs.Laws.{OrdersRank, OneCycleSet, CyclesHaveNoRank};
 

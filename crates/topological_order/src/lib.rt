@@ -1,11 +1,11 @@
 //! Topological orders.
 //!
-//! A [`Graph`] has nodes, numbered from 0, each of which names some nodes. [`topological_order`]
-//! lists all nodes so that each comes after those that it names. There is such an order exactly
-//! where no cycle can be reached. Where one can, [`OrderFault::Cycle`] lists the nodes that lead
-//! into a cycle: the largest set of nodes each of which names one of the set.
+//! A [`Graph`] has nodes, numbered from 0. Each node names some nodes. [`topological_order`] lists
+//! all nodes so that each comes after those that it names. There is such an order exactly where no
+//! node leads into a cycle. Otherwise [`OrderFault::Cycle`] lists the nodes that lead into a cycle.
+//! They are the largest set of nodes in which each node names one of the set.
 //!
-//! The walk keeps its path in a list. It doesn't recurse, and it looks at each name at most twice.
+//! The walk keeps its path in a list. It doesn't recurse, and it reads each name at most twice.
 #![tactic(auto)]
 
 mod fault;

@@ -11,7 +11,7 @@ use crate::graph::Graph;
 use crate::walk::{Mark, walk_all};
 use std::alloc::{AllocError, Allocator};
 
-/// The nodes that were met and aren't placed, in rising order.
+/// The nodes that the walk met and did not place, in rising order.
 fn caught<A: Allocator>(alloc: A, marks: &[Mark]) -> Result<Vec<u32, A>, AllocError>
     requires { length marks.now < 2 ^ 32 }
     ensures { IfOk result (λ nodes. AreCaught marks.now nodes.items) }
@@ -29,9 +29,13 @@ fn caught<A: Allocator>(alloc: A, marks: &[Mark]) -> Result<Vec<u32, A>, AllocEr
 
 /// Lists all nodes, each after those that it names.
 ///
-/// `Cycle` is answered where there is no such order. `Memory` is answered where memory is refused,
-/// which may come before that is known. The time is linear in the number of nodes and of the names.
-/// It takes nine bytes for each node, and a list of the nodes on the path.
+/// The faults:
+///
+/// - `Cycle`: there is no such order.
+/// - `Memory`: out of memory. This may come before it is known whether there is an order.
+///
+/// The time is linear in the number of nodes and of names. This allocates nine bytes for each node,
+/// and a list of the nodes on the path.
 pub fn topological_order<A: Allocator + Copy>(
     alloc: A,
     graph: &Graph<A>,

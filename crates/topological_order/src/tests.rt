@@ -1,5 +1,5 @@
-//! What no clause says: graphs typed by hand, a long chain, refused memory, and the texts of the
-//! faults.
+//! What no contract says: graphs typed by hand, a long chain, running out of memory, and the texts
+//! of the faults.
 
 ghost use Rattle.std.specs.Prelude.{◌≡◌, ◌≤◌, ◌<◌, [], length, IsTrue};
 ghost use Rattle.std.specs.List.{All};
@@ -18,7 +18,7 @@ fn all_below(named: &[u32], end: usize) -> bool
     named.iter().all(|n| (*n as usize) < end)
 }
 
-/// Whether each node names nodes of the graph alone.
+/// Whether each node names only nodes of the graph.
 fn names_nodes<A: Allocator>(graph: &Graph<A>) -> bool
     ensures { IsTrue result → NamesNodes graph.now }
 {
@@ -30,7 +30,7 @@ fn names_nodes<A: Allocator>(graph: &Graph<A>) -> bool
     true
 }
 
-/// Pushes nodes that name these until one is refused, and gives how many were pushed.
+/// Pushes nodes that name these until one is refused. Returns how many were pushed.
 fn push_each<A: Allocator>(rt: &impl Abort, graph: &mut Graph<A>, more: &[&[u32]]) -> usize
     requires empty { graph.old ≡ [] }
     ensures few { result ≤ length more.now }
@@ -79,7 +79,8 @@ fn has_order(rt: &impl Abort, alloc: Global, named: &[&[u32]], order: &[u32]) ->
     }
 }
 
-/// Whether these nodes of the graph whose nodes name those lead into a cycle.
+/// Whether the nodes `cycle` lead into a cycle, in the graph whose nodes name `named`, and no
+/// others do.
 fn has_cycle(rt: &impl Abort, alloc: Global, named: &[&[u32]], cycle: &[u32]) -> bool {
     match graph_of(rt, alloc, named) {
         Ok(graph) => match order_of(rt, alloc, &graph) {

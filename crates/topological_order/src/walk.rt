@@ -16,23 +16,23 @@ pub enum Mark {
     New,
     /// The walk has met it: it is on the path, or it leads into a cycle.
     Met,
-    /// It stands in the order.
+    /// It is in the order.
     Placed,
 }
 
 /// A walk along a graph.
 #[derive(Drop)]
 pub struct Walk<A: Allocator = Global> {
-    // for each node, how many of those that it names are passed: each of them is placed
+    // for each node, how many of the nodes that it names the walk has passed: these are placed
     passed: Vec<u32, A>,
     pub(crate) marks: Vec<Mark, A>,
-    // from the node at which the walk began, each names the next
+    // begins with the node at which the walk began; each node names the next one
     path: Vec<u32, A>,
     pub(crate) order: Vec<u32, A>,
 }
 
-/// The place of the first node of a row that isn't placed, or the length of the row. Those before
-/// `from` are placed.
+/// The position of the first node of a row that isn't placed, or the length of the row. The nodes
+/// before `from` are placed.
 #[tactic(auto, using(crate::proofs::WalkLaws::passed_more))]
 fn first_unplaced(row: &[u32], from: usize, marks: &[Mark]) -> usize
     requires inside { (n : ℕ) → Contains row.now n → n < length marks.now }
@@ -77,8 +77,9 @@ impl<A: Allocator> Walk<A> {
         Ok(())
     }
 
-    /// Goes on from the end of the path, which was taken off it: to a new node that it names, or
-    /// back where all that it names are placed.
+    /// Takes one step from the node `top`, which was just taken off the end of the path: to a new
+    /// node that it names, or back where all nodes that it names are placed. If it names a node
+    /// that leads into a cycle, the path is cleared.
     fn step(&mut self, graph: &Graph<A>, top: u32) -> Result<(), AllocError>
         requires nodes { NamesNodes graph.now }
         requires walk { IsWalk graph.now self.old.passed.items self.old.marks.items (self.old.path.items ++ top ∷ []) self.old.order.items }

@@ -80,7 +80,7 @@ renumbered_names after f r checked few h =
 -- ---- The first records of a longer table
 
 mutual
-  -- a tree that stands among the first records stands there without the others too
+  -- a tree at a position of the first records is also there without the others
   pub stands_within : (r s : List (List ℕ)) (i : ℕ) (t : Tree) → IsRanked r (λ k. k) → i < length r → Stands (r ++ s) i t → Stands r i t
   stands_within r s i (tree b bs) ranked lt h =
       let at : get_or (r ++ s) i [] ≡ get_or r i [] = get_or-append r s [] i lt in
@@ -127,7 +127,7 @@ done_stands records before after grown f done (n ∷ ns) adds few still names = 
   done_stands records before after grown f done ns adds few still names.1,
 )
 
--- the tree of a record stands where its renumbered record stands in the grown table
+-- the tree of a record is where its renumbered record is in the grown table
 row_stands : (records before after grown : List (List ℕ)) (f : ℕ → ℕ) (done : ℕ → Type 0) (i j : ℕ) (t : Tree) → IsChecked (get_or records i []) → Adds records before after f done → length after ≤ 4294963200
     → ((k : ℕ) (u : Tree) → Stands after k u → Stands grown k u) → NamesDone done (references (get_or records i [])) → j < length grown → get_or grown j [] ≡ renumbered f (get_or records i []) → Stands records i t → Stands grown j t
 row_stands records before after grown f done i j t checked adds few still names inside at stands =
@@ -144,7 +144,7 @@ grown_table records before after grown f done r adds few framed checked bytes na
       (rw (renumbered_names after f r checked few placed) (numbers_in after f (references r) placed)) more.1)
 ]
 
--- each tree still stands after the table has grown
+-- each tree stays at its position after the table has grown
 still_stands : (after grown : List (List ℕ)) (y : List ℕ) → Holds after grown y → (k : ℕ) (t : Tree) → Stands after k t → Stands grown k t
 still_stands after grown y holds k t stands = elim holds [ inl same ↦ rw same stands | inr more ↦ rw more.0 (stands_still after (y ∷ []) k t stands) ]
 
@@ -325,7 +325,7 @@ all_added records left before after positions a none =
     let all : a.done ++ left ≡ a.done = ap (λ (xs : List ℕ). a.done ++ xs) none ∙ append-nil a.done in
     adds_all records before after (λ p. get_or positions p 0) (Contains a.done) a.adds (λ k inside. subst (λ (xs : List ℕ). Contains xs k) all (a.order.whole k (omega (arith, inside, many_nodes records))))
 
--- a table that has more bytes than the limit tells the weight of the union
+-- if a table has more bytes than the limit, their number is the weight of the union
 pub too_large : (before types after : List (List ℕ)) (found limit : ℕ) → (l : List Tree) × IsUnion l before types × (weight l ≡ length (concat after)) → found ≡ length (concat after) → limit < found
     → (bytes : ℕ) → JoinFault.TooLarge found ≡ JoinFault.TooLarge bytes → (limit < bytes) × ((l : List Tree) × IsUnion l before types × (weight l ≡ bytes))
 too_large before types after found limit u is more bytes named =

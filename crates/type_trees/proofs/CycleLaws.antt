@@ -25,7 +25,7 @@ pub one_cycle : OneCycle
 one_cycle records indices others a b =
     a.2 ∙ ap (λ (ps : List ℕ). map (λ p. 0x1000 + p) ps) (graph.one_cycle_set (graph_of records) a.0 b.0 a.1 b.1) ∙ sym b.2
 
--- records of which some lead into a cycle have no rank
+-- if some records lead into a cycle, the records have no rank
 pub cycles_have_no_rank : CyclesHaveNoRank
 cycles_have_no_rank records indices rank cycle ranked = ranked_uncaught (graph_of records) cycle.0 rank cycle.1 (ranked_graph records rank ranked)
 
@@ -36,7 +36,7 @@ types_sound records (fault.Ref index place to) types has = not_refused records (
 types_sound records (fault.Cycle indices) types has = cycles_have_no_rank records indices.items types.ranked.0 has.1 types.ranked.1
 types_sound records fault.Memory types has = has
 
--- records that make types are refused for want of memory alone
+-- records that make types are refused only when out of memory
 pub wants_memory : {A : Type 0} (records : List (List ℕ)) (e : TypeFault A) → AreTypes records → IsCycleFault records e → e ≡ fault.Memory
 wants_memory records (fault.Leaf index leaf) types of = absurd of
 wants_memory records (fault.Ref index place to) types of = absurd of

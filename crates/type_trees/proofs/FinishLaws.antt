@@ -38,7 +38,7 @@ table_small r table short = omega (arith, four_each r (λ k inside. (table.good.
 
 -- ---- The positions of a level
 
--- ps are the positions from `from` on at which this depth stands, each once
+-- ps are the positions from `from` on that have this depth, each once
 pub record Collected (depths : List ℕ) (d from : ℕ) (ps : List ℕ) : Type 0 where
   pub within : (k : ℕ) → k < length ps → (get_or ps k 0 < length depths) × (from ≤ get_or ps k 0) × (get_or depths (get_or ps k 0) 0 ≡ d)
   pub all : (j : ℕ) → from ≤ j → j < length depths → get_or depths j 0 ≡ d → Contains ps j
@@ -183,7 +183,7 @@ flip p Greater is greater = absurd cc
 not_less : (q o : Ordering) → is_lt (ordering_then q o) ≡ false → q ≡ Less → ⊥
 not_less q o above less = let e : is_lt (ordering_then Less o) ≡ false = rw less at above in absurd cc
 
--- the text of a pair is not greater, where the pair after it is not less
+-- the text of a pair is not greater than the text of the next pair, if the next pair is not less
 not_greater : (a b : List ℕ) (o : Ordering) → is_lt (ordering_then (slice_cmp nat_cmp b a) o) ≡ false → slice_cmp nat_cmp a b ≢ Greater
 not_greater a b o above greater = not_less (slice_cmp nat_cmp b a) o above (flip (slice_cmp nat_cmp a b) (slice_cmp nat_cmp b a) (nat_list_cmp_total.antisymm a b) greater)
 
@@ -212,7 +212,7 @@ two_maps : {X : Type 0} (g : ℕ → List ℕ) (position : X → ℕ) (xs : List
 two_maps g position [] = refl
 two_maps g position (x ∷ xs) = let e = two_maps g position xs in rw e refl
 
--- rows fit their positions in any order if they do in one
+-- if rows fit their positions in one order, they fit them in any order
 pub moved_rows : {X : Type 0} (bytes : X → List ℕ) (position : X → ℕ) (xs ys : List X) (g : ℕ → List ℕ) → map bytes xs ≡ map g (map position xs) → IsPermutation xs ys → map bytes ys ≡ map g (map position ys)
 moved_rows bytes position xs ys g fit moved =
     all_same bytes (λ x. g (position x)) ys (λ x c. same_all bytes (λ x. g (position x)) xs (fit ∙ two_maps g position xs) x (Contains-permutation ys xs x (IsPermutation-sym xs ys moved) c))
@@ -227,7 +227,7 @@ flips x y = elim (eqb_tells x y) [
   ]
 ]
 
--- positions are those of a level in any order if they are in one
+-- if positions in one order are those of a level, they are in any order
 moved_level : (depths : List ℕ) (d : ℕ) (ps qs : List ℕ) → AtLevel depths d ps → IsPermutation ps qs → AtLevel depths d qs
 moved_level depths d ps qs h moved = record {
   within = λ k inside.

@@ -18,7 +18,7 @@ use Rattle.type_trees.specs.Level.{IsLevel, LevelAdds}
 use Rattle.type_trees.proofs.SameLaws.{position_in-lt-length}
 use Rattle.type_trees.proofs.CanonLaws.{SameBelow, position_in-below, text-below, canon_total, canonical_order-same}
 
--- a deeper tree stands later in canonical order
+-- a deeper tree comes later in canonical order
 pub canonical_order-deeper : (l : List Tree) (x y : Tree) → depth x < depth y → canonical_order l x y ≡ Less
 canonical_order-deeper l x y lt = let e : Less ≡ nat_cmp (depth x) (depth y) = nat_cmp_is (depth x) (depth y) Less lt in rw (← e) refl
 

@@ -122,12 +122,12 @@ positions_few (n ∷ ns) = elim (cases_lt n 0x1000) [
   | inr large ↦ rw (positions_other n ns large) (omega (arith, positions_few ns))
 ]
 
--- places that stand apart are few
+-- there are few places, because they are apart: each has its four bytes
 apart_few : (from : ℕ) (places : List ℕ) (end : ℕ) → Apart from places end → from + 4 * length places ≤ end
 apart_few from [] end apart = omega (arith, apart)
 apart_few from (p ∷ ps) end apart = omega (arith, apart.0, apart_few (p + 4) ps end apart.1)
 
--- a record names no more than it has words
+-- a record has at least four bytes for each record that it names
 pub named_few : (r : List ℕ) → IsChecked r → 4 * length (named_by r) ≤ length r
 unfolding named_by references body_of
 named_few r checked =
@@ -136,7 +136,7 @@ named_few r checked =
     let many : length (references r) ≡ length checked.0 = length-map (places_of r) (reference_at r) ∙ ap length (sym own) in
     omega (arith, positions_few (references r), few, many, length-drop 4 r)
 
--- the bytes of a record and of those behind it
+-- the bytes of a record and of those after it
 pub bytes_left : (records : List (List ℕ)) (k : ℕ) → k < length records → length (concat (drop k records)) ≡ length (get_or records k []) + length (concat (drop (k + 1) records))
 bytes_left records k inside = ap (λ (rs : List (List ℕ)). length (concat rs)) (drop_more records k [] inside) ∙ length-append (get_or records k []) (concat (drop (k + 1) records))
 
@@ -152,7 +152,7 @@ still_short records named row k inside checked is so_far = omega (arith, ap leng
 
 -- ---- Within the records, and ranks
 
--- the nodes name nodes alone, where each reference is simple or names a record
+-- the nodes name only nodes, if each reference is simple or names a record
 pub nodes_inside : (records : List (List ℕ)) → AllNameThere (length records) records → NamesNodes (graph_of records)
 nodes_inside records there i n names =
     let refers = node_refers records i n names in

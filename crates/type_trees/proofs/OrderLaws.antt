@@ -22,11 +22,11 @@ use Rattle.type_trees.proofs.WeightLaws.{sum_grows}
 
 -- ---- What is left
 
--- where numbers are left, the next is the first of them
+-- if numbers are left, the next one is the first of them
 pub left_counted : (next end : ℕ) → next < end → range_with_len next (end - next) ≡ next ∷ range_with_len (next + 1) (end - (next + 1))
 left_counted next end lt = let one : end - next ≡ suc (end - (next + 1)) = omega arith in rw one refl
 
--- where a part of a list is left, the next is the first of it
+-- if a part of a list is left, the next one is the first of that part
 pub left_listed : (list : List ℕ) (next end x : ℕ) → length list ≡ end → next < end → x ≡ get_or list next x → drop next list ≡ x ∷ drop (next + 1) list
 left_listed list next end x many lt read = drop_more list next x (omega (arith, many, lt)) ∙ ap (λ (y : ℕ). y ∷ drop (next + 1) list) (sym read)
 
@@ -35,7 +35,7 @@ pub left_none : (listed : Option (Bor (List ℕ))) (next end : ℕ) → EndsAt l
 left_none None next end ends le = let none : end - next ≡ 0 = omega arith in rw none refl
 left_none (Some list) next end ends le = drop_all next list.now (omega (arith, ends))
 
--- ---- Records that stand in an order
+-- ---- Records that are already in an order
 
 -- the number at place i is i
 number_at : (n i d : ℕ) → i < n → get_or (range_with_len 0 n) i d ≡ i
@@ -45,12 +45,12 @@ number_at n i d lt = omega (arith, get_or-range_with_len 0 n i d lt)
 counted_in : (n i : ℕ) → i < n → Contains (range_with_len 0 n) i
 counted_in n i lt = (i, omega (arith, lt, length-range_with_len 0 n), number_at n i i lt)
 
--- each number below k stands before the place k
+-- each number below k comes before the place k
 front_counted : (n k i : ℕ) → k ≤ n → i < k → Contains (take k (range_with_len 0 n)) i
 front_counted n k i le lt =
     (i, omega (arith, lt, length-take-le k (range_with_len 0 n) (omega (arith, le, length-range_with_len 0 n))), get_or-take k (range_with_len 0 n) i i lt ∙ number_at n i i (omega (arith, lt, le)))
 
--- records that name earlier records alone stand in an order
+-- records that name only earlier records are already in an order
 pub stand_in_order : (records : List (List ℕ)) → IsRanked records (λ i. i) → IsOrder (graph_of records) (range_with_len 0 (length records))
 stand_in_order records ranked = record {
   inside = λ k d lt. let at = number_at n k d (omega (arith, lt, many)) in omega (arith, at, lt, many, many_nodes records);

@@ -1,4 +1,4 @@
--- The texts of a canonical list are good records, and its trees stand there.
+-- The texts of a canonical list are good records, and its trees are at their positions.
 use Rattle.std.proofs.Common.{◌≡◌, ℕ, suc, ◌+◌, ◌-◌, ◌*◌, ◌<◌, ◌≤◌, List, [], ◌∷◌, length, get_or, refl, sym, ap, ◌∙◌, subst, arith, inl, inr}
 use Rattle.std.specs.List.{AllByRecursion, Contains}
 use Rattle.std.proofs.lemmas.List.{length-map, get_or-map}
@@ -19,7 +19,7 @@ use Rattle.type_trees.proofs.TreeLaws.{one}
 blank_framed : (t : Tree) → IsClosed t → IsRecord (blank_of t)
 blank_framed (tree b bs) closed = closed.0
 
--- each tree weighs four bytes or more
+-- each tree weighs at least four bytes
 pub weight-many : (l : List Tree) → ((i : ℕ) → i < length l → IsClosed (get_or l i nothing)) → 4 * length l ≤ weight l
 unfolding weight
 weight-many [] closed = omega arith
@@ -53,7 +53,7 @@ names_lower l i (branch t bs) lt closed lower =
     let less = lower.0 in
     (inr (omega arith, omega arith), names_lower l i bs lt closed.1 lower.1)
 
--- each tree of l stands at its position
+-- each tree of l is at its position
 mutual
   stands_at : (l : List Tree) → Canonical l → (i : ℕ) → i < length l → (t : Tree) → get_or l i nothing ≡ t → Stands (texts l) i t
   stands_at l c i lt (tree b bs) at =

@@ -62,12 +62,12 @@ pub position_in-le-length : (l : List Tree) (t : Tree) → position_in l t ≤ l
 unfolding position_in
 position_in-le-length l t = prefix_len-le-length _ l
 
--- t stands at its position, if that is below the length
+-- t is at its position, if that is below the length
 pub get_or-position_in : (l : List Tree) (t : Tree) → position_in l t < length l → get_or l (position_in l t) nothing ≡ t
 unfolding position_in
 get_or-position_in l t lt = sym (same_tree-true t (get_or l (position_or_len (same_tree t) l) nothing) (passes_at_first (same_tree t) l nothing lt))
 
--- t stands nowhere before its position
+-- t is not before its position
 pub before_position : (l : List Tree) (t : Tree) (k : ℕ) → k < position_in l t → same_tree t (get_or l k nothing) ≡ false
 unfolding position_in
 before_position l t k lt = fails_before_first (same_tree t) l k nothing lt
@@ -91,7 +91,7 @@ position_in-lt-length l t h = elim (cases_lt (position_in l t) (length l)) [
 pub Contains-position_in : (l : List Tree) (t : Tree) → position_in l t < length l → Contains l t
 Contains-position_in l t lt = subst (Contains l) (get_or-position_in l t lt) (Contains-get_or l (position_in l t) nothing lt)
 
--- each of distinct trees has the position at which it stands
+-- if trees are distinct, each has the position at which it is
 pub position_in-get_or : (l : List Tree) (i : ℕ) → AllPairs (λ t u. t ≢ u) l → i < length l → position_in l (get_or l i nothing) ≡ i
 position_in-get_or l i distinct lt =
     position_in-is l (get_or l i nothing) i lt refl (λ k less. differ (get_or l i nothing) (get_or l k nothing) (λ e. distinct k i nothing less lt (sym e)))

@@ -12,7 +12,7 @@ use Rattle.type_trees.specs.Table.{IsTable, renumber_one, renumber, EachNamed, T
 use Rattle.cv_leaves.specs.Checks.{places_of}
 use Rattle.cv_leaves.proofs.FilledLaws.{reference_each, filled_read, filled_blank, fill_blanked, own_fill}
 
--- a tree still stands when more records are added after r
+-- a tree stays at its position when more records are added after r
 mutual
   pub stands_still : StandsStill
   stands_still r s i (tree b bs) h =
@@ -26,7 +26,7 @@ mutual
   branches_still r s ns (simple m bs) h = (h.0, h.1, h.2, h.3, h.4, branches_still r s h.1 bs h.5)
   branches_still r s ns (branch t bs) h = (h.0, h.1, h.2, h.3, stands_still r s (h.0 - 0x1000) t h.4, branches_still r s h.1 bs h.5)
 
--- the branches of a record that are trees stand in r
+-- the branches of a record that are trees are in r
 named_stand : (r : List (List ℕ)) (ns : List ℕ) (bs : Branches) → AreBranches r ns bs → AllByRecursion (IsType r) (trees_in bs)
 named_stand r ns no_branch h = tt
 named_stand r ns (simple m bs) h = named_stand r h.1 bs h.5
@@ -114,7 +114,7 @@ renumbered_stands r s f i j (tree b bs) ok j_in same each h =
     let named : references (get_or s j []) ≡ ns = ap references same ∙ filled_read x ns ok (renumber-each f x) (renumber-small r s f (references x) bs each h.2) in
     (j_in, blanks, subst (λ (y : List ℕ). AreBranches s y bs) (sym named) (renumber-branches r s f (references x) bs each h.2))
 
--- a tree stands at one position of a table at most
+-- a tree is at most at one position of a table
 mutual
   pub table_is_set : TableIsSet
   table_is_set r i j (tree b bs) table h k =

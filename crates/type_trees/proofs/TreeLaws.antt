@@ -1,4 +1,4 @@
--- Exactly one tree stands at each position of records that make types, and it is closed.
+-- There is exactly one tree at each position of records that make types, and it is closed.
 use Rattle.std.proofs.Common.{◌≡◌, ℕ, zero, suc, ◌-◌, ◌<◌, List, [], ◌∷◌, length, get_or, refl, sym, ap, ◌∙◌, subst, arith, inl, inr}
 use Rattle.std.proofs.lemmas.Bool.{cases_lt}
 use Rattle.std.specs.List.{AllByRecursion}
@@ -15,7 +15,7 @@ use Rattle.tpi_records.specs.Records.{IsRecord}
 -- ---- At most one tree
 
 mutual
-  -- two trees that stand at one position are equal
+  -- two trees at the same position are equal
   pub one : (records : List (List ℕ)) (i : ℕ) (t u : Tree) → Stands records i t → Stands records i u → t ≡ u
   one records i (tree b bs) (tree c cs) h k =
       let e : bs ≡ cs = same records (references (get_or records i [])) bs cs h.2 k.2 in
@@ -54,7 +54,7 @@ mutual
 
 -- ---- At least one tree
 
--- references have branches, if a tree stands at each position of lower rank
+-- references have branches, if there is a tree at each position of lower rank
 grown : (records : List (List ℕ)) (rank : ℕ → ℕ) (i : ℕ) (below : (j : ℕ) → j < length records → rank j < rank i → (t : Tree) × Stands records j t) (ns : List ℕ) → AllByRecursion (NamesLower records rank i) ns
     → (bs : Branches) × AreBranches records ns bs
 grown records rank i below [] h = (no_branch, refl)
@@ -68,7 +68,7 @@ grown records rank i below (n ∷ ns) h =
       ]
     ]
 
--- a tree stands at each position of rank below k, by induction on k
+-- there is a tree at each position of rank below k, by induction on k
 some_below : (records : List (List ℕ)) (rank : ℕ → ℕ) (ranked : IsRanked records rank) (k i : ℕ) → rank i < k → i < length records → (t : Tree) × Stands records i t
 some_below records rank ranked zero i lt inside = absurd (omega (arith, lt))
 some_below records rank ranked (suc k) i lt inside =
@@ -76,7 +76,7 @@ some_below records rank ranked (suc k) i lt inside =
     let bs = grown records rank i below (references (get_or records i [])) (ranked i inside) in
     (tree (blanked (get_or records i [])) bs.0, (inside, refl, bs.1))
 
--- a tree stands at each position of records that have a rank
+-- there is a tree at each position of records that have a rank
 pub tree_there : (records : List (List ℕ)) (rank : ℕ → ℕ) (i : ℕ) → IsRanked records rank → i < length records → (t : Tree) × Stands records i t
 tree_there records rank i ranked inside = some_below records rank ranked (suc (rank i)) i (omega arith) inside
 
@@ -95,7 +95,7 @@ branch_each records ns (simple m bs) h = omega (arith, branch_each records h.1 b
 branch_each records ns (branch t bs) h = omega (arith, branch_each records h.1 bs h.5, ap length h.2)
 
 mutual
-  -- a tree that stands in good records is closed
+  -- a tree at a position of good records is closed
   pub standing_is_closed : StandingIsClosed
   standing_is_closed records i (tree b bs) good h =
       let r = get_or records i [] in
@@ -119,7 +119,7 @@ types_good records types = record {
   checked = λ i inside. at_position IsChecked records i types.checked inside;
 }
 
--- exactly one tree stands at each position, and it is closed
+-- there is exactly one tree at each position, and it is closed
 pub one_tree_each : OneTreeEach
 one_tree_each records types i inside =
     let t = tree_there records types.ranked.0 i types.ranked.1 inside in

@@ -31,7 +31,7 @@ weight l = sum_by (λ t. length (blank_of t)) l
 abbrev pub canonical_order : List Tree → Tree → Tree → Ordering
 canonical_order l = then_cmp (on depth nat_cmp) (on (text l) (slice_cmp nat_cmp))
 
--- l is canonical: its trees are closed and distinct, each stands after those that it names, they are in canonical order, and they have fewer than 2^32 bytes together
+-- l is canonical: its trees are closed and distinct, each comes after those that it names, they are in canonical order, and they have fewer than 2^32 bytes together
 pub record Canonical (l : List Tree) : Type 0 where
   pub closed : (i : ℕ) → i < length l → IsClosed (get_or l i nothing)
   pub distinct : AllPairs (λ t u. t ≢ u) l

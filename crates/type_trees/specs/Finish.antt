@@ -14,7 +14,7 @@ pub record Listed (r : List (List ℕ)) (d : ℕ) (out : List (List ℕ)) (f : �
   pub are : out ≡ texts trees
   pub numbers : Numbers r d trees f
 
--- ps are the positions at which this depth stands, each once and in any order
+-- ps are the positions that have this depth, each once and in any order
 pub record AtLevel (depths : List ℕ) (d : ℕ) (ps : List ℕ) : Type 0 where
   pub within : (k : ℕ) → k < length ps → (get_or ps k 0 < length depths) × (get_or depths (get_or ps k 0) 0 ≡ d)
   pub all : (j : ℕ) → j < length depths → get_or depths j 0 ≡ d → Contains ps j

@@ -6,13 +6,13 @@ use Rattle.type_trees.specs.Canon.{text, texts, weight, HoldsBranches, Canonical
 use Rattle.type_trees.specs.Table.{AreGood}
 use Rattle.type_trees.specs.Checked.{AreTypes, IsCycle}
 
--- exactly one tree stands at each position of records that make types, and it is closed
+-- there is exactly one tree at each position of records that make types, and it is closed
 abbrev pub OneTreeEach : Type 0
 OneTreeEach =
     (records : List (List ℕ)) → AreTypes records → (i : ℕ) → i < length records
     → (t : Tree) × IsClosed t × Stands records i t × ((u : Tree) → Stands records i u → t ≡ u)
 
--- each branch that is a tree of a type of records is a type of these records
+-- if a branch of a type of some records is a tree, it is a type of these records
 abbrev pub BranchesAreTypes : Type 0
 BranchesAreTypes = (records : List (List ℕ)) (t : Tree) → IsType records t → AllByRecursion (IsType records) (trees_in (branches_of t))
 
@@ -20,7 +20,7 @@ BranchesAreTypes = (records : List (List ℕ)) (t : Tree) → IsType records t �
 abbrev pub OneCycle : Type 0
 OneCycle = (records : List (List ℕ)) (indices others : List ℕ) → IsCycle records indices → IsCycle records others → indices ≡ others
 
--- records of which some lead into a cycle have no rank
+-- if some records lead into a cycle, the records have no rank
 abbrev pub CyclesHaveNoRank : Type 0
 CyclesHaveNoRank = (records : List (List ℕ)) (indices : List ℕ) (rank : ℕ → ℕ) → IsCycle records indices → IsRanked records rank → ⊥
 
@@ -35,7 +35,7 @@ abbrev pub OneCanonicalList : Type 0
 OneCanonicalList =
     (l m : List Tree) → Canonical l → Canonical m → ((t : Tree) → Contains l t ↔ Contains m t) → l ≡ m
 
--- the texts of l are good records, each names earlier ones, each tree of l stands at its position, and no other tree stands there
+-- the texts of l are good records, each names earlier ones, each tree of l is at its position, and no other tree is there
 pub record ReadsBack (l : List Tree) : Type 0 where
   pub good : AreGood (texts l)
   pub lower : IsRanked (texts l) (λ i. i)
@@ -50,6 +50,6 @@ CanonicalReadsBack = (l : List Tree) → Canonical l → ReadsBack l
 abbrev pub WeightOfTexts : Type 0
 WeightOfTexts = (l : List Tree) → Canonical l → length (concat (texts l)) ≡ weight l
 
--- a list that contains all trees of another weighs at least as much, where the other has each tree once
+-- a list that contains all trees of another one weighs at least as much, if the other one has each tree once
 abbrev pub WeightGrows : Type 0
 WeightGrows = (l m : List Tree) → AllPairs (λ t u. t ≢ u) l → ((t : Tree) → Contains l t → Contains m t) → weight l ≤ weight m

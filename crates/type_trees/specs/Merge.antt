@@ -3,7 +3,7 @@ use Rattle.std.specs.Prelude.{ℕ, ◌≡◌, ◌<◌, ◌≤◌, ◌⊎◌, Lis
 use Rattle.type_trees.specs.Tree.{Tree, Stands, IsType}
 use Rattle.type_trees.specs.Table.{IsTable}
 
--- `after` is a table that begins with `before` and has the types of the records that are done besides, and f gives the position of each of these in it
+-- `after` is a table that begins with `before` and also has the types of the records that are done, and f gives the position of each of these in it
 pub record Adds (records before after : List (List ℕ)) (f : ℕ → ℕ) (done : ℕ → Type 0) : Type 0 where
   pub table : IsTable after
   pub inside : (k : ℕ) → done k → f k < length after

@@ -5,12 +5,12 @@ use Rattle.std.specs.List.{range_with_len}
 use Rattle.type_trees.specs.declared.order.Order.{Order}
 use Rattle.type_trees.specs.declared.order.Order.TheVariants as order
 
--- the positions of so many records in this order
+-- the positions of this number of records, in this order
 abbrev pub order_list : {A : Type 0} → ℕ → Order A → List ℕ
 order_list many order.AsTheyStand = range_with_len 0 many
 order_list many (order.Listed list) = list.items
 
--- the positions from a place of a list on, or all numbers from this one up to the end where there is no list
+-- the positions from an index of the list on; if there is no list, all numbers from this one up to the end
 abbrev pub positions_left : Option (Bor (List ℕ)) → ℕ → ℕ → List ℕ
 positions_left None next end = range_with_len next (end - next)
 positions_left (Some list) next end = drop next list.now

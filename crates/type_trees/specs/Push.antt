@@ -9,7 +9,7 @@ use Rattle.byte_fields.specs.Bytes.{AreBytes}
 use Rattle.type_trees.specs.Table.{IsTable, HoldsBelow}
 use Rattle.type_trees.specs.Rows.{Numbers}
 
--- a table stays a table when a good record is added that isn't there yet and names records of the table alone
+-- a table stays a table when a good record is added that isn't there yet and names only records of the table
 abbrev pub TableGrows : Type 0
 TableGrows =
     (r : List (List ℕ)) (y : List ℕ) → IsTable r → IsRecord y → IsChecked y → AreBytes y

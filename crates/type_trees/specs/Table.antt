@@ -1,4 +1,4 @@
--- Tables: distinct records, each of which names earlier records alone.
+-- Tables: distinct records, each of which names only earlier records.
 use Rattle.std.specs.Prelude.{ℕ, suc, ◌≡◌, ◌≢◌, ◌+◌, ◌-◌, ◌^◌, ◌<◌, ◌≤◌, ◌⊎◌, ◌↔◌, nat_lt, if◌then◌else◌, List, [], ◌∷◌, ◌++◌, length, get_or}
 use Rattle.std.specs.declared.cmp.Ordering.TheVariants.{Less}
 use Rattle.std.specs.Ordering.{nat_cmp}
@@ -17,7 +17,7 @@ pub record AreGood (r : List (List ℕ)) : Type 0 where
   pub framed : (i : ℕ) → i < length r → IsRecord (get_or r i [])
   pub checked : (i : ℕ) → i < length r → IsChecked (get_or r i [])
 
--- r is a table: its records are good, made of bytes and distinct, and each names earlier records alone
+-- r is a table: its records are good, made of bytes and distinct, and each names only earlier records
 pub record IsTable (r : List (List ℕ)) : Type 0 where
   pub good : AreGood r
   pub bytes : (i : ℕ) → i < length r → AreBytes (get_or r i [])
@@ -41,7 +41,7 @@ renumbered f x = filled x (renumber f (references x))
 abbrev pub AreNumbered : List ℕ → List ℕ → Type 0
 AreNumbered numbers ns = AllByRecursion (λ n. (n < 0x1000) ⊎ ((n - 0x1000 < length numbers) × (get_or numbers (n - 0x1000) 0 < 2 ^ 31))) ns
 
--- P holds of each position that ns name and of each tree that stands there
+-- P holds of each position that ns name and of each tree at that position
 abbrev pub EachNamed : List (List ℕ) → (ℕ → Tree → Type 0) → List ℕ → Type 0
 EachNamed r P ns = AllByRecursion (λ n. 0x1000 ≤ n → (u : Tree) → Stands r (n - 0x1000) u → P (n - 0x1000) u) ns
 
@@ -50,19 +50,19 @@ pub record IsUnion (l : List Tree) (r s : List (List ℕ)) : Type 0 where
   pub distinct : AllPairs (λ t u. t ≢ u) l
   pub members : (t : Tree) → Contains l t ↔ (IsType r t ⊎ IsType s t)
 
--- a tree stands at one position of a table at most
+-- a tree is at most at one position of a table
 abbrev pub TableIsSet : Type 0
 TableIsSet = (r : List (List ℕ)) (i j : ℕ) (t : Tree) → IsTable r → Stands r i t → Stands r j t → i ≡ j
 
--- a tree that stands in good records is closed
+-- a tree at a position of good records is closed
 abbrev pub StandingIsClosed : Type 0
 StandingIsClosed = (r : List (List ℕ)) (i : ℕ) (t : Tree) → AreGood r → Stands r i t → IsClosed t
 
--- where a tree stands in r, its branches stand in r too
+-- if a tree is at a position of r, its branches are in r too
 abbrev pub BranchesStand : Type 0
 BranchesStand = (r : List (List ℕ)) (i : ℕ) (t : Tree) → Stands r i t → AllByRecursion (IsType r) (trees_in (branches_of t))
 
--- a renumbered record stands for the same tree, if it names the same trees
+-- a renumbered record has the same tree, if it names the same trees
 abbrev pub RenumberedStands : Type 0
 RenumberedStands =
     (r s : List (List ℕ)) (f : ℕ → ℕ) (i j : ℕ) (t : Tree) → IsChecked (get_or r i []) → j < length s
@@ -77,11 +77,11 @@ RenumberedIsText =
     → EachNamed r (λ k u. f k ≡ position_in l u) (references (get_or r i []))
     → Stands r i t → filled (get_or r i []) (renumber f (references (get_or r i []))) ≡ text l t
 
--- a tree still stands when more records are added after r
+-- a tree stays at its position when more records are added after r
 abbrev pub StandsStill : Type 0
 StandsStill = (r s : List (List ℕ)) (i : ℕ) (t : Tree) → Stands r i t → Stands (r ++ s) i t
 
--- a tree stands at each position of a table
+-- there is a tree at each position of a table
 abbrev pub TreesOfTable : Type 0
 TreesOfTable =
     (r : List (List ℕ)) → IsTable r

@@ -1,4 +1,4 @@
--- Closed trees, and where they stand in a list of records. The record at position i has the type index 0x1000 + i.
+-- Closed trees, and their positions in a list of records. The record at position i has the type index 0x1000 + i.
 use Rattle.std.specs.Prelude.{ℕ, suc, ◌≡◌, ◌-◌, ◌<◌, ◌≤◌, ◌⊎◌, Bool, true, false, ◌&&◌, nat_eq, List, [], ◌∷◌, length, get_or}
 use Rattle.std.specs.List.{AllByRecursion}
 use Rattle.std.specs.Str.{bytes_eq}
@@ -18,7 +18,7 @@ mutual
     simple : ℕ → Branches → Branches
     branch : Tree → Branches → Branches
 
--- what stands where no tree does
+-- a default, for positions that have no tree
 abbrev pub nothing : Tree
 nothing = tree [] no_branch
 
@@ -54,17 +54,17 @@ abbrev mutual
   AreClosed (branch t bs) = IsClosed t × AreClosed bs
 
 abbrev mutual
-  -- at position i of the records stands this tree: the record with zeros at its places, and its branches
+  -- this tree is at position i of the records: it has the record with zeros at its places, and its branches
   pub Stands : List (List ℕ) → ℕ → Tree → Type 0
   Stands records i (tree b bs) = (i < length records) × (blanked (get_or records i []) ≡ b) × AreBranches records (references (get_or records i [])) bs
 
-  -- each reference below 0x1000 is a simple branch, and every other one names a position at which its branch stands
+  -- each reference below 0x1000 is a simple branch, and every other one names a position at which its branch is
   pub AreBranches : List (List ℕ) → List ℕ → Branches → Type 0
   AreBranches records ns no_branch = ns ≡ []
   AreBranches records ns (simple m bs) = (n : ℕ) × (rest : List ℕ) × (ns ≡ n ∷ rest) × (n < 0x1000) × (n ≡ m) × AreBranches records rest bs
   AreBranches records ns (branch t bs) = (n : ℕ) × (rest : List ℕ) × (ns ≡ n ∷ rest) × (0x1000 ≤ n) × Stands records (n - 0x1000) t × AreBranches records rest bs
 
--- the tree is one of the types of these records: it stands at one of their positions
+-- the tree is one of the types of these records: it is at one of their positions
 abbrev pub IsType : List (List ℕ) → Tree → Type 0
 IsType records t = (i : ℕ) × Stands records i t
 

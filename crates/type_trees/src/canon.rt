@@ -20,11 +20,11 @@ use std::marker::Model;
 
 /// The canonical list of a set of types.
 ///
-/// It has each type once. The types stand in the order of their depths, and those of one depth in
+/// It has each type once. The types are in the order of their depths, and those of one depth are in
 /// the order of the bytes of their records. The record at position i has the type index
-/// `0x1000 + i`, and the records name each other by these type indices. So each record names
-/// earlier records alone, and equal sets have equal lists. The records lie one after the other in
-/// one vector, and have fewer than 2^32 bytes together.
+/// `0x1000 + i`, and the records name each other by these type indices. So each record names only
+/// earlier records, and equal sets have equal lists. The records lie one after the other in one
+/// vector, and have fewer than 2^32 bytes together.
 #[derive(Drop)]
 pub struct Canon<A: Allocator = Global> {
     pub(crate) texts: PackedTexts<A>,
@@ -42,7 +42,7 @@ impl<A: Allocator> Model for Canon<A> {
 }
 
 impl<A: Allocator + Copy> Canon<A> {
-    /// The canonical list of no types. It takes no memory.
+    /// The canonical list of no types. This does not allocate.
     #[tactic(auto, using(crate::proofs::CanonTableLaws::no_canon))]
     pub fn empty(alloc: A) -> Canon<A>
         ensures { result ≡ [] }
@@ -54,10 +54,14 @@ impl<A: Allocator + Copy> Canon<A> {
 
     /// Makes the canonical list of the types of this list and of `types`.
     ///
-    /// `TooLarge` is answered where the records of the union have more bytes together than `limit`,
-    /// their length fields included. Each type counts once. `Memory` is answered where memory is
-    /// refused, which may come before or after that. This list stays as it is in any case. Memory is
-    /// taken for the new list; until it is made, also for a table of the union.
+    /// The faults:
+    ///
+    /// - `TooLarge`: the records of the union have more than `limit` bytes together, with their
+    ///   length fields. Each type counts once.
+    /// - `Memory`: out of memory. This may come before or after `TooLarge` is checked.
+    ///
+    /// This list stays as it is in any case. The new list is allocated. While it is made, a table
+    /// of the union is allocated too.
     pub fn join(&self, alloc: A, types: &Types<'_, A>, limit: u32) -> Result<Canon<A>, JoinFault>
         ensures value { IfOk result (λ canon. IsCanonOf canon (λ t. IsType self.now t ⊎ IsType types.now t)) }
         ensures within { IfOk result (λ canon. length (concat canon) ≤ limit) }
@@ -73,7 +77,7 @@ impl<A: Allocator + Copy> Canon<A> {
 }
 
 impl<A: Allocator> Canon<A> {
-    /// How many types there are. It takes no memory.
+    /// How many types there are. This does not allocate.
     pub fn len(&self) -> usize
         ensures value { result ≡ length self.now }
         ensures canon { IsCanon self.now }
@@ -88,10 +92,10 @@ impl<A: Allocator> Canon<A> {
         self.texts.len() == 0
     }
 
-    /// The record at a position, whole: from its length field on, which says how long the record
-    /// is. [`cv_leaves::check`] accepts it.
+    /// The bytes of the record at a position, from 0. `None` where there is no such position.
     ///
-    /// Positions count from 0. The answer is `None` at a position that no record has.
+    /// The record is whole: it begins with its length field, which says how long it is.
+    /// [`cv_leaves::check`] accepts it.
     #[tactic(auto, using(crate::proofs::CanonTableLaws::there))]
     pub fn get(&self, position: usize) -> Option<&[u8]>
         ensures value { option_map (λ r. r.now) result ≡ slice_get self.now position }
@@ -104,21 +108,21 @@ impl<A: Allocator> Canon<A> {
         None
     }
 
-    /// The records in order, each whole: from its length field on. It takes no memory.
+    /// The records in order, each whole: it begins with its length field. This does not allocate.
     pub fn records(&self) -> CanonRecords<'_, A>
         ensures { result ≡ self.now }
     {
         CanonRecords::new(self)
     }
 
-    /// The bytes of all records, one record after the other, their length fields included.
+    /// The bytes of all records, one record after the other, with their length fields.
     pub fn bytes(&self) -> &[u8]
         ensures { result.now ≡ concat self.now }
     {
         self.texts.bytes()
     }
 
-    /// How many bytes the records have together, their length fields included.
+    /// How many bytes the records have together, with their length fields.
     #[tactic(auto, using(crate::proofs::CanonTableLaws::canon_short))]
     pub fn bytes_len(&self) -> u32
         ensures { result ≡ length (concat self.now) }

@@ -1,4 +1,4 @@
-//! Iterating over the records of a canonical list.
+//! The iterator over the records of a canonical list.
 
 ghost use Rattle.std.specs.Prelude.{◌≡◌};
 ghost use Rattle.std.specs.Iterator.{YieldsFirstRef, item_count};
@@ -9,7 +9,7 @@ use std::marker::Model;
 
 /// An iterator over the records of a canonical list, each whole.
 ///
-/// Returned by [`Canon::records`]. It lends the list and takes no memory.
+/// [`Canon::records`] makes it. It borrows the list and does not allocate.
 #[derive(Drop)]
 pub struct CanonRecords<'a, A: Allocator = Global> {
     canon: &'a Canon<A>,

@@ -1,4 +1,4 @@
-//! Why records are no types, and why types are not joined.
+//! Why records are refused as types, and why types are not joined.
 
 ghost use Rattle.std.specs.Prelude.{◌≡◌};
 ghost use Rattle.type_trees.specs.declared.fault.TypeFault.TheVariants.{Memory};
@@ -10,40 +10,40 @@ use std::alloc::{AllocError, AllocFailed, Allocator, Global};
 use std::fmt;
 use thiserror::Error;
 
-/// The first check that a record fails: of its leaf, or of a reference.
+/// The first check that a record fails: a check of its leaf, or of a reference.
 #[derive(Clone, Copy, Debug, PartialEq, Eq)]
 pub enum RecordFault {
     /// The record of this type index has this fault in its leaf.
     Leaf { index: u32, fault: LeafFault },
-    /// At this place of the record of this type index stands a reference that is neither simple
-    /// nor the type index of a record.
+    /// The reference at this place of the record of this type index is neither simple nor the type
+    /// index of a record.
     Ref { index: u32, place: u32, to: u32 },
 }
 
 /// The first check that records fail.
 ///
-/// Records are checked in order: of each first its leaf, then its references in the order of
-/// their places. The check for cycles comes after all of them.
+/// Records are checked in order. The leaf of each is checked first, then its references in the
+/// order of their places. The check for cycles comes after all records.
 #[derive(Debug, PartialEq, Eq, Drop, Error)]
 pub enum TypeFault<A: Allocator = Global> {
     /// The record of this type index has this fault in its leaf.
     #[error("index {index:#x}: {fault}")]
     Leaf { index: u32, fault: LeafFault },
-    /// At this place of the record of this type index stands a reference that is neither simple
-    /// nor the type index of a record.
+    /// The reference at this place of the record of this type index is neither simple nor the type
+    /// index of a record.
     #[error("31 Ref index {index:#x} place {place} to {to:#x}")]
     Ref { index: u32, place: u32, to: u32 },
     /// The records of these type indices, in rising order, lead into a cycle: each of them names
     /// one of them, and no larger set of records has that property.
     #[error(fmt = show_cycle)]
     Cycle { records: Vec<u32, A> },
-    /// The memory for the order, for the cycle or for the depths of the types was refused. Each
-    /// record passed its checks.
+    /// Out of memory for the order, for the cycle or for the depths of the types. Each record
+    /// passed its checks.
     #[error("33 Memory")]
     Memory,
 }
 
-/// Shows the type indices of a cycle, all of them.
+/// Writes the text of a cycle, with all its type indices.
 fn show_cycle<W: fmt::Write, A: Allocator>(
     records: &Vec<u32, A>,
     f: &mut fmt::Formatter<W>,
@@ -87,11 +87,11 @@ impl<T: Drop, A: Allocator> From<AllocFailed<T>> for TypeFault<A> {
 /// A refusal leaves the table or the list as it was.
 #[derive(Clone, Copy, Debug, PartialEq, Eq, Error)]
 pub enum JoinFault {
-    /// The records of all types have this many bytes together, their length fields included. That
-    /// is more than the limit.
+    /// The records of all types have this many bytes together, with their length fields. That is
+    /// more than the limit.
     #[error("32 TooLarge bytes {bytes}")]
     TooLarge { bytes: u64 },
-    /// Memory was refused.
+    /// Out of memory.
     #[error("33 Memory")]
     Memory,
 }

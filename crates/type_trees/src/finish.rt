@@ -1,8 +1,9 @@
 //! The canonical list of a table, which is made level by level.
 //!
-//! A *level* is the records of one depth. The *row* of a record is the record with the type
-//! indices of the canonical list in place of those of the table. The rows of a level are known as
-//! soon as the lower levels have their numbers, which are positions in the canonical list.
+//! A *level* is the records of one depth. The *number* of a record is its position in the canonical
+//! list. The *row* of a record is the record with the type indices of the canonical list in place
+//! of those of the table. The rows of a level are known as soon as the records of the lower levels
+//! have their numbers.
 
 ghost use Rattle.std.specs.Prelude.{◌≡◌, ◌≢◌, ◌⊎◌, ◌↔◌, ◌+◌, ◌-◌, ◌%◌, ◌^◌, ◌<◌, ◌≤◌, ◌++◌, [], ◌∷◌, ℕ, List, length, get_or, map, take, drop, IfOk, IfErr};
 ghost use Rattle.std.specs.List.{AllByRecursion, Contains, concat};
@@ -49,7 +50,7 @@ fn depths_of<S: BuildHasher, A: Allocator + Copy>(
     Ok((depths, levels))
 }
 
-/// Adds the row of a record after the other rows.
+/// Appends the row of a record to the other rows.
 #[tactic(auto, using(crate::proofs::AddLaws::padded_record, crate::proofs::AddLaws::renumbered_long))]
 fn push_row<A: Allocator>(
     rows: &mut PackedTexts<A>,
@@ -69,7 +70,7 @@ fn push_row<A: Allocator>(
     rows.push(copy)
 }
 
-/// The rows of a level in any order, and the position in the table of the record of each.
+/// The rows of a level in any order, and for each the position of its record in the table.
 fn collect<S: BuildHasher, A: Allocator + Copy>(
     alloc: A,
     table: &TextSet<S, A>,
@@ -114,7 +115,7 @@ fn paired<'a, A: Allocator + Copy>(
     Ok(pairs)
 }
 
-/// Adds the rows after the list.
+/// Appends the rows to the list.
 fn append_rows<A: Allocator>(
     order: &[(&[u8], u32)],
     out: &mut PackedTexts<A>,
@@ -129,7 +130,7 @@ fn append_rows<A: Allocator>(
     Ok(())
 }
 
-/// Gives the records of the rows the numbers from `first` on, in order.
+/// Numbers the records of the rows in order, from `first` on.
 fn number_rows(order: &[(&[u8], u32)], first: usize, numbers: &mut [u32])
     requires within { (k : ℕ) → k < length order.now → get_or (map (λ p. p.1) order.now) k 0 < length numbers.old }
     requires few { first + length order.now < 2 ^ 31 }
@@ -174,7 +175,7 @@ fn zeros<A: Allocator>(alloc: A, count: usize) -> Result<Vec<u32, A>, AllocError
     Ok(numbers)
 }
 
-/// Adds the next level after the list, and numbers its records.
+/// Appends the next level to the list, and numbers its records.
 fn list_level<S: BuildHasher, A: Allocator + Copy>(
     alloc: A,
     table: &TextSet<S, A>,

@@ -12,7 +12,7 @@ use std::alloc::{AllocError, Allocator};
 use topological_order::Graph;
 use tpi_records::Records;
 
-/// Lists the positions of the records that a record names, in place of what the list holds.
+/// Replaces the contents of the list with the positions of the records that a record names.
 fn list_named<A: Allocator>(named: &mut Vec<u32, A>, bytes: &[u8]) -> Result<(), AllocError>
     requires framed { IsRecord bytes.now }
     requires checked { IsChecked bytes.now }
@@ -35,7 +35,7 @@ pub fn graph_of<A: Allocator + Copy>(
     requires { AllByRecursion IsChecked records.now }
     ensures { IfOk result (λ graph. graph ≡ graph_of records.now) }
 {
-    // The proof learns here that all records have fewer than 2^32 bytes.
+    // This call tells the proof that all records have fewer than 2^32 bytes.
     let _ = records.bytes_len();
     let mut graph = Graph::with_capacity(alloc, records.len())?;
     let mut named = Vec::new(alloc);

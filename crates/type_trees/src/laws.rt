@@ -21,13 +21,12 @@ pub fn one_cycle()
     ensures { OneCycle }
 {}
 
-/// Records of which some lead into a cycle have no rank that makes each of them higher than those
-/// that it names.
+/// If some records lead into a cycle, no rank makes each record higher than those that it names.
 pub fn cycles_have_no_rank()
     ensures { CyclesHaveNoRank }
 {}
 
-/// Two trees with equal texts are equal, where the list holds their branches.
+/// Two trees with equal texts are equal, if the list holds their branches.
 pub fn texts_differ()
     ensures { TextsDiffer }
 {}
@@ -43,13 +42,13 @@ pub fn canonical_reads_back()
     ensures { CanonicalReadsBack }
 {}
 
-/// The weight of a canonical list is how many bytes its texts have together.
+/// The weight of a canonical list is the number of bytes that its texts have together.
 pub fn weight_of_texts()
     ensures { WeightOfTexts }
 {}
 
-/// A list that contains all trees of another weighs at least as much, where the other has each
-/// tree once.
+/// A list that contains all trees of another one weighs at least as much, if the other one has
+/// each tree once.
 pub fn weight_grows()
     ensures { WeightGrows }
 {}

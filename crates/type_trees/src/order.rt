@@ -19,7 +19,7 @@ use std::marker::Model;
 use topological_order::{OrderFault, topological_order};
 use tpi_records::Records;
 
-/// The record at a position, whole: from its length field on.
+/// The bytes of the record at a position. The record is whole: it begins with its length field.
 pub fn record_at<'a, A: Allocator>(records: &Records<'a, A>, position: usize) -> &'a [u8]
     requires { position < length records.now }
     ensures value { result.now ≡ get_or records.now position [] }
@@ -34,14 +34,14 @@ pub fn record_at<'a, A: Allocator>(records: &Records<'a, A>, position: usize) ->
 /// An order of records in which each comes after those that it names.
 #[derive(Drop)]
 pub enum Order<A: Allocator = Global> {
-    /// The order in which they stand.
+    /// The order of the records themselves.
     AsTheyStand,
     /// The order of these positions.
     Listed(Vec<u32, A>),
 }
 
 impl<A: Allocator> Order<A> {
-    /// The positions of so many records in this order.
+    /// The positions of `len` records in this order.
     pub fn positions(&self, len: usize) -> InOrder<'_>
         ensures { result ≡ order_list len self.now }
     {
@@ -60,7 +60,7 @@ impl<A: Allocator> Order<A> {
     }
 }
 
-/// Puts the type index of each record in the place of its position.
+/// Replaces each position with the type index of the record there.
 fn to_indices(positions: &mut [u32])
     requires { All (λ p. p < 2 ^ 30) positions.old }
     ensures { positions.new ≡ map (λ p. 0x1000 + p) positions.old }
@@ -70,8 +70,8 @@ fn to_indices(positions: &mut [u32])
     }
 }
 
-/// Puts records in order. Where `lower` says that each record names earlier ones alone, that takes
-/// neither time nor memory.
+/// Puts records in order. Where `lower` says that each record names only earlier ones, this takes
+/// no time and does not allocate.
 pub fn arrange<A: Allocator + Copy>(
     alloc: A,
     records: &Records<'_, A>,
@@ -86,7 +86,7 @@ pub fn arrange<A: Allocator + Copy>(
     if lower {
         return Ok(Order::AsTheyStand);
     }
-    // The proof learns here that there are fewer than 2^30 records.
+    // This call tells the proof that there are fewer than 2^30 records.
     let _ = records.len();
     let graph = graph_of(alloc, records)?;
     match topological_order(alloc, &graph) {
@@ -101,10 +101,10 @@ pub fn arrange<A: Allocator + Copy>(
 
 /// The positions of records, each after those of the records that it names.
 ///
-/// Returned by [`Types::in_order`](crate::Types::in_order). It takes no memory.
+/// [`Types::in_order`](crate::Types::in_order) makes it. It does not allocate.
 #[derive(Drop)]
 pub struct InOrder<'t> {
-    // the positions in this order, or nothing where the records stand in it
+    // the positions in this order, or `None` where the records are already in order
     listed: Option<&'t [u32]>,
     next: usize,
     end: usize,

@@ -24,15 +24,15 @@ use std::hash::BuildHasher;
 use std::marker::Model;
 use text_set::TextSet;
 
-/// Each number of a `&[u8]` is a byte. The function does nothing: its contract is the fact.
+/// Each number of a `&[u8]` is a byte. This function does nothing: its contract is the fact.
 fn are_bytes(text: &[u8])
     ensures { AreBytes text.now }
 {}
 
-/// Puts a record into the set, and answers its position there.
+/// Puts a record into the set, and returns its position there.
 ///
-/// `positions` gives the position in the set for each record that it names. `last` is where the
-/// record before it stands.
+/// `positions` has the position in the set of each record that it names. `last` is the position of
+/// the record that was put there before it.
 #[tactic(auto, using(crate::proofs::AddLaws::padded_record, crate::proofs::AddLaws::long_record, crate::proofs::AddLaws::renumbered_long))]
 fn add_record<S: BuildHasher, A: Allocator>(
     texts: &mut TextSet<S, A>,
@@ -53,7 +53,7 @@ fn add_record<S: BuildHasher, A: Allocator>(
 {
     copy.clear();
     let copied = copy.extend_from_slice(bytes);
-    // The proof learns here that there are few texts.
+    // This call tells the proof that there are few texts.
     let _ = texts.len();
     copied?;
     renumber(bytes, positions, copy);
@@ -63,7 +63,7 @@ fn add_record<S: BuildHasher, A: Allocator>(
     position
 }
 
-/// Puts all types into the set. Some of them stay there where memory is refused.
+/// Puts all types into the set. If this runs out of memory, some of them stay there.
 fn add_all<S: BuildHasher, A: Allocator + Copy>(
     alloc: A,
     texts: &mut TextSet<S, A>,
@@ -76,7 +76,7 @@ fn add_all<S: BuildHasher, A: Allocator + Copy>(
 {
     let mut positions = vec![in alloc; 0u32; types.len()]?;
     let mut copy = Vec::new(alloc);
-    // The proof learns here that all types have fewer than 2^32 bytes.
+    // This call tells the proof that all types have fewer than 2^32 bytes.
     let _ = types.bytes_len();
     let mut last = 0;
     for position in types.in_order() {
@@ -89,8 +89,8 @@ fn add_all<S: BuildHasher, A: Allocator + Copy>(
 
 /// A set of types, each once, in the order in which they came.
 ///
-/// With a type the table holds each type that it names. The records have fewer than 2^32 bytes
-/// together.
+/// If the table holds a type, it holds each type that this one names. The records have fewer than
+/// 2^32 bytes together.
 #[derive(Drop)]
 pub struct Table<S: BuildHasher, A: Allocator = Global> {
     texts: TextSet<S, A>,
@@ -109,7 +109,7 @@ impl<S: BuildHasher, A: Allocator> Model for Table<S, A> {
 }
 
 impl<S: BuildHasher, A: Allocator + Copy> Table<S, A> {
-    /// A table of no types. It takes no memory.
+    /// A table of no types. This does not allocate.
     #[tactic(auto, using(crate::proofs::PushLaws::no_table))]
     pub fn with_hasher(alloc: A, hasher: S) -> Table<S, A>
         ensures { result ≡ [] }
@@ -121,10 +121,14 @@ impl<S: BuildHasher, A: Allocator + Copy> Table<S, A> {
 
     /// Adds types to the table.
     ///
-    /// `Memory` is answered where memory is refused. Else `TooLarge` is answered where the records
-    /// of the union have more bytes together than `limit`, their length fields included. Each type
-    /// counts once. After either fault the table holds the types that it held before. The table
-    /// takes memory for the records that are new, and keeps it after a fault too.
+    /// The faults, in the order in which they are checked:
+    ///
+    /// 1. `Memory`: out of memory.
+    /// 2. `TooLarge`: the records of the union have more than `limit` bytes together, with their
+    ///    length fields. Each type counts once.
+    ///
+    /// After either fault the table holds the types that it held before. The table allocates space
+    /// for the new records, and keeps it after a fault too.
     pub fn add(&mut self, alloc: A, types: &Types<'_, A>, limit: u32) -> Result<(), JoinFault>
         ensures value { IfOk result (λ _. (t : Tree) → IsType self.new t ↔ (IsType self.old t ⊎ IsType types.now t)) }
         ensures within { IfOk result (λ _. (l : List Tree) × IsUnion l self.old types.now × (weight l ≤ limit)) }
@@ -169,9 +173,9 @@ impl<S: BuildHasher, A: Allocator + Copy> Table<S, A> {
 
     /// Makes the canonical list of the types.
     ///
-    /// The only fault is `Memory`. The table stays as it is in any case. Memory is taken for the
-    /// list; until it is made, also for the depth and the number of each type and for the rows of
-    /// one level. Nothing recurses along references.
+    /// The only fault is `Memory`. The table stays as it is in any case. This allocates the list.
+    /// While the list is made, the depth and the number of each type and the rows of one level are
+    /// allocated too. Nothing recurses along references.
     pub fn finish(&self, alloc: A) -> Result<Canon<A>, JoinFault>
         ensures value { IfOk result (λ canon. IsCanonOf canon (IsType self.now)) }
         ensures bytes { IfOk result (λ canon. length (concat canon) ≡ length (concat self.now)) }

@@ -22,8 +22,8 @@ use tpi_records::Records;
 /// The type records of a file. Each is whole and has places, and no record leads into a cycle of
 /// references.
 ///
-/// Returned by [`Types::check`]. It keeps the records and four bytes for each, its depth. Where a
-/// record names a later one it keeps four more bytes for each, their order.
+/// [`Types::check`] makes it. It keeps the records, and four bytes for each: its depth. Where a
+/// record names a later one, it keeps four more bytes for each: their order.
 #[derive(Drop)]
 pub struct Types<'a, A: Allocator = Global> {
     records: Records<'a, A>,
@@ -47,7 +47,7 @@ impl<'a, A: Allocator> Model for Types<'a, A> {
     ghost invariant = { λ t. AreTypes t.records × IsOrder (graph_of t.records) (order_list (length t.records) t.order) × (length t.depths.items ≡ length t.records) × AreDepths t.records t.depths.items × HasLevels t.records t.levels };
 }
 
-/// Checks all records, in order, and tells whether each names earlier records alone.
+/// Checks all records, in order. Returns whether each names only earlier records.
 fn check_all<A: Allocator>(records: &Records<'_, A>) -> Result<bool, RecordFault>
     ensures framed { AllByRecursion IsRecord records.now }
     ensures first { Makes result (checks_of records.now) }
@@ -67,21 +67,25 @@ fn check_all<A: Allocator>(records: &Records<'_, A>) -> Result<bool, RecordFault
 impl<'a, A: Allocator + Copy> Types<'a, A> {
     /// Checks that records are types.
     ///
-    /// The records are checked in order, of each its leaf, then its references in the order of
-    /// their places: one of 0x1000 or more has to be the type index of a record. After all of them
-    /// the records are put in an order in which each comes after those that it names. Where there
-    /// is no such order, `Cycle` names the records that lead into a cycle.
+    /// The records are checked in order. The leaf of each is checked first, then its references in
+    /// the order of their places. The check for cycles comes after all records. The faults:
     ///
-    /// Each record is checked before any memory is asked for, and `Memory` is answered only where
-    /// all of them pass. The records are given up on a refusal; the stream that they are lent from
-    /// is untouched. Where each record names earlier ones alone, it reserves four bytes for each,
-    /// at once. Else the search for an order takes about 20 more for each record and 4 for each
-    /// reference, and time in proportion to both.
+    /// - `Leaf`: a record has a fault in its leaf.
+    /// - `Ref`: a reference of 0x1000 or more is not the type index of a record.
+    /// - `Cycle`: there is no order in which each record comes after those that it names. The fault
+    ///   has the type indices of the records that lead into a cycle.
+    /// - `Memory`: out of memory. Each record passed its checks.
+    ///
+    /// All records are checked before anything is allocated. A refusal drops the records, and the
+    /// stream that they are lent from stays as it was. Where each record names only earlier ones,
+    /// this allocates four bytes for each, at once. Otherwise the search for an order allocates
+    /// about 20 more bytes for each record and 4 for each reference, and it takes time in
+    /// proportion to both.
     pub fn check(alloc: A, records: Records<'a, A>) -> Result<Types<'a, A>, TypeFault<A>>
         ensures value { IfOk result (λ types. (types ≡ records.entry) × AreTypes records.entry) }
-        // Records that make types are refused only where memory is.
+        // Records that make types are refused only when out of memory.
         ensures found { AreTypes records.entry → IfErr result (λ fault. fault ≡ TypeFault.Memory) }
-        // `Memory` is answered only where no check of a record fails.
+        // `Memory` is returned only where no check of a record fails.
         ensures first { IfErr result (IsTypeFault records.entry) }
     {
         let lower = check_all(&records)?;
@@ -101,7 +105,7 @@ impl<'a, A: Allocator> Types<'a, A> {
     pub fn len(&self) -> usize
         ensures value { result ≡ length self.now }
         ensures types { AreTypes self.now }
-        // The type index of each fits a u32.
+        // The type index of each fits in a u32.
         ensures few { result < 2 ^ 30 }
     {
         self.records.len()
@@ -114,10 +118,10 @@ impl<'a, A: Allocator> Types<'a, A> {
         self.records.is_empty()
     }
 
-    /// The record at a position, whole: from its length field on, which says how long the record
-    /// is. [`cv_leaves::check`] accepts it.
+    /// The bytes of the record at the position `i`, from 0. `None` where there is no such position.
     ///
-    /// Positions count from 0. The answer is `None` at a position that no record has.
+    /// The record is whole: it begins with its length field, which says how long it is.
+    /// [`cv_leaves::check`] accepts it.
     pub fn get(&self, i: usize) -> Option<&'a [u8]>
         ensures value { option_map (λ r. r.now) result ≡ slice_get self.now i }
         ensures framed { IfSome result (λ r. IsRecord r.now) }
@@ -128,7 +132,7 @@ impl<'a, A: Allocator> Types<'a, A> {
 
     /// The positions of all types, each after those of the types that it names.
     ///
-    /// It takes no memory.
+    /// This does not allocate.
     pub fn in_order(&self) -> InOrder<'_>
         ensures types { AreTypes self.now }
         ensures order { IsOrder (graph_of self.now) result }
@@ -143,8 +147,9 @@ impl<'a, A: Allocator> Types<'a, A> {
         &self.records
     }
 
-    /// How deep the type at a position is: 0 where it names simple types alone, else one more than
-    /// the deepest that it names.
+    /// The depth of the type at the position `i`, from 0: 0 where it names only simple types,
+    /// otherwise one more than the depth of the deepest type that it names. `None` where there is
+    /// no such position.
     pub fn depth(&self, i: usize) -> Option<u32>
         ensures value { IfSome result (λ d. (i < length self.now) × ((t : Tree) → Stands self.now i t → d ≡ depth t)) }
         ensures none { IfNone result (length self.now ≤ i) }
@@ -152,14 +157,15 @@ impl<'a, A: Allocator> Types<'a, A> {
         self.depths.get(i).copied()
     }
 
-    /// How many levels the types have: the greatest depth and one, or 0 where there is none.
+    /// How many levels the types have: one more than the greatest depth, or 0 where there are no
+    /// types.
     pub fn levels(&self) -> u32
         ensures { HasLevels self.now result }
     {
         self.levels
     }
 
-    /// How many bytes the records have together, their length fields included.
+    /// How many bytes the records have together, with their length fields.
     pub fn bytes_len(&self) -> u32
         ensures { result ≡ length (concat self.now) }
     {

@@ -32,7 +32,7 @@ fn procedures(alloc: Global, named: &[(u32, u32)]) -> Result<Vec<u8>, Fail> {
     stream_of(alloc, u32::try_from(named.len()).unwrap_or(0), &records)
 }
 
-/// A TPI stream of so many records. Each is a pointer to the next one, and the last is a modifier.
+/// A TPI stream of `many` records. Each is a pointer to the next one, and the last is a modifier.
 fn forward_chain(alloc: Global, many: u32) -> Result<Vec<u8>, Fail> {
     let mut records = Vec::with_capacity(alloc, 12 * many as usize)?;
     for next in 1..many {
@@ -42,7 +42,7 @@ fn forward_chain(alloc: Global, many: u32) -> Result<Vec<u8>, Fail> {
     stream_of(alloc, many, &records)
 }
 
-/// The records of the forward chain turned round: a modifier, and then pointers, each to the record
+/// The records of the forward chain in reverse: a modifier, and then pointers, each to the record
 /// before it.
 fn chain_back(alloc: Global, many: u32) -> Result<Vec<u8>, Fail> {
     let mut records = Vec::with_capacity(alloc, 12 * many as usize)?;
@@ -155,7 +155,7 @@ fn a_long_tail_before_a_cycle(rt: HostRuntime) -> Result<(), Fail> {
     }
     // the last record names the one before it
     records.extend_from_slice(&pointer(0x13E6))?;
-    // a record beside them
+    // a record outside the cycle
     records.extend_from_slice(&MODIFIER)?;
     let stream = stream_of(rt.alloc(), 1001, &records)?;
     let cycle = cycle_of(rt.alloc(), &stream)?;

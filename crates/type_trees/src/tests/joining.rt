@@ -1,4 +1,5 @@
-//! Tables and canonical lists of records typed by hand: their order, limits and refused memory.
+//! Tables and canonical lists of records typed by hand: their order, limits, and running out of
+//! memory.
 
 use super::stream_of;
 use crate::{Canon, JoinFault, Table, Types};
@@ -39,13 +40,13 @@ const MEMBER_OF_SECOND: &[u8] = &[
 /// A field list.
 const LIST: &[u8] = &[10, 0, 0x03, 0x12, 0x02, 0x15, 3, 0, 0, 0, 0x41, 0];
 
-/// A field list that goes on in the type 0x1000.
+/// A field list that continues in the type 0x1000.
 const LIST_BEFORE_FIRST: &[u8] = &[
     22, 0, 0x03, 0x12, 0x02, 0x15, 3, 0, 1, 0, 0x41, 0x42, 0x43, 0, 0xF2, 0xF1, 0x04, 0x14, 0, 0,
     0, 0x10, 0, 0,
 ];
 
-/// A field list that goes on in the type 0x1001.
+/// A field list that continues in the type 0x1001.
 const LIST_BEFORE_SECOND: &[u8] = &[
     22, 0, 0x03, 0x12, 0x02, 0x15, 3, 0, 1, 0, 0x41, 0x42, 0x43, 0, 0xF2, 0xF1, 0x04, 0x14, 0, 0,
     1, 0x10, 0, 0,
@@ -82,12 +83,12 @@ fn types_of<'a, A: Allocator + Copy>(alloc: A, stream: &'a [u8]) -> Result<Types
     Ok(types.ok().ok_or("the records are refused")?)
 }
 
-/// The hasher that a caller takes if it has no other.
+/// The hasher that a caller uses if it has no other.
 pub(super) fn folding() -> BuildHasherDefault<FoldHasher> {
     BuildHasherDefault::new()
 }
 
-/// A hasher with the same number for every text.
+/// A hasher that returns the same number for every text.
 #[derive(Clone, Copy)]
 struct Constant;
 
@@ -210,7 +211,7 @@ const ROWS: [Row; 10] = [
     ),
 ];
 
-/// Whether the methods of the list all tell these records.
+/// Whether all methods of the list agree that it has these records.
 fn is_list(canon: &Canon, want: &[&[u8]]) -> bool {
     let mut records = canon.records();
     for (position, record) in want.iter().enumerate() {
@@ -256,22 +257,22 @@ fn each_type_once_in_canonical_order(rt: HostRuntime) -> Result<(), Fail> {
     Ok(())
 }
 
-/// How many bytes the heap of a test with refused memory has.
+/// How many bytes the heap has in a test that runs out of memory.
 const HEAP: usize = 4096;
 
-/// What a call answers while some memory is taken, and the bytes of two lists: the one that the
+/// What a call returns while some memory is taken, and the bytes of two lists: the one that the
 /// table or the list gives after that, and the one that it gives after the same call with ample
 /// memory.
 type Answer = (Result<(), JoinFault>, Vec<u8>, Vec<u8>);
 
-/// The bytes of a list in other memory.
+/// The bytes of a list, copied into other memory.
 fn copied<A: Allocator>(alloc: Global, canon: &Canon<A>) -> Result<Vec<u8>, Fail> {
     let mut bytes = Vec::new(alloc);
     bytes.extend_from_slice(canon.bytes())?;
     Ok(bytes)
 }
 
-/// Adds the types of a second stream to those of a first at this limit, while so many bytes of the
+/// Adds the types of a second stream to those of a first at this limit, while some bytes of the
 /// heap are taken.
 fn add_beside<A: Allocator + Copy>(
     heap: A,
@@ -292,8 +293,8 @@ fn add_beside<A: Allocator + Copy>(
     Ok((answer, after, copied(alloc, &table.finish(heap)?)?))
 }
 
-/// Joins a list with the types of a second stream at this limit, while so many bytes of the heap
-/// are taken.
+/// Joins a list with the types of a second stream at this limit, while some bytes of the heap are
+/// taken.
 fn join_beside<A: Allocator + Copy>(
     heap: A,
     taken: usize,
@@ -315,8 +316,8 @@ fn join_beside<A: Allocator + Copy>(
     Ok((answer, after, copied(alloc, &end)?))
 }
 
-/// Makes the list of two streams, while so many bytes of the heap are taken. After a refusal the
-/// first of the two lists in the answer is that of the first stream.
+/// Makes the list of two streams, while some bytes of the heap are taken. After a refusal the first
+/// of the two lists in the answer is that of the first stream.
 fn finish_beside<A: Allocator + Copy>(
     heap: A,
     taken: usize,
@@ -338,7 +339,7 @@ fn finish_beside<A: Allocator + Copy>(
     Ok((answer, after, copied(alloc, &table.finish(heap)?)?))
 }
 
-/// A call that takes memory.
+/// A call that allocates.
 #[derive(Clone, Copy)]
 enum Call {
     Add,
@@ -346,7 +347,7 @@ enum Call {
     Finish,
 }
 
-/// What this call answers while so many bytes of a heap are taken.
+/// What this call returns while some bytes of a heap are taken.
 fn beside(
     call: Call,
     alloc: Global,
