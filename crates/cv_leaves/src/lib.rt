@@ -45,8 +45,6 @@ mod padding;
 mod part;
 mod place;
 mod reference;
-#[cfg(test)]
-mod tests;
 mod walk;
 
 pub use checks::{check, kind_of};

@@ -10,9 +10,6 @@ ghost use Rattle.std.specs.Prelude.{◌≡◌, ◌≢◌, ◌+◌, ◌-◌, ◌^
 ghost use Rattle.indexmap.specs.IndexMap.{get, ContainsKey};
 ghost use Rattle.key_chains.specs.Chains.{IsNewest, NoneFrom};
 
-#[cfg(test)]
-mod tests;
-
 use indexmap::IndexMap;
 use std::alloc::{AllocError, Allocator, Global};
 use std::hash::{BuildHasherDefault, FoldHasher};

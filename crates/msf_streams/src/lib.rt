@@ -40,8 +40,6 @@ pub mod laws;
 mod map_block;
 mod put;
 mod streams;
-#[cfg(test)]
-mod tests;
 mod write;
 
 pub use fault::{StreamFault, WriteFault};

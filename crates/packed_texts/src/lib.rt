@@ -8,9 +8,6 @@
 ghost use Rattle.std.specs.Prelude.{◌≡◌, ◌+◌, ◌-◌, ◌*◌, ◌%◌, ◌^◌, ◌<◌, ◌≤◌, ◌++◌, ◌↔◌, [], ◌∷◌, ℕ, length, get_or, take, IsTrue, IfOk, IfErr};
 ghost use Rattle.std.specs.List.{concat};
 
-#[cfg(test)]
-mod tests;
-
 use std::alloc::{AllocError, Allocator, Global};
 use std::marker::Model;
 

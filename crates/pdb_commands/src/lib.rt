@@ -24,8 +24,6 @@ mod record;
 mod records;
 mod show;
 mod streams;
-#[cfg(test)]
-mod tests;
 mod text;
 mod types;
 

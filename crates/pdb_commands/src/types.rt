@@ -17,7 +17,6 @@ use crate::fault::RunFault;
 use crate::records::FIRST_INDEX;
 use crate::show::{Show, run};
 use crate::text::{push_index, push_quoted};
-use byte_fields::u16_at;
 use cv_leaves::{check, kind_of, leaf_text, places, ref_at, type_name};
 use msf_blocks::{Sink, Source};
 use pdb_merge::{Buffer, read_records};
@@ -110,8 +109,6 @@ fn push_type<A: Allocator>(
     ensures value { OnOk result ((at : List ℕ) × HasPlaces bytes.now at × (string_bytes text.new ≡ string_bytes text.old ++ type_line index bytes.now at)) }
     ensures first { IfErr result (λ fault. ((inner : LeafFault) × (fault ≡ RunFault.Leaf index inner) × (first_failing (record_checks bytes.now) ≡ Some inner)) ⊎ (fault ≡ RunFault.Memory)) }
 {
-    // This call tells the proof that the length field is below 2^16.
-    let _ = u16_at(bytes, 0);
     if let Err(fault) = check(bytes) {
         return Err(RunFault::Leaf { index, fault });
     }

@@ -41,8 +41,6 @@ mod map;
 mod names;
 mod pairs;
 mod settings;
-#[cfg(test)]
-mod tests;
 mod written;
 
 pub use fault::InfoFault;

@@ -29,8 +29,6 @@ mod merge;
 mod merged;
 mod read;
 mod summary;
-#[cfg(test)]
-mod tests;
 mod written;
 
 pub use buffer::Buffer;

@@ -9,7 +9,5 @@
 mod find;
 mod place;
 mod set;
-#[cfg(test)]
-mod tests;
 
 pub use set::TextSet;

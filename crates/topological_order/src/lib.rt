@@ -12,8 +12,6 @@ mod fault;
 mod graph;
 pub mod laws;
 mod order;
-#[cfg(test)]
-mod tests;
 mod walk;
 
 pub use fault::OrderFault;

@@ -31,8 +31,6 @@ mod fault;
 mod header;
 mod iter;
 mod records;
-#[cfg(test)]
-mod tests;
 mod written;
 
 pub use fault::TpiFault;

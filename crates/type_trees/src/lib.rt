@@ -43,8 +43,6 @@ mod order;
 mod reference;
 mod renumber;
 mod table;
-#[cfg(test)]
-mod tests;
 mod types;
 
 pub use canon::Canon;

@@ -1,9 +1,9 @@
 //! Merging into blocks of each size.
 
 use super::merging::{GUID, LIMIT, M, P, Q0, Q1, V, file_of, hasher};
-use crate::{Buffer, MergeFault, OutFault, Summary, merge_to, read_types};
 use msf_blocks::Out;
 use pdb_info::{Settings, guid_of};
+use pdb_merge::{Buffer, MergeFault, OutFault, Summary, merge_to, read_types};
 use samples::pdb;
 use std::alloc::Global;
 use std::test::Fail;

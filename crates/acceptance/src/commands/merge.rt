@@ -1,9 +1,8 @@
 //! What `merge` writes and reports, its faults, a report that cannot be written, and out of memory.
 
-use crate::fault::RunFault;
-use crate::merge::run_merge;
 use linked_list_allocator::LocalHeap;
 use msf_blocks::Out;
+use pdb_commands::{RunFault, run_merge};
 use pdb_info::{Settings, guid_of};
 use samples::{put, sample};
 use std::alloc::{Allocator, Global};

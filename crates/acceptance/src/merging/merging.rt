@@ -1,14 +1,14 @@
 //! Merging: what is written for some lists of files, the faults, sinks that break, and out of
 //! memory.
 
-use crate::{
-    AddFault, Buffer, Merge, MergeFault, OutFault, PdbFault, Summary, merge_files, merge_to,
-    write_merged,
-};
 use linked_list_allocator::LocalHeap;
 use msf_blocks::{MsfFault, Out};
 use msf_streams::WriteFault;
 use pdb_info::{Settings, guid_of};
+use pdb_merge::{
+    AddFault, Buffer, Merge, MergeFault, OutFault, PdbFault, Summary, merge_files, merge_to,
+    write_merged,
+};
 use samples::{Narrow, pdb, sample};
 use std::alloc::{Allocator, Global};
 use std::hash::{BuildHasherDefault, FoldHasher};

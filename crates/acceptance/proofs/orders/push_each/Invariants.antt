@@ -1,6 +1,6 @@
 use Rattle.std.proofs.Common.{◌≤◌, ◌*◌, ◌≡◌, length}
 use Rattle.std.specs.List.{concat}
-use Rattle.topological_order.proofs.tests.push_each.Given as goal
+use Rattle.acceptance.proofs.orders.push_each.Given as goal
 
 abbrev pub invariant-loop-pushed : goal.invariant-loop-pushed
 invariant-loop-pushed g l = record {

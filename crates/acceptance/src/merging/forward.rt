@@ -1,9 +1,9 @@
 //! Records that name later ones, and cycles.
 
 use super::merging::{LIMIT, M, P, Q0, Q1, Q2, Q3, file_of, hasher, merged, settings};
-use crate::{Buffer, merge_files, merge_to, read_types};
 use linked_list_allocator::LocalHeap;
 use msf_blocks::Out;
+use pdb_merge::{Buffer, merge_files, merge_to, read_types};
 use samples::pdb;
 use std::alloc::{Allocator, Global};
 use std::test::Fail;

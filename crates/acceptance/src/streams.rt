@@ -2,9 +2,9 @@
 
 ghost use Rattle.std.specs.Prelude.{◌+◌, ◌≤◌, length};
 
-use crate::{StreamFault, gather, pieces};
 use linked_list_allocator::LocalHeap;
 use msf_blocks::Layout;
+use msf_streams::{StreamFault, gather, pieces};
 use std::test::Fail;
 
 /// The size of a block, in bytes.

@@ -1,9 +1,9 @@
 //! What no clause says: the texts of the faults, that a call succeeds, and out of memory.
 
-use crate::{Records, TpiFault, TpiHeader, tpi_header_bytes};
 use linked_list_allocator::LocalHeap;
 use std::alloc::Allocator;
 use std::test::Fail;
+use tpi_records::{Records, TpiFault, TpiHeader, tpi_header_bytes};
 
 /// A header and two records: a pointer to int, and an int with modifiers.
 const STREAM: [u8; 80] = [

@@ -5,11 +5,11 @@ ghost use Rattle.std.specs.Prelude.{◌≡◌, ◌≤◌, ◌<◌, [], length, I
 ghost use Rattle.std.specs.List.{All};
 ghost use Rattle.topological_order.specs.Graph.{NamesNodes};
 
-use crate::{Graph, OrderFault, topological_order};
 use linked_list_allocator::LocalHeap;
 use std::alloc::{AllocError, Allocator, Global};
 use std::process::Abort;
 use std::test::Fail;
+use topological_order::{Graph, OrderFault, topological_order};
 
 /// Whether these nodes are all below `end`.
 fn all_below(named: &[u32], end: usize) -> bool

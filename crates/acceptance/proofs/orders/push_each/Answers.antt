@@ -1,7 +1,7 @@
 use Rattle.std.proofs.Common.{List, ℕ, ap, length, arith, length-append}
 use Rattle.std.specs.List.{concat}
 use Rattle.std.proofs.lemmas.List.Folds.{concat-append}
-use Rattle.topological_order.proofs.tests.push_each.Goals as goal
+use Rattle.acceptance.proofs.orders.push_each.Goals as goal
 
 pub loop-pushed-preserved : goal.loop-pushed-preserved
 loop-pushed-preserved g c =

@@ -2,12 +2,12 @@
 
 ghost use Rattle.std.specs.Prelude.{◌≤◌, length};
 
-use crate::TextSet;
 use linked_list_allocator::LocalHeap;
 use std::alloc::Allocator;
 use std::hash::{BuildHasher, BuildHasherDefault, FoldHasher, Hasher};
 use std::process::Abort;
 use std::test::Fail;
+use text_set::TextSet;
 
 /// A hasher that returns the same number for every text.
 #[derive(Clone, Copy)]

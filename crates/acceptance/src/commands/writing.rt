@@ -1,8 +1,8 @@
 //! Sinks that fail.
 
-use crate::records::run_records;
-use crate::tests::shown::SAMPLE;
+use super::shown::SAMPLE;
 use msf_blocks::In;
+use pdb_commands::run_records;
 use samples::{Narrow, sample};
 use std::alloc::Global;
 use std::test::Fail;

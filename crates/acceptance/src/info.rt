@@ -1,7 +1,7 @@
 //! What no clause says: that a call succeeds, the texts of the faults, and out of memory.
 
-use crate::{Info, InfoFault, InfoHeader, Name, Settings, guid_bytes, guid_of, info_bytes};
 use linked_list_allocator::LocalHeap;
+use pdb_info::{Info, InfoFault, InfoHeader, Name, Settings, guid_bytes, guid_of, info_bytes};
 use std::alloc::Allocator;
 use std::test::Fail;
 use uuid::Uuid;

@@ -1,12 +1,9 @@
 //! Out of memory at one allocation after the other, with heaps of increasing size.
 
-use crate::check::run_check;
-use crate::fault::RunFault;
-use crate::input::{ReadFault, read_all};
-use crate::records::run_records;
-use crate::tests::shown::SAMPLE;
+use super::shown::SAMPLE;
 use linked_list_allocator::LocalHeap;
 use msf_blocks::{In, Out};
+use pdb_commands::{ReadFault, RunFault, read_all, run_check, run_records};
 use samples::{Dripping, put, sample};
 use std::test::Fail;
 

@@ -2,12 +2,12 @@
 //! memory.
 
 use super::stream_of;
-use crate::{Canon, JoinFault, Table, Types};
 use linked_list_allocator::LocalHeap;
 use std::alloc::{AllocError, Allocator, Global};
 use std::hash::{BuildHasher, BuildHasherDefault, FoldHasher, Hasher};
 use std::test::Fail;
 use tpi_records::Records;
+use type_trees::{Canon, JoinFault, Table, Types};
 
 /// A limit that no test reaches.
 const LIMIT: u32 = 1000;

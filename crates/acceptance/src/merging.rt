@@ -5,12 +5,12 @@ mod forward;
 mod merging;
 mod sizes;
 
-use crate::{Buffer, MergeFault, PdbFault, read_types};
 use cv_leaves::LeafFault;
 use linked_list_allocator::LocalHeap;
 use msf_blocks::MsfFault;
 use msf_streams::StreamFault;
 use pdb_info::InfoFault;
+use pdb_merge::{Buffer, MergeFault, PdbFault, read_types};
 use samples::{put, sample};
 use std::alloc::{Allocator, Global};
 use std::test::Fail;

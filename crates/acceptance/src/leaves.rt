@@ -1,6 +1,6 @@
 //! What no contract says: the texts of the faults, and the table against the format's own figures.
 
-use crate::{LeafFault, check, kind_of, leaf_text, places, ref_at, set_ref, type_name};
+use cv_leaves::{LeafFault, check, kind_of, leaf_text, places, ref_at, set_ref, type_name};
 use std::rt::HostRuntime;
 use std::test::Fail;
 

@@ -2,11 +2,11 @@
 
 use super::joining::folding;
 use super::{MODIFIER, UNKNOWN, checked, pointer, stream_of};
-use crate::{Canon, Table, TypeFault, Types};
 use linked_list_allocator::LocalHeap;
 use std::alloc::{Allocator, Global};
 use std::test::Fail;
 use tpi_records::Records;
+use type_trees::{Canon, Table, TypeFault, Types};
 
 /// A simple type.
 const INT: u32 = 0x74;

@@ -1,12 +1,7 @@
 //! What the commands print of the sample, of changed samples, and of bytes that are no file.
 
-use crate::check::run_check;
-use crate::info::run_info;
-use crate::record::run_record;
-use crate::records::run_records;
-use crate::streams::run_streams;
-use crate::types::run_types;
 use msf_blocks::{In, Out};
+use pdb_commands::{run_check, run_info, run_record, run_records, run_streams, run_types};
 use samples::{LENGTH, pdb, put, sample};
 use std::alloc::Global;
 use std::test::Fail;

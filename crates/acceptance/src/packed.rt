@@ -2,8 +2,8 @@
 
 ghost use Rattle.std.specs.Prelude.{◌≤◌, length};
 
-use crate::PackedTexts;
 use linked_list_allocator::LocalHeap;
+use packed_texts::PackedTexts;
 use std::alloc::Allocator;
 use std::process::Abort;
 use std::test::Fail;

@@ -1,9 +1,8 @@
 //! Sources that give little, that give too much, or that fail.
 
-use crate::input::{ReadFault, read_all};
-use crate::records::run_records;
-use crate::tests::shown::SAMPLE;
+use super::shown::SAMPLE;
 use msf_blocks::Out;
+use pdb_commands::{ReadFault, read_all, run_records};
 use samples::{Dripping, sample};
 use std::test::Fail;
 
