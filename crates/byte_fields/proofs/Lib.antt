@@ -1,3 +1,4 @@
 pub mod CheckLaws
 pub mod NumberLaws
+pub mod NameLaws
 pub mod BytesLaws

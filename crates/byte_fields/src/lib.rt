@@ -2,14 +2,21 @@
 //!
 //! - [`u16_at`] and [`u32_at`] read a little-endian number at an offset in bytes. The value is
 //!   `number_at` of `specs/Number`, which also says how numbers are written as bytes.
+//!   [`push_u32`] appends a number in four bytes.
+//! - [`fits`] tells whether a field lies within the bytes.
+//! - [`name_at`] reads a name that a NUL ends. The value is `name_at` of `specs/Name`.
 //! - `specs/Check` says what "the first check that fails" means. The contract of a reader lists its
 //!   checks in the order in which they are made, and the reader returns the fault of the first
 //!   check that fails. It returns out of memory only where no check fails.
 //! - `specs/Bytes` says when a list of numbers is made of bytes.
 //!
-//! The lemmas about all three are in `proofs/`, and every crate above uses them.
+//! The lemmas about numbers, names, checks and bytes are in `proofs/`, for the crates above.
 #![tactic(auto)]
 
+mod field;
+mod name;
 mod number;
 
-pub use number::{u16_at, u32_at};
+pub use field::fits;
+pub use name::name_at;
+pub use number::{push_u32, u16_at, u32_at};
