@@ -5,7 +5,7 @@ pub mod DirectoryLaws
 pub mod LayoutLaws
 pub mod ListsLaws
 pub mod FoundLaws
-pub mod SinkLaws
 pub mod BlockLaws
 pub mod FreeMapLaws
 pub mod OneLayoutLaws
+pub mod WrittenLaws

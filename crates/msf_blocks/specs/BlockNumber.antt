@@ -1,5 +1,5 @@
 -- Blocks: their sizes and their numbers ("The MSF File Format", "File Layout").
-use Rattle.std.specs.Prelude.{ℕ, ◌+◌, ◌-◌, ◌*◌, ◌/◌, ◌%◌, ◌<◌, ◌==◌, ◌&&◌, ◌||◌, nat_eq, nat_lt, not, if◌then◌else◌, Bool, List, [], ◌∷◌}
+use Rattle.std.specs.Prelude.{ℕ, ◌+◌, ◌-◌, ◌*◌, ◌/◌, ◌%◌, ◌<◌, ◌==◌, ◌&&◌, ◌||◌, nat_eq, nat_lt, not, if◌then◌else◌, Bool, List, [], ◌∷◌, map}
 use Rattle.std.specs.List.{Contains, range_with_len, filter}
 use Rattle.std.specs.Set.{is_member}
 
@@ -40,3 +40,7 @@ nth_block size j = j / (size - 2) * size + (if j % (size - 2) == 0 then 0 else j
 -- the blocks below a number that are not map blocks, in rising order
 unfoldable pub data_blocks : ℕ → ℕ → List ℕ
 data_blocks size below = filter (λ block. not (is_map_block size block)) (range_with_len 0 below)
+
+-- the numbers of `count` data blocks, beginning with data block `first`
+abbrev pub numbers : ℕ → ℕ → ℕ → List ℕ
+numbers block_size first count = map (nth_block block_size) (range_with_len first count)

@@ -1,5 +1,7 @@
 -- The free block map in force ("The MSF File Format", "The Free Block Map").
-use Rattle.std.specs.Prelude.{ℕ, ◌+◌, ◌*◌, ◌/◌, ◌%◌, ◌^◌, ◌==◌, ◌&&◌, nat_lt, Bool, List, slice_index}
+use Rattle.std.specs.Prelude.{ℕ, ◌+◌, ◌-◌, ◌*◌, ◌/◌, ◌%◌, ◌^◌, ◌==◌, ◌&&◌, nat_lt, min, Bool, List, map, slice_index, if◌then◌else◌}
+use Rattle.std.specs.List.{range_with_len}
+use lib.ListN.{replicate}
 use Rattle.msf_blocks.specs.Superblock.{Fields}
 
 -- for how many blocks one map block has a bit
@@ -20,3 +22,14 @@ abbrev pub is_free : List ℕ → Fields → ℕ → Bool
 is_free file fields block =
     nat_lt (map_block_of fields block) fields.num_blocks
     && map_byte_of file fields block / 2 ^ (block % blocks_per_map_block fields % 8) % 2 == 1
+
+-- ---- the map blocks of a file in which every block is in use
+
+-- the byte of map 1 for the eight blocks that begin with block `first`: from the lowest bit on, the bits of blocks of the file are 0, and all others are 1
+abbrev pub map_byte : ℕ → ℕ → ℕ
+map_byte num_blocks first = 256 - 2 ^ min 8 (num_blocks - first)
+
+-- the map block that is block k of the file: the second block of an interval belongs to map 1 and has a bit for each of many blocks; the third belongs to map 2, and all its bytes are 0xFF
+unfoldable pub map_block : ℕ → ℕ → ℕ → List ℕ
+map_block block_size num_blocks k =
+    if k % block_size == 1 then map (λ i. map_byte num_blocks (8 * (block_size * (k / block_size) + i))) (range_with_len 0 block_size) else replicate block_size 255

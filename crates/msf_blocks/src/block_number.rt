@@ -10,7 +10,7 @@
 //! nth     0                   1   ..  B-3   B-2                B-1   ..
 //! ```
 
-ghost use Rattle.std.specs.Prelude.{◌≡◌, ◌^◌, ◌<◌, length, map, false};
+ghost use Rattle.std.specs.Prelude.{◌≡◌, ◌^◌, ◌<◌, ◌≤◌, length, map, false};
 ghost use Rattle.std.specs.List.{range_with_len};
 ghost use Rattle.msf_blocks.specs.BlockNumber.{IsBlockSize, blocks_for, is_block_size, is_ordinary, is_map_block, nth_block, data_blocks};
 
@@ -24,11 +24,12 @@ pub fn is_block_size(size: u32) -> bool
     matches!(size, 512 | 1024 | 2048 | 4096 | 8192 | 16384 | 32768)
 }
 
-/// How many blocks of `block_size` bytes hold `bytes` bytes.
-#[tactic(auto, using(crate::proofs::SizeLaws::size_facts, crate::proofs::SizeLaws::ceil_is))]
+/// How many blocks of `block_size` bytes hold `bytes` bytes. This does not allocate.
+#[tactic(auto, using(crate::proofs::SizeLaws::size_facts, crate::proofs::SizeLaws::ceil_is, crate::proofs::SizeLaws::few_for))]
 pub fn blocks_for(block_size: u32, bytes: u32) -> u32
     requires { IsBlockSize block_size }
-    ensures { result ≡ blocks_for block_size bytes }
+    ensures value { result ≡ blocks_for block_size bytes }
+    ensures few { result ≤ 2 ^ 23 }
 {
     bytes.div_ceil(block_size)
 }

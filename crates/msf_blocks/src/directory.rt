@@ -1,15 +1,16 @@
-//! Reads the stream directory through the block map.
+//! The stream directory and the block map: reads both, and writes those of an image.
 
-ghost use Rattle.std.specs.Prelude.{IfOk, map, ◌^◌, ◌≡◌, ◌+◌, ◌*◌, ◌<◌, ◌≤◌, length};
+ghost use Rattle.std.specs.Prelude.{IfOk, OnOk, map, ◌^◌, ◌≡◌, ◌+◌, ◌*◌, ◌<◌, ◌≤◌, ◌∷◌, ◌++◌, length};
 ghost use Rattle.std.specs.List.{range_with_len};
-ghost use Rattle.byte_fields.specs.Number.{word};
+ghost use Rattle.byte_fields.specs.Number.{word, words};
 ghost use Rattle.byte_fields.specs.Check.{Makes, checks_below};
+ghost use Rattle.msf_blocks.specs.BlockNumber.{IsBlockSize, numbers};
 ghost use Rattle.msf_blocks.specs.Directory.{map_number, directory_blocks, directory_block_checks, directory_text, bytes_of, stream_blocks, list_start, length_checks, stream_checks};
 
-use crate::block_number::{blocks_for, is_ordinary};
+use crate::block_number::{blocks_for, is_ordinary, nth_block};
 use crate::fault::MsfFault;
 use crate::superblock::Superblock;
-use byte_fields::u32_at;
+use byte_fields::{push_u32, u32_at};
 use std::alloc::{AllocError, Allocator};
 use std::marker::Model;
 
@@ -117,7 +118,7 @@ impl<'a> Directory<'a> {
     }
 
     /// How many blocks a stream has.
-    #[tactic(auto, using(crate::proofs::SizeLaws::few_for), unfolding(crate::specs::Directory::stream_blocks))]
+    #[tactic(auto, unfolding(crate::specs::Directory::stream_blocks))]
     pub fn stream_blocks(&self, stream: u32) -> u32
         requires { 4 * (1 + stream) + 4 ≤ length self.now.text }
         ensures value { result ≡ stream_blocks self.now.superblock.block_size self.now.text stream }
@@ -221,4 +222,76 @@ impl<'a> Directory<'a> {
         }
         Ok(numbers)
     }
+}
+
+/// Appends numbers in four bytes each.
+#[tactic(auto, using(crate::proofs::WrittenLaws::words_more))]
+fn push_numbers<A: Allocator>(bytes: &mut Vec<u8, A>, numbers: &[u32]) -> Result<(), AllocError>
+    ensures { OnOk result (bytes.new.items ≡ bytes.old.items ++ words numbers.now) }
+{
+    for number in numbers {
+        push_u32(bytes, *number)?;
+    }
+    Ok(())
+}
+
+/// Appends the numbers of `count` data blocks, beginning with data block `first`.
+#[tactic(auto, using(crate::proofs::WrittenLaws::small_number))]
+fn push_blocks<A: Allocator>(
+    bytes: &mut Vec<u8, A>,
+    block_size: u32,
+    first: u32,
+    count: u32,
+) -> Result<(), AllocError>
+    requires size { IsBlockSize block_size }
+    requires few { first + count < 2 ^ 28 }
+    ensures { OnOk result (bytes.new.items ≡ bytes.old.items ++ words (numbers block_size first count)) }
+{
+    for j in 0..count {
+        push_u32(bytes, nth_block(block_size, first + j))?;
+    }
+    Ok(())
+}
+
+/// The block map of an image: the numbers of the `directory_blocks` blocks of its directory, which
+/// begin with data block 2.
+///
+/// `block_size` is in bytes. This allocates four bytes for each number, all at once. ("The MSF File
+/// Format", "The Stream Directory".)
+pub fn block_map_bytes<A: Allocator>(
+    alloc: A,
+    block_size: u32,
+    directory_blocks: u32,
+) -> Result<Vec<u8, A>, AllocError>
+    requires size { IsBlockSize block_size }
+    requires few { directory_blocks < 2 ^ 27 }
+    ensures { IfOk result (λ v. v.items ≡ words (numbers block_size 2 directory_blocks)) }
+{
+    let mut bytes = Vec::with_capacity(alloc, 4 * directory_blocks as usize)?;
+    push_blocks(&mut bytes, block_size, 2, directory_blocks)?;
+    Ok(bytes)
+}
+
+/// The directory of an image with five streams of these sizes, in bytes. The streams have `blocks`
+/// blocks together, and these follow the `directory_blocks` blocks of the directory.
+///
+/// `block_size` is in bytes. This allocates room for the directory, all at once. ("The MSF File
+/// Format", "The Stream Directory".)
+pub fn directory_bytes<A: Allocator>(
+    alloc: A,
+    block_size: u32,
+    sizes: &[u32; 5],
+    directory_blocks: u32,
+    blocks: u32,
+) -> Result<Vec<u8, A>, AllocError>
+    requires size { IsBlockSize block_size }
+    requires few { directory_blocks < 2 ^ 26 }
+    requires fits { blocks ≤ 5 * 2 ^ 23 }
+    ensures { IfOk result (λ v. v.items ≡ words (5 ∷ sizes.now ++ numbers block_size (2 + directory_blocks) blocks)) }
+{
+    let mut bytes = Vec::with_capacity(alloc, 4 * (6 + blocks as usize))?;
+    push_u32(&mut bytes, 5)?;
+    push_numbers(&mut bytes, sizes)?;
+    push_blocks(&mut bytes, block_size, 2 + directory_blocks, blocks)?;
+    Ok(bytes)
 }

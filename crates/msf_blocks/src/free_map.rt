@@ -1,7 +1,9 @@
-//! Reads the free block map in force.
+//! The free block maps: reads the one in force, and writes those of a file whose blocks are all in
+//! use.
 
-ghost use Rattle.std.specs.Prelude.{◌≡◌, ◌⊎◌, ◌<◌, ◌≤◌, ◌*◌, ◌/◌, ◌%◌, ◌^◌, ◌↔◌, length, IsTrue, IfSome, IfNone};
-ghost use Rattle.msf_blocks.specs.FreeMap.{is_free, map_block_of};
+ghost use Rattle.std.specs.Prelude.{◌≡◌, ◌⊎◌, ◌<◌, ◌≤◌, ◌+◌, ◌*◌, ◌/◌, ◌%◌, ◌^◌, ◌↔◌, length, IsTrue, IfSome, IfNone};
+ghost use Rattle.msf_blocks.specs.BlockNumber.{IsBlockSize};
+ghost use Rattle.msf_blocks.specs.FreeMap.{is_free, map_block_of, map_byte, map_block};
 
 use crate::superblock::Superblock;
 
@@ -36,4 +38,35 @@ pub fn free_bit(file: &[u8], superblock: &Superblock, n: u32) -> Option<bool>
     let bit = n % per_map_block;
     let byte = map_block as usize * block_size as usize + (bit / 8) as usize;
     Some(is_set(file[byte], bit % 8))
+}
+
+/// The byte of map 1 for the eight blocks that begin with block `first`. The bits of blocks of the
+/// file are 0, and the others are 1.
+fn map_byte(num_blocks: u64, first: u64) -> u8
+    ensures { result ≡ map_byte num_blocks first }
+{
+    let in_file = num_blocks.saturating_sub(first).min(8) as u32;
+    (256 - (1u32 << in_file)) as u8
+}
+
+/// Fills `page` with the map block that is block `k` of a file of `num_blocks` blocks, all of which
+/// are in use.
+///
+/// `page` has as many bytes as a block. In map 1 the bits of blocks of the file are 0, and the
+/// others are 1. In map 2 all bits are 1. This does not allocate. ("The MSF File Format", "The Free
+/// Block Map".)
+#[tactic(auto, using(crate::proofs::SizeLaws::some_bytes), unfolding(crate::specs::FreeMap::map_block))]
+pub fn fill_map_block(block_size: u32, num_blocks: u32, k: u32, page: &mut [u8])
+    requires size { IsBlockSize block_size }
+    requires long { length page.old ≡ block_size }
+    ensures { page.new ≡ map_block block_size num_blocks k }
+{
+    if k % block_size != 1 {
+        page.fill(0xFF);
+        return;
+    }
+    let first = u64::from(block_size) * u64::from(k / block_size);
+    for i in 0..page.len() {
+        page[i] = map_byte(u64::from(num_blocks), 8 * (first + i as u64));
+    }
 }

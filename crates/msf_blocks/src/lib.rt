@@ -7,12 +7,13 @@
 //! - [`Superblock::read`] checks and reads the superblock.
 //! - [`Layout::read`] also checks and reads the stream directory. Each block number in a [`Layout`]
 //!   is the number of a block of the file, so the crates above need no check of their own.
-//! - [`is_block_size`] says which sizes a block may have.
+//! - [`is_block_size`] says which sizes a block may have, and [`blocks_for`] how many blocks hold a
+//!   number of bytes.
+//! - [`superblock_bytes`], [`block_map_bytes`], [`directory_bytes`] and [`fill_map_block`] write the
+//!   parts of an image that are not streams.
 //! - [`nth_block`] and [`is_map_block`] tell map blocks from other blocks, and [`free_bit`] reads
 //!   the free block map in force.
-//! - [`Sink`] takes bytes, and [`Source`] gives bytes. All reading and writing of the project goes
-//!   through them. [`Out`] makes a sink of any `Write`, [`In`] makes a source of any `Read`, and
-//!   [`put_all`] writes a whole slice into a sink.
+//! - [`Sink`], [`Source`] and what belongs to them are those of the crate `byte_io`.
 //! - [`laws`] says what holds of every container: a file has at most one layout.
 //!
 //! A reader refuses a container with the fault of the first check that fails. The checks are made
@@ -25,14 +26,12 @@ mod fault;
 mod free_map;
 pub mod laws;
 mod layout;
-mod sink;
-mod source;
 mod superblock;
 
-pub use block_number::{is_block_size, is_map_block, nth_block};
+pub use block_number::{blocks_for, is_block_size, is_map_block, nth_block};
+pub use byte_io::{In, NotTaken, Out, Sink, Source, put_all};
+pub use directory::{block_map_bytes, directory_bytes};
 pub use fault::MsfFault;
-pub use free_map::free_bit;
+pub use free_map::{fill_map_block, free_bit};
 pub use layout::Layout;
-pub use sink::{NotTaken, Out, Sink, put_all};
-pub use source::{In, Source};
-pub use superblock::{MAGIC, Superblock};
+pub use superblock::{MAGIC, Superblock, superblock_bytes};

@@ -1,9 +1,10 @@
-//! Reads the superblock of a container.
+//! The superblock of a container.
 
-ghost use Rattle.std.specs.Prelude.{◌≡◌, ◌*◌, ◌/◌, ◌%◌, ◌≤◌, ◌⊎◌, length, IfOk, IsOk};
+ghost use Rattle.std.specs.Prelude.{◌≡◌, ◌*◌, ◌/◌, ◌%◌, ◌≤◌, ◌⊎◌, ◌≢◌, [], ◌∷◌, ◌++◌, length, IfOk, IfErr, IsOk};
 ghost use Rattle.byte_fields.specs.Check.{Makes};
+ghost use Rattle.byte_fields.specs.Number.{words};
 ghost use Rattle.msf_blocks.specs.BlockNumber.{IsBlockSize, IsOrdinary, blocks_for};
-ghost use Rattle.msf_blocks.specs.Superblock.{Fields, IsSuperblock, fields_of, superblock_checks};
+ghost use Rattle.msf_blocks.specs.Superblock.{Fields, IsSuperblock, fields_of, magic, superblock_checks};
 
 use crate::block_number::{blocks_for, is_block_size, is_ordinary};
 use crate::fault::MsfFault;
@@ -97,6 +98,7 @@ impl Superblock {
         ensures fields { IfOk result (λ s. s ≡ fields_of file.now) }
         ensures found { (fields : Fields) → IsSuperblock file.now fields → IsOk result }
         ensures first { Makes result (superblock_checks file.now) }
+        ensures checked { IfErr result (λ fault. fault ≢ MsfFault.Memory) }
     {
         if file.len() < LENGTH {
             return Err(MsfFault::Short);
@@ -184,4 +186,27 @@ impl Superblock {
     {
         self.block_map_addr
     }
+}
+
+/// The superblock of a file of `num_blocks` blocks, whose free block map in force is map 1.
+///
+/// `block_size` and `directory_bytes` are in bytes, and `block_map_addr` is the number of the block
+/// map. This does not allocate. ("The MSF File Format", "The Superblock".)
+#[tactic(auto, unfolding(byte_fields::specs::Number::four_bytes))]
+pub fn superblock_bytes(
+    block_size: u32,
+    num_blocks: u32,
+    directory_bytes: u32,
+    block_map_addr: u32,
+) -> [u8; LENGTH]
+    ensures { result ≡ magic ++ words (block_size ∷ 1 ∷ num_blocks ∷ directory_bytes ∷ 0 ∷ block_map_addr ∷ []) }
+{
+    let mut bytes = [0; LENGTH];
+    bytes[..BLOCK_SIZE].copy_from_slice(&MAGIC);
+    bytes[BLOCK_SIZE..FREE_MAP_BLOCK].copy_from_slice(&block_size.to_le_bytes());
+    bytes[FREE_MAP_BLOCK..NUM_BLOCKS].copy_from_slice(&1u32.to_le_bytes());
+    bytes[NUM_BLOCKS..DIRECTORY_BYTES].copy_from_slice(&num_blocks.to_le_bytes());
+    bytes[DIRECTORY_BYTES..UNKNOWN].copy_from_slice(&directory_bytes.to_le_bytes());
+    bytes[BLOCK_MAP_ADDR..].copy_from_slice(&block_map_addr.to_le_bytes());
+    bytes
 }

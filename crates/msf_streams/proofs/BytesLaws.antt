@@ -13,7 +13,9 @@ use Rattle.msf_blocks.specs.Superblock.{magic}
 use Rattle.msf_blocks.specs.Directory.{Listed, bytes_of}
 use Rattle.msf_blocks.specs.Layout.{LayoutView}
 use Rattle.msf_streams.specs.Stream.{gathered, text_of, stream_text}
-use Rattle.msf_streams.specs.Image.{filled, text_block, map_byte, map_block, image_block, laid_out, numbers, superblock_numbers, superblock_part, block_map_part, directory_part, directory_count, blocks_of_all, parts, image, image_blocks}
+use Rattle.msf_blocks.specs.FreeMap.{map_byte, map_block}
+use Rattle.msf_blocks.specs.BlockNumber.{numbers}
+use Rattle.msf_streams.specs.Image.{filled, text_block, image_block, laid_out, superblock_numbers, superblock_part, block_map_part, directory_part, directory_count, blocks_of_all, parts, image, image_blocks}
 use lib.ListN.{replicate}
 
 -- ---- lists of bytes

@@ -1,40 +1,15 @@
 -- The parts of an image before its streams, number by number.
-use Rattle.std.proofs.Common.{◌≡◌, ℕ, ◌+◌, ◌*◌, ◌<◌, ◌≤◌, ◌^◌, List, [], ◌∷◌, ◌++◌, length, map, take, get_or, refl, sym, ap, ◌∙◌, arith, append_assoc}
+use Rattle.std.proofs.Common.{◌≡◌, ℕ, ◌+◌, ◌*◌, ◌<◌, ◌≤◌, ◌^◌, List, [], ◌∷◌, ◌++◌, length, map, take, get_or, refl, sym, ap, ◌∙◌, arith}
 use Rattle.std.specs.Prelude.{All}
 use Rattle.std.proofs.lemmas.List.Elements.{All-push, All-map, All-get_or}
-use Rattle.std.specs.Borrow.{Bor}
 use lib.ListN.{set}
-use Rattle.std.proofs.lemmas.List.{append-nil, take_more, take_more_set, take_all, map-append, length-map, get_or-map}
-use Rattle.std.proofs.lemmas.List.FromFn.{map-range_with_len_more}
-use Rattle.std.proofs.lemmas.List.Concat.{flat_map-append}
-use Rattle.byte_fields.specs.Number.{four_bytes, words}
-use Rattle.msf_blocks.specs.BlockNumber.{IsBlockSize, blocks_for, nth_block}
+use Rattle.std.proofs.lemmas.List.{take_more, take_more_set, take_all, map-append, length-map, get_or-map}
+use Rattle.byte_fields.specs.Number.{words}
+use Rattle.msf_blocks.specs.BlockNumber.{blocks_for, nth_block}
 use Rattle.msf_blocks.specs.Superblock.{magic}
-use Rattle.msf_blocks.proofs.SizeLaws.{big_enough}
-use Rattle.msf_blocks.proofs.BlockLaws.{nth_few}
-use Rattle.msf_streams.specs.Image.{texts_of, numbers, blocks_of_all, directory_len, directory_count, image_blocks, superblock_part, block_map_part, directory_part}
+use Rattle.msf_blocks.specs.BlockNumber.{numbers}
+use Rattle.msf_streams.specs.Image.{blocks_of_all, directory_len, directory_count, image_blocks, superblock_part, block_map_part, directory_part}
 use Rattle.msf_streams.proofs.ImageLaws.{five_streams}
-
--- one more number at the end
-words_push : (ns : List ℕ) (n : ℕ) → words (ns ++ n ∷ []) ≡ words ns ++ four_bytes n
-words_push ns n = flat_map-append four_bytes ns (n ∷ []) ∙ rw (append-nil (four_bytes n)) refl
-
--- the number of one more block
-numbers_more : (b first j : ℕ) → words (numbers b first (j + 1)) ≡ words (numbers b first j) ++ four_bytes (nth_block b (first + j))
-numbers_more b first j = ap words (map-range_with_len_more (nth_block b) first j (first + j) refl) ∙ words_push (numbers b first j) (nth_block b (first + j))
-
--- one more number of a list
-pub words_more : (ns : List ℕ) (i : ℕ) → i < length ns → words (take (i + 1) ns) ≡ words (take i ns) ++ four_bytes (get_or ns i 0)
-words_more ns i lt = ap words (take_more ns i 0 lt) ∙ words_push (take i ns) (get_or ns i 0)
-
--- the number of one of the first 2 ^ 28 data blocks fits in four bytes
-pub small_number : (b j : ℕ) → IsBlockSize b → j < 2 ^ 28 → nth_block b j < 2 ^ 32
-small_number b j size few = omega (arith, nth_few b j (big_enough b size))
-
-pub block_pushed : (b first j block : ℕ) (old before new : List ℕ) → before ≡ old ++ words (numbers b first j) → block ≡ nth_block b (first + j) → new ≡ before ++ four_bytes block
-    → new ≡ old ++ words (numbers b first (j + 1))
-block_pushed b first j block old before new so_far is pushed =
-    pushed ∙ rw (so_far, is, numbers_more b first j) (append_assoc old (words (numbers b first j)) (four_bytes (nth_block b (first + j))))
 
 -- ---- the parts before the streams
 

@@ -1,8 +1,9 @@
 -- The image of streams: the file that is written to hold just these streams ("The MSF File Format").
-use Rattle.std.specs.Prelude.{ℕ, ◌≡◌, ◌+◌, ◌-◌, ◌*◌, ◌/◌, ◌%◌, ◌^◌, ◌<◌, ◌≤◌, ◌==◌, if◌then◌else◌, All, List, [], ◌∷◌, ◌++◌, length, map, take, drop, min, slice_get}
+use Rattle.std.specs.Prelude.{ℕ, ◌≡◌, ◌+◌, ◌-◌, ◌*◌, ◌/◌, ◌^◌, ◌<◌, ◌≤◌, if◌then◌else◌, All, List, [], ◌∷◌, ◌++◌, length, map, take, drop, slice_get}
 use Rattle.std.specs.List.{range_with_len, flat_map, sum_by}
 use Rattle.byte_fields.specs.Number.{words}
-use Rattle.msf_blocks.specs.BlockNumber.{blocks_for, is_map_block, nth_block, data_blocks}
+use Rattle.msf_blocks.specs.BlockNumber.{blocks_for, is_map_block, nth_block, data_blocks, numbers}
+use Rattle.msf_blocks.specs.FreeMap.{map_block}
 use Rattle.msf_blocks.specs.Superblock.{Fields, magic}
 use Rattle.msf_blocks.specs.Directory.{Listed}
 use Rattle.msf_blocks.specs.Layout.{LayoutView, HasLayout}
@@ -19,15 +20,6 @@ filled block_size part = part ++ replicate (blocks_for block_size (length part) 
 -- block j of the data, from 0
 unfoldable pub text_block : ℕ → List ℕ → ℕ → List ℕ
 text_block block_size text j = take block_size (drop (j * block_size) text)
-
--- the byte of map 1 for the eight blocks that begin with block `first`: from the lowest bit on, the bits of blocks of the file are 0, and all others are 1
-abbrev pub map_byte : ℕ → ℕ → ℕ
-map_byte num_blocks first = 256 - 2 ^ min 8 (num_blocks - first)
-
--- the map block that is block k of the file: the second block of an interval belongs to map 1 and has a bit for each of many blocks; the third belongs to map 2, and all its bytes are 0xFF
-unfoldable pub map_block : ℕ → ℕ → ℕ → List ℕ
-map_block block_size num_blocks k =
-    if k % block_size == 1 then map (λ i. map_byte num_blocks (8 * (block_size * (k / block_size) + i))) (range_with_len 0 block_size) else replicate block_size 255
 
 -- block k of the file: a map block, or the next block of the data
 unfoldable pub image_block : ℕ → ℕ → List ℕ → ℕ → List ℕ
@@ -63,10 +55,6 @@ image_blocks block_size sizes = nth_block block_size (data_count block_size size
 -- the length of the file in bytes
 abbrev pub image_length : ℕ → List ℕ → ℕ
 image_length block_size sizes = image_blocks block_size sizes * block_size
-
--- the numbers of `count` data blocks, beginning with data block `first`
-abbrev pub numbers : ℕ → ℕ → ℕ → List ℕ
-numbers block_size first count = map (nth_block block_size) (range_with_len first count)
 
 -- the six numbers of a superblock, which follow the magic
 abbrev pub superblock_numbers : ℕ → List ℕ → List ℕ

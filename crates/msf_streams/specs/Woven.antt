@@ -1,7 +1,8 @@
 -- An image during writing: the data, with the map blocks between its bytes.
 use Rattle.std.specs.Prelude.{ℕ, ◌≡◌, ◌+◌, ◌-◌, ◌*◌, ◌/◌, ◌%◌, ◌<◌, ◌==◌, ◌&&◌, nat_le, nat_lt, if◌then◌else◌, Bool, List, [], ◌∷◌, ◌++◌, Option, length, take}
 use Rattle.std.specs.Io.KnownBytes.{Appends}
-use Rattle.msf_streams.specs.Image.{map_block, Fits, image_blocks, superblock_part, block_map_part, directory_part}
+use Rattle.msf_blocks.specs.FreeMap.{map_block}
+use Rattle.msf_streams.specs.Image.{Fits, image_blocks, superblock_part, block_map_part, directory_part}
 
 -- the length of a stretch: how many bytes of data are between the map blocks of one interval and those of the next
 unfoldable pub stretch : ℕ → ℕ

@@ -4,7 +4,7 @@ ghost use Rattle.std.specs.Prelude.{◌≡◌};
 ghost use Rattle.msf_streams.specs.declared.fault.StreamFault.TheVariants.{Memory};
 ghost use Rattle.msf_streams.specs.declared.fault.WriteFault.{WriteFault};
 
-use msf_blocks::NotTaken;
+use byte_io::NotTaken;
 use std::alloc::{AllocError, AllocFailed};
 use thiserror::Error;
 

@@ -4,10 +4,9 @@ ghost use Rattle.std.specs.Prelude.{◌≡◌, ◌+◌, ◌*◌, ◌/◌, ◌^�
 ghost use Rattle.msf_blocks.specs.BlockNumber.{IsBlockSize, blocks_for};
 ghost use Rattle.msf_streams.specs.Image.{Fits, blocks_of_all, directory_count, image_blocks, image_length};
 
-use msf_blocks::nth_block;
+use msf_blocks::{blocks_for, nth_block};
 
 /// How many blocks streams of these sizes take together.
-#[tactic(auto, using(msf_blocks::proofs::SizeLaws::some_bytes, msf_blocks::proofs::SizeLaws::ceil_is, msf_blocks::proofs::SizeLaws::few_for))]
 pub(crate) fn stream_blocks(block_size: u32, sizes: &[u32; 5]) -> u32
     requires { IsBlockSize block_size }
     ensures value { result ≡ blocks_of_all block_size sizes.now }
@@ -15,7 +14,7 @@ pub(crate) fn stream_blocks(block_size: u32, sizes: &[u32; 5]) -> u32
 {
     let mut blocks = 0;
     for size in sizes {
-        blocks += size.div_ceil(block_size);
+        blocks += blocks_for(block_size, *size);
     }
     blocks
 }
@@ -30,13 +29,12 @@ pub(crate) fn directory_len(blocks: u32) -> u32
 }
 
 /// How many blocks the directory takes, for five streams that have `blocks` blocks together.
-#[tactic(auto, using(msf_blocks::proofs::SizeLaws::some_bytes, msf_blocks::proofs::SizeLaws::ceil_is))]
 pub(crate) fn directory_blocks(block_size: u32, blocks: u32) -> u32
     requires size { IsBlockSize block_size }
     requires few { blocks ≤ 5 * 2 ^ 23 }
     ensures { result ≡ blocks_for block_size (4 * (6 + blocks)) }
 {
-    directory_len(blocks).div_ceil(block_size)
+    blocks_for(block_size, directory_len(blocks))
 }
 
 /// How many blocks the image of streams of these sizes has. `None` where the block map is too short

@@ -37,7 +37,6 @@ mod fault;
 mod front;
 mod image;
 pub mod laws;
-mod map_block;
 mod put;
 mod streams;
 mod write;

@@ -13,8 +13,8 @@ ghost use Rattle.msf_blocks.specs.BlockNumber.{IsBlockSize, blocks_for};
 ghost use Rattle.msf_streams.specs.Image.{filled, joined, joined_of};
 ghost use Rattle.msf_streams.specs.Woven.{stretch, maps_of, maps_before, woven, room, AppendsPart};
 
-use crate::map_block::fill_map;
-use msf_blocks::{NotTaken, Sink, put_all};
+use byte_io::{NotTaken, Sink, put_all};
+use msf_blocks::fill_map_block;
 
 /// The length of a stretch: how many bytes of data are between the map blocks of one interval and
 /// the map blocks of the next.
@@ -58,9 +58,9 @@ fn put_maps<W: Sink>(
     ensures prefix { OnErr result (AppendsPart (W.taken out.old) (W.taken out.new) (maps_of block_size num_blocks interval)) }
 {
     let start = interval * block_size;
-    fill_map(block_size, num_blocks, start + 1, page);
+    fill_map_block(block_size, num_blocks, start + 1, page);
     put_all(out, page)?;
-    fill_map(block_size, num_blocks, start + 2, page);
+    fill_map_block(block_size, num_blocks, start + 2, page);
     put_all(out, page)
 }
 

@@ -10,7 +10,7 @@ use crate::fault::WriteFault;
 use crate::front::Front;
 use crate::image::image_len;
 use crate::put::{put_part, put_streams};
-use msf_blocks::{NotTaken, Sink};
+use byte_io::{NotTaken, Sink};
 use std::alloc::Allocator;
 
 /// The length of some bytes. `None` where it does not fit in a `u32`.

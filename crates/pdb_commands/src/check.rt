@@ -7,7 +7,7 @@ ghost use Rattle.pdb_commands.specs.Run.{Answers};
 use crate::fault::RunFault;
 use crate::show::{Show, run};
 use crate::text::push_word;
-use msf_blocks::{Sink, Source};
+use byte_io::{Sink, Source};
 use pdb_merge::{Buffer, read_types};
 use std::alloc::{AllocError, Allocator};
 

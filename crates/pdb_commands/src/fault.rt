@@ -6,7 +6,7 @@ ghost use Rattle.pdb_commands.specs.declared.fault.RunFault.TheVariants.{Memory,
 
 use crate::input::ReadFault;
 use cv_leaves::LeafFault;
-use msf_blocks::NotTaken;
+use byte_io::NotTaken;
 use pdb_info::InfoFault;
 use pdb_merge::{MergeFault, OutFault, PdbFault};
 use std::alloc::{AllocError, Allocator, Global};

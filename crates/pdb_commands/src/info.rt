@@ -12,7 +12,7 @@ use crate::fault::RunFault;
 use crate::show::{Show, run};
 use crate::streams::read_layout;
 use crate::text::{push_index, push_quoted, push_word};
-use msf_blocks::{Sink, Source};
+use byte_io::{Sink, Source};
 use msf_streams::gather;
 use pdb_info::{InfoHeader, Name};
 use pdb_merge::PdbFault;

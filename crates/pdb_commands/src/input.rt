@@ -4,7 +4,7 @@ ghost use Rattle.std.specs.Prelude.{◌≡◌, ◌⊎◌, IfOk, IfErr};
 ghost use Rattle.pdb_commands.specs.Input.{GivesAll, IsNotRead};
 ghost use Rattle.pdb_commands.specs.declared.input.ReadFault.TheVariants.{Memory};
 
-use msf_blocks::Source;
+use byte_io::Source;
 use std::alloc::{AllocError, Allocator};
 use thiserror::Error;
 

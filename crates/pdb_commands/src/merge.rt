@@ -12,7 +12,7 @@ ghost use Rattle.pdb_commands.specs.Merge.{summary_lines, IsNotMerged, WroteWhol
 
 use crate::fault::RunFault;
 use crate::text::push_word;
-use msf_blocks::{Sink, put_all};
+use byte_io::{Sink, put_all};
 use pdb_info::Settings;
 use pdb_merge::{Summary, merge_to};
 use std::alloc::{AllocError, Allocator};

@@ -9,7 +9,7 @@ use crate::fault::RunFault;
 use crate::show::{Show, run};
 use crate::text::{push_index, push_kind};
 use cv_leaves::kind_of;
-use msf_blocks::{Sink, Source};
+use byte_io::{Sink, Source};
 use pdb_merge::{Buffer, read_records};
 use std::alloc::{AllocError, Allocator};
 

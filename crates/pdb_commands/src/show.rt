@@ -6,7 +6,7 @@ ghost use Rattle.pdb_commands.specs.declared.fault.RunFault.{RunFault};
 
 use crate::fault::RunFault;
 use crate::input::read_all;
-use msf_blocks::{Sink, Source, put_all};
+use byte_io::{Sink, Source, put_all};
 use std::alloc::Allocator;
 
 /// A command that shows a file: it makes a text from the file's bytes.

@@ -12,7 +12,8 @@ ghost use Rattle.pdb_commands.specs.Streams.{ShowsStreams, HasLayoutFault, HasNo
 use crate::fault::RunFault;
 use crate::show::{Show, run};
 use crate::text::push_word;
-use msf_blocks::{Layout, Sink, Source, Superblock, free_bit};
+use byte_io::{Sink, Source};
+use msf_blocks::{Layout, Superblock, free_bit};
 use pdb_merge::PdbFault;
 use std::alloc::{AllocError, Allocator};
 

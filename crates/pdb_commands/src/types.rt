@@ -18,7 +18,7 @@ use crate::records::FIRST_INDEX;
 use crate::show::{Show, run};
 use crate::text::{push_index, push_quoted};
 use cv_leaves::{check, kind_of, leaf_text, places, ref_at, type_name};
-use msf_blocks::{Sink, Source};
+use byte_io::{Sink, Source};
 use pdb_merge::{Buffer, read_records};
 use std::alloc::{AllocError, Allocator};
 use tpi_records::Records;

@@ -13,7 +13,7 @@ use crate::fault::OutFault;
 use crate::files::merge_files;
 use crate::summary::Summary;
 use crate::written::{merged_len, write_merged};
-use msf_blocks::Sink;
+use byte_io::Sink;
 use msf_streams::WriteFault;
 use pdb_info::Settings;
 use std::alloc::Allocator;

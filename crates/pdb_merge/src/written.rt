@@ -10,7 +10,7 @@ ghost use Rattle.pdb_info.specs.Settings.{record_limit};
 ghost use Rattle.tpi_records.specs.Written.{header_text};
 ghost use Rattle.pdb_merge.specs.Merged.{parts_texts, merged_sizes, merged_texts, merged_file};
 
-use msf_blocks::Sink;
+use byte_io::Sink;
 use msf_streams::{WriteFault, image_len, write_parts};
 use pdb_info::{Settings, info_bytes};
 use std::alloc::Allocator;

@@ -16,7 +16,7 @@ mod line;
 mod output;
 
 use line::{Line, LineFault, USAGE, read_line};
-use msf_blocks::{In, Out, put_all};
+use byte_io::{In, Out, put_all};
 use output::NewFile;
 use pdb_commands::{
     ReadFault, RunFault, read_all, run_check, run_info, run_merge, run_record, run_records,

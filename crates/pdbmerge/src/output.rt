@@ -2,7 +2,7 @@
 
 ghost use Rattle.std.specs.Prelude.{◌≡◌, None, false};
 
-use msf_blocks::{Out, Sink};
+use byte_io::{Out, Sink};
 use std::fs;
 use std::rt::Files;
 

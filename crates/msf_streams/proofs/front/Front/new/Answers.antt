@@ -1,5 +1,6 @@
 use Rattle.std.proofs.Common.{arith}
-use Rattle.msf_streams.proofs.FrontLaws.{small_number, superblock_is, block_map_is, directory_is}
+use Rattle.msf_blocks.proofs.WrittenLaws.{small_number}
+use Rattle.msf_streams.proofs.FrontLaws.{superblock_is, block_map_is, directory_is}
 use Rattle.msf_streams.proofs.front.Front.new.Goals as goal
 
 pub nth_block-block_map_addr-requires-clause-fits : goal.nth_block-block_map_addr-requires-clause-fits
@@ -15,7 +16,7 @@ returns-clause-value g c =
     record {
       fits = c.requires.fits;
       count = c.requires.count;
-      superblock_is = superblock_is b c.args.num_blocks _ c.directory_len.result c.nth_block-block_map_addr.result sizes _ five c.requires.count blocks c.directory_len.ensures c.nth_block-block_map_addr.ensures.value c.superblock_of-superblock.ensures;
-      block_map_is = block_map_is b _ _ sizes _ five blocks directory c.in_ok-block_map_of.ensures;
-      directory_is = directory_is b _ _ sizes _ five blocks directory c.in_ok-directory_of.ensures;
+      superblock_is = superblock_is b c.args.num_blocks _ c.directory_len.result c.nth_block-block_map_addr.result sizes _ five c.requires.count blocks c.directory_len.ensures c.nth_block-block_map_addr.ensures.value c.superblock_bytes-superblock.ensures;
+      block_map_is = block_map_is b _ _ sizes _ five blocks directory c.in_ok-block_map_bytes.ensures;
+      directory_is = directory_is b _ _ sizes _ five blocks directory c.in_ok-directory_bytes.ensures;
     }

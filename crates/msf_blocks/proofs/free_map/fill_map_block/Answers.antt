@@ -1,8 +1,8 @@
 use Rattle.std.proofs.Common.{◌≡◌, ℕ, ◌+◌, ◌*◌, ◌/◌, ◌%◌, nat_eq, true, arith}
 use Rattle.std.proofs.lemmas.Bool.Decides.{nat_tests}
 use Rattle.std.proofs.lemmas.List.FromFn.{fill_by_all}
-use Rattle.msf_streams.specs.Image.{map_byte, map_block}
-use Rattle.msf_streams.proofs.map_block.fill_map.Goals as goal
+use Rattle.msf_blocks.specs.FreeMap.{map_byte, map_block}
+use Rattle.msf_blocks.proofs.free_map.fill_map_block.Goals as goal
 
 pub returns : goal.returns
 unfolding map_block

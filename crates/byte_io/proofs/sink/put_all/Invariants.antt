@@ -1,6 +1,6 @@
 use Rattle.std.proofs.Common.{◌≡◌, ◌++◌, List, ℕ, true, length}
 use Rattle.std.specs.Io.KnownBytes.{Appends}
-use Rattle.msf_blocks.proofs.sink.put_all.Given as goal
+use Rattle.byte_io.proofs.sink.put_all.Given as goal
 
 abbrev pub invariant-loop-rest : goal.invariant-loop-rest
 invariant-loop-rest g l =

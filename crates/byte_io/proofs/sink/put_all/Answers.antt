@@ -1,7 +1,7 @@
 use Rattle.std.proofs.Common.{arith, take, ◌++◌}
 use Rattle.std.proofs.KnownBytes.{Appends-trans}
-use Rattle.msf_blocks.proofs.SinkLaws.{taken_more, prefix_is}
-use Rattle.msf_blocks.proofs.sink.put_all.Goals as goal
+use Rattle.byte_io.proofs.SinkLaws.{taken_more, prefix_is}
+use Rattle.byte_io.proofs.sink.put_all.Goals as goal
 
 pub returns-then-count-eq0-clause-prefix : goal.returns-then-count-eq0-clause-prefix
 returns-then-count-eq0-clause-prefix g c =

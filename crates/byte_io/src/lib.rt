@@ -1,0 +1,19 @@
+//! What takes bytes, and what gives them.
+//!
+//! All reading and writing of the project goes through two traits. A fault of the system is a
+//! value, and the contracts of both traits say what it means.
+//!
+//! - [`Sink`] takes bytes. [`Out`] makes a sink of any `Write`, and [`put_all`] writes a whole
+//!   slice into a sink.
+//! - [`Source`] gives bytes. [`In`] makes a source of any `Read`.
+//!
+//! What is proved: a sink took just the bytes that its calls say, in order. After [`NotTaken`] it
+//! took a proper prefix of the bytes. A sink or a source that broke stays broken. All of this says
+//! nothing where the bytes of a writer or a reader are not known, as those of a file.
+#![tactic(auto)]
+
+mod sink;
+mod source;
+
+pub use sink::{NotTaken, Out, Sink, put_all};
+pub use source::{In, Source};
