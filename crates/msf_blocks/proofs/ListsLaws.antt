@@ -143,4 +143,4 @@ unfolding word
 layout_fits file fields text n streams bytes h text_is count read =
     let small : AreBytes text = rw text_is (text_bytes file fields bytes) in
     let long : length streams ≡ n = rw read (length-map-range_with_len (listed_at fields.block_size text) 0 n) in
-    record { few = omega (arith, long, count, number_at-small text 0 small); each = h.lists.each }
+    record { size = h.superblock.fit.block_size_fits; few = omega (arith, long, count, number_at-small text 0 small); each = h.lists.each }

@@ -2,6 +2,7 @@
 use Rattle.std.specs.Prelude.{ℕ, ◌<◌, ◌^◌, ◌++◌, List, Option, Some, None, length, slice_get, All}
 use Rattle.byte_fields.specs.Number.{word}
 use Rattle.byte_fields.specs.Check.{Check, checks_below}
+use Rattle.msf_blocks.specs.BlockNumber.{IsBlockSize}
 use Rattle.msf_blocks.specs.Superblock.{Fields, IsSuperblock, fields_of, superblock_checks}
 use Rattle.msf_blocks.specs.Directory.{Listed, IsListed, IsDirectory, ListsStreams, directory_text, directory_block_checks, length_checks, stream_checks}
 use Rattle.msf_blocks.specs.declared.fault.MsfFault.{MsfFault}
@@ -20,6 +21,7 @@ pub record HasLayout (file : List ℕ) (layout : LayoutView) : Type 0 where
 
 -- what holds of every layout
 pub record IsLayout (layout : LayoutView) : Type 0 where
+  pub size : IsBlockSize layout.superblock.block_size
   pub few : length layout.streams < 2 ^ 32
   pub each : All (IsListed layout.superblock) layout.streams
 

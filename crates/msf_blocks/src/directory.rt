@@ -51,8 +51,6 @@ fn map_number(file: &[u8], superblock: &Superblock, position: u32) -> u32
     ensures { result ≡ map_number file.now superblock.now position }
 {
     let start = superblock.block_map_addr() as usize * superblock.block_size() as usize;
-    // This call tells the proof that the block map has room for every position.
-    let _ = superblock.directory_bytes();
     u32_at(file, start + 4 * position as usize)
 }
 
@@ -74,10 +72,12 @@ fn check_block_map(file: &[u8], superblock: &Superblock) -> Result<(), MsfFault>
 impl<'a> Directory<'a> {
     /// Finds the directory of a file that begins with this superblock, and checks the numbers of
     /// the directory's blocks.
+    #[tactic(auto, using(crate::proofs::DirectoryLaws::text_length))]
     pub fn find(file: &'a [u8], superblock: Superblock) -> Result<Directory<'a>, MsfFault>
         requires { superblock.num_blocks * superblock.block_size ≤ length file.now }
         ensures superblock { IfOk result (λ d. d.superblock ≡ superblock) }
         ensures text { IfOk result (λ d. d.text ≡ directory_text file.now superblock) }
+        ensures short { IfOk result (λ d. length d.text < 2 ^ 32) }
         ensures first { Makes result (directory_block_checks file.now superblock) }
     {
         check_block_map(file, &superblock)?;
@@ -100,7 +100,6 @@ impl<'a> Directory<'a> {
         ensures { result ≡ word self.now.text position }
     {
         let block_size = self.superblock.block_size();
-        let _ = self.superblock.directory_bytes();
         let offset = 4 * position;
         let block = map_number(self.file, &self.superblock, offset / block_size);
         let start = block as usize * block_size as usize;
@@ -110,10 +109,10 @@ impl<'a> Directory<'a> {
 
     /// The listed size of a stream in bytes: 0xFFFFFFFF for a nil stream.
     pub fn size(&self, stream: u32) -> u32
-        requires { 4 * (1 + stream) + 4 ≤ length self.now.text }
+        requires there { 4 * (1 + stream) + 4 ≤ length self.now.text }
+        requires short { length self.now.text < 2 ^ 32 }
         ensures { result ≡ word self.now.text (1 + stream) }
     {
-        let _ = self.superblock();
         self.word(1 + stream)
     }
 
@@ -191,9 +190,9 @@ impl<'a> Directory<'a> {
     pub fn check_streams(&self, streams: u32) -> Result<(), MsfFault>
         requires streams { streams ≡ word self.now.text 0 }
         requires room { 4 * list_start self.now.superblock.block_size self.now.text streams ≤ length self.now.text }
+        requires short { length self.now.text < 2 ^ 32 }
         ensures { Makes result (checks_below streams (stream_checks self.now.superblock self.now.text)) }
     {
-        let _ = self.superblock();
         let mut start = 1 + streams;
         for stream in 0..streams {
             let count = self.stream_blocks(stream);
@@ -212,10 +211,10 @@ impl<'a> Directory<'a> {
         start: u32,
         count: u32,
     ) -> Result<Vec<u32, A>, AllocError>
-        requires { 4 * (start + count) ≤ length self.now.text }
+        requires room { 4 * (start + count) ≤ length self.now.text }
+        requires short { length self.now.text < 2 ^ 32 }
         ensures { IfOk result (λ v. v.items ≡ map (λ k. word self.now.text (start + k)) (range_with_len 0 count)) }
     {
-        let _ = self.superblock();
         let mut numbers = Vec::with_capacity(alloc, count as usize)?;
         for k in 0..count {
             numbers.push(self.word(start + k))?;

@@ -1,6 +1,6 @@
 //! Where the streams of a container are.
 
-ghost use Rattle.std.specs.Prelude.{◌≡◌, ◌≤◌, ◌*◌, length, map, IfOk, IfErr, slice_get, option_map};
+ghost use Rattle.std.specs.Prelude.{◌≡◌, ◌≤◌, ◌<◌, ◌*◌, ◌^◌, length, map, IfOk, IfErr, slice_get, option_map};
 ghost use Rattle.byte_fields.specs.Number.{word};
 ghost use Rattle.byte_fields.specs.Check.{Makes, Refuses, first_failing};
 ghost use Rattle.msf_blocks.specs.Superblock.{IsSuperblock, fields_of};
@@ -52,6 +52,7 @@ fn check(file: &[u8]) -> Result<(Directory<'_>, u32), MsfFault>
     ensures found { IfOk result (λ r. IsSuperblock file.now r.0.superblock) }
     ensures fields { IfOk result (λ r. r.0.superblock ≡ fields_of file.now) }
     ensures text { IfOk result (λ r. r.0.text ≡ directory_text file.now r.0.superblock) }
+    ensures short { IfOk result (λ r. length r.0.text < 2 ^ 32) }
     ensures streams { IfOk result (λ r. r.1 ≡ word r.0.text 0) }
     ensures room { IfOk result (λ r. 4 * list_start r.0.superblock.block_size r.0.text r.1 ≤ length r.0.text) }
     ensures first { Makes result (layout_checks file.now) }
@@ -72,10 +73,10 @@ fn listed<A: Allocator + Copy>(
 ) -> Result<Vec<Stream<A>, A>, MsfFault>
     requires streams { streams ≡ word directory.now.text 0 }
     requires room { 4 * list_start directory.now.superblock.block_size directory.now.text streams ≤ length directory.now.text }
+    requires short { length directory.now.text < 2 ^ 32 }
     ensures value { IfOk result (λ v. map listed_of v.items ≡ listed_below directory.now.superblock.block_size directory.now.text streams) }
     ensures memory { IfErr result (λ fault. fault ≡ MsfFault.Memory) }
 {
-    let _ = directory.superblock();
     let mut listed = Vec::with_capacity(alloc, streams as usize)?;
     let mut start = 1 + streams;
     for stream in 0..streams {
@@ -138,7 +139,8 @@ impl<A: Allocator> Layout<A> {
     /// The length of the `s`-th stream in bytes, from 0. A nil stream has length 0. `None` where
     /// `s` is not a stream.
     pub fn size(&self, s: u32) -> Option<u32>
-        ensures { result ≡ option_map (λ l. bytes_of l.size) (slice_get self.now.streams s) }
+        ensures value { result ≡ option_map (λ l. bytes_of l.size) (slice_get self.now.streams s) }
+        ensures fits { IsLayout self.now }
     {
         let stream = self.streams.get(s as usize)?;
         Some(bytes_of(stream.size))
@@ -147,7 +149,8 @@ impl<A: Allocator> Layout<A> {
     /// The number of the `k`-th block of the `s`-th stream. Both count from 0. `None` where `s` is
     /// not a stream, or where the stream has no such block.
     pub fn block(&self, s: u32, k: u32) -> Option<u32>
-        ensures { result ≡ block_of self.now.streams s k }
+        ensures value { result ≡ block_of self.now.streams s k }
+        ensures fits { IsLayout self.now }
     {
         let stream = self.streams.get(s as usize)?;
         stream.blocks.get(k as usize).copied()

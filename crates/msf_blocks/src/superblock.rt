@@ -144,6 +144,8 @@ impl Superblock {
     pub fn block_size(&self) -> u32
         ensures value { result ≡ self.now.block_size }
         ensures fits { IsBlockSize result }
+        // One block can list the blocks of the directory.
+        ensures listed { blocks_for result self.now.directory_bytes ≤ result / 4 }
     {
         self.block_size
     }

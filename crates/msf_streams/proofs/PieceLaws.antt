@@ -8,7 +8,7 @@ use Rattle.std.proofs.lemmas.Bool.{cases_lt}
 use Rattle.std.proofs.lemmas.Bool.Decides.{nat_tests}
 use Rattle.std.proofs.lemmas.List.{append-nil, drop_more, drop_all, nil_from_length}
 use Rattle.std.proofs.lemmas.List.Elements.{All-head, All-tail, All-get_or, All-from_get_or}
-use Rattle.msf_blocks.specs.BlockNumber.{IsBlockSize, IsOrdinary, blocks_for}
+use Rattle.msf_blocks.specs.BlockNumber.{IsOrdinary, blocks_for}
 use Rattle.msf_blocks.proofs.SizeLaws.{some_bytes, few_for}
 use Rattle.msf_blocks.specs.Superblock.{Fields}
 use Rattle.msf_blocks.specs.Directory.{Listed, IsListed, bytes_of}
@@ -152,9 +152,9 @@ stream_at layout s holds below = record {
 }
 
 -- the block at a position of a stream's list is an ordinary one, and the position is small
-pub listed_block : (layout : LayoutView) (s position block : ℕ) → IsBlockSize layout.superblock.block_size → IsLayout layout → block_of layout.streams s position ≡ Some block
+pub listed_block : (layout : LayoutView) (s position block : ℕ) → IsLayout layout → block_of layout.streams s position ≡ Some block
     → IsOrdinary layout.superblock.num_blocks block × (position < 2 ^ 23)
-listed_block layout s position block size holds e = elim (cases_lt s (length layout.streams)) [
+listed_block layout s position block holds e = elim (cases_lt s (length layout.streams)) [
   | inl below ↦
       let stream = get_or layout.streams s no_stream in
       let is_stream = stream_at layout s holds below in
@@ -164,7 +164,7 @@ listed_block layout s position block size holds e = elim (cases_lt s (length lay
       let is : get_or stream.blocks position 0 ≡ block = cc in
       let short : bytes_of stream.size < 2 ^ 32 = bytes_short stream.size is_stream.fits.short in (
         rw is at (All-get_or (IsOrdinary layout.superblock.num_blocks) stream.blocks position 0 inside is_stream.fits.ordinary),
-        omega (arith, is_stream.fits.count, few_for layout.superblock.block_size (bytes_of stream.size) size short),
+        omega (arith, is_stream.fits.count, few_for layout.superblock.block_size (bytes_of stream.size) holds.size short),
       )
   | inr past ↦ let none : slice_get layout.streams s ≡ None = slice_get_past layout.streams s past in absurd (let bad = rw none at e in cc)
 ]
@@ -184,13 +184,13 @@ blocks_fit file fields stream whole fits = All-from_get_or (IsWhole file fields.
 -- ---- the pieces of a stream
 
 -- the joined pieces of a stream are its contents
-pub pieces_text : (file : List ℕ) (layout : LayoutView) (s : ℕ) (found : Option (List (List ℕ))) → IsBlockSize layout.superblock.block_size → IsLayout layout
+pub pieces_text : (file : List ℕ) (layout : LayoutView) (s : ℕ) (found : Option (List (List ℕ))) → IsLayout layout
     → layout.superblock.num_blocks * layout.superblock.block_size ≤ length file → found ≡ stream_pieces file layout s → IfSome found (λ p. stream_text file layout s ≡ Some (concat p))
-pieces_text file layout s found size holds whole e = elim (cases_lt s (length layout.streams)) [
+pieces_text file layout s found holds whole e = elim (cases_lt s (length layout.streams)) [
   | inl below ↦
       let stream = get_or layout.streams s no_stream in
       let is_stream = stream_at layout s holds below in
-      let joined = concat-pieces file layout.superblock.block_size (bytes_of stream.size) stream.blocks (some_bytes layout.superblock.block_size size) is_stream.fits.count
+      let joined = concat-pieces file layout.superblock.block_size (bytes_of stream.size) stream.blocks (some_bytes layout.superblock.block_size holds.size) is_stream.fits.count
       (blocks_fit file layout.superblock stream whole is_stream.fits) in
       rw (e, is_stream.here) (ap (λ (text : List ℕ). Some text) (sym joined))
   | inr past ↦ let none : slice_get layout.streams s ≡ None = slice_get_past layout.streams s past in rw (e, none) tt

@@ -16,6 +16,7 @@ ghost use Rattle.std.specs.List.{concat};
 ghost use Rattle.std.specs.Iterator.{YieldsFirstRef, item_count};
 ghost use Rattle.msf_blocks.specs.BlockNumber.{blocks_for};
 ghost use Rattle.msf_blocks.specs.Directory.{bytes_of};
+ghost use Rattle.msf_blocks.specs.Layout.{IsLayout};
 ghost use Rattle.msf_streams.specs.Stream.{stream_pieces, stream_text, pieces_from};
 
 use crate::fault::StreamFault;
@@ -42,9 +43,6 @@ pub fn pieces<'a, A: Allocator>(
         length p ≡ blocks_for layout.now.superblock.block_size (bytes_of stream.size))) }
     ensures none { IsNone result ↔ (length layout.now.streams ≤ s) }
 {
-    // These two calls tell the proof that the stream's blocks are in the file.
-    let _ = layout.streams();
-    let _ = layout.superblock().block_size();
     StreamPieces::new(file, layout, s)
 }
 
@@ -110,7 +108,8 @@ impl<'a, A: Allocator> StreamPieces<'a, A> {
     /// All the pieces of the `s`-th stream.
     fn new(file: &'a [u8], layout: &'a Layout<A>, s: u32) -> Option<StreamPieces<'a, A>>
         requires { layout.now.superblock.num_blocks * layout.now.superblock.block_size ≤ length file.now }
-        ensures { result ≡ stream_pieces file.now layout.now s }
+        ensures value { result ≡ stream_pieces file.now layout.now s }
+        ensures fits { IsLayout layout.now }
     {
         let left = layout.size(s)?;
         Some(StreamPieces {
@@ -163,8 +162,6 @@ fn piece<'a, A: Allocator>(
     ensures none { IfNone result (pieces_from file.now layout.now s position left ≡ []) }
 {
     let block = layout.block(s, position)?;
-    // This call tells the proof that the block is in the file.
-    let _ = layout.streams();
     let block_size = layout.superblock().block_size();
     let start = block as usize * block_size as usize;
     let len = block_size.min(left) as usize;

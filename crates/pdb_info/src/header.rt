@@ -1,7 +1,8 @@
-//! The header of an info stream.
+//! The header of an info stream: reads one, and writes one.
 
-ghost use Rattle.std.specs.Prelude.{◌≡◌, ◌≢◌, ◌≤◌, length, take, drop, IsOk, IfOk, IfErr};
+ghost use Rattle.std.specs.Prelude.{◌≡◌, ◌≢◌, ◌≤◌, [], ◌∷◌, ◌++◌, length, take, drop, IsOk, IfOk, IfErr};
 ghost use Rattle.byte_fields.specs.Check.{Makes};
+ghost use Rattle.byte_fields.specs.Number.{words};
 ghost use Rattle.pdb_info.specs.Guid.{stored_guid};
 ghost use Rattle.pdb_info.specs.Header.{HeaderFields, HasInfoHeader, header_checks};
 
@@ -13,6 +14,18 @@ use uuid::Uuid;
 
 /// The length of a header, in bytes.
 pub(crate) const LENGTH: usize = 28;
+
+// The offsets of the fields, in bytes from the front of the stream.
+const VERSION: usize = 0;
+
+const SIGNATURE: usize = 4;
+
+const AGE: usize = 8;
+
+const GUID: usize = 12;
+
+/// The version VC70, which current compilers write.
+const VC70: u32 = 20000404;
 
 /// What the header of an info stream says: the version, the signature, the age and the GUID.
 ///
@@ -37,11 +50,11 @@ impl Model for InfoHeader {
 
 /// The GUID in the last 16 bytes of the header.
 fn guid_at_end(stream: &[u8]) -> Uuid
-    requires { 28 ≤ length stream.now }
+    requires { LENGTH ≤ length stream.now }
     ensures { result ≡ stored_guid (take 16 (drop 12 stream.now)) }
 {
     let mut bytes = [0; 16];
-    bytes.copy_from_slice(&stream[12..LENGTH]);
+    bytes.copy_from_slice(&stream[GUID..LENGTH]);
     guid_of(bytes)
 }
 
@@ -62,9 +75,9 @@ impl InfoHeader {
             return Err(InfoFault::InfoShort);
         }
         Ok(InfoHeader {
-            version: u32_at(stream, 0),
-            signature: u32_at(stream, 4),
-            age: u32_at(stream, 8),
+            version: u32_at(stream, VERSION),
+            signature: u32_at(stream, SIGNATURE),
+            age: u32_at(stream, AGE),
             guid: guid_at_end(stream),
         })
     }
@@ -96,4 +109,18 @@ impl InfoHeader {
     {
         self.guid
     }
+}
+
+/// The header of an info stream of version VC70, with the signature 0, this age and this stored
+/// GUID.
+#[tactic(auto, unfolding(byte_fields::specs::Number::four_bytes))]
+pub(crate) fn header_bytes(age: u32, stored: [u8; 16]) -> [u8; LENGTH]
+    ensures value { result ≡ words (20000404 ∷ 0 ∷ age ∷ []) ++ stored }
+    ensures long { length stored ≡ 16 }
+{
+    let mut header = [0; LENGTH];
+    header[VERSION..SIGNATURE].copy_from_slice(&VC70.to_le_bytes());
+    header[AGE..GUID].copy_from_slice(&age.to_le_bytes());
+    header[GUID..].copy_from_slice(&stored);
+    header
 }

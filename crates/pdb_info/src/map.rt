@@ -7,7 +7,7 @@ ghost use Rattle.pdb_info.specs.Names.{IsMap, numbers_at, present_count, map_che
 
 use crate::fault::InfoFault;
 use crate::header::LENGTH;
-use byte_fields::u32_at;
+use byte_fields::{fits, u32_at};
 
 /// How many bytes Size, Capacity and the number of present words take together.
 pub(crate) const COUNTS: usize = 12;
@@ -32,7 +32,7 @@ pub(crate) fn check_fits(stream: &[u8], offset: usize, count: usize) -> Result<(
     ensures short { IfErr result (λ _. length stream.now < offset + count) }
     ensures fault { IfErr result (λ fault. fault ≡ InfoFault.NamesShort offset) }
 {
-    if stream.len() < offset + count {
+    if !fits(stream, offset, count) {
         return Err(InfoFault::NamesShort(offset as u64));
     }
     Ok(())

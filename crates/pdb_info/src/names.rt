@@ -8,8 +8,7 @@ ghost use Rattle.pdb_info.specs.Name.{named};
 
 use crate::fault::InfoFault;
 use crate::map::NameMap;
-use crate::pairs::name_at;
-use byte_fields::u32_at;
+use byte_fields::{name_at, u32_at};
 use std::alloc::Allocator;
 
 /// A stream with its name, which is lent from the info stream. ("The PDB Info Stream", "Named
@@ -32,7 +31,10 @@ impl NameMap {
         ensures { named result ≡ named_in (buffer_of stream.now) (pair_at stream.now k) }
     {
         let offset = self.pairs_offset + 8 * k as usize;
-        let text = name_at(self.buffer(stream), u32_at(stream, offset)).unwrap_or_default();
+        let text = name_at(
+            self.buffer(stream),
+            u32_at(stream, offset) as usize,
+        ).unwrap_or_default();
         Name {
             text,
             stream: u32_at(stream, offset + 4),

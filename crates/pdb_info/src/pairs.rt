@@ -1,31 +1,13 @@
 //! The pairs of the named stream map: which buckets are present, and the names of their streams.
 
-ghost use Rattle.std.specs.Prelude.{◌≡◌, ◌+◌, ◌*◌, ◌<◌, ◌≤◌, ◌==◌, length, drop, get_or, is_some, IfOk, IfSome};
-ghost use Rattle.std.specs.List.{before_first};
+ghost use Rattle.std.specs.Prelude.{◌≡◌, ◌+◌, ◌*◌, ◌<◌, ◌≤◌, length, get_or, IfOk};
 ghost use Rattle.byte_fields.specs.Check.{Makes, checks_below};
-ghost use Rattle.pdb_info.specs.Names.{IsMap, is_named, is_present, present_of, present_buckets, pair_offset, pairs_offset, pair_checks, size_of, buffer_of};
+ghost use Rattle.pdb_info.specs.Names.{IsMap, is_present, present_of, present_buckets, pair_offset, pairs_offset, pair_checks, size_of, buffer_of};
 
 use crate::fault::InfoFault;
 use crate::header::LENGTH;
 use crate::map::{COUNTS, NameMap, check_fits};
-use bstr::ByteSlice;
-use byte_fields::u32_at;
-
-/// The name at `offset` in the string buffer: the bytes up to the next NUL. `None` where no NUL
-/// follows.
-#[tactic(auto, using(crate::proofs::NameLaws::named_past))]
-pub(crate) fn name_at(buffer: &[u8], offset: u32) -> Option<&[u8]>
-    ensures value { IfSome result (λ name. name.now ≡ before_first (λ byte. byte == 0) (drop offset buffer.now)) }
-    ensures found { is_some result ≡ is_named buffer.now offset }
-{
-    let offset = offset as usize;
-    if offset > buffer.len() {
-        return None;
-    }
-    let from = &buffer[offset..];
-    let end = from.find_byte(0)?;
-    Some(&from[..end])
-}
+use byte_fields::{name_at, u32_at};
 
 impl NameMap {
     /// The string buffer.
@@ -61,7 +43,7 @@ impl NameMap {
     {
         let offset = self.pairs_offset + 8 * k as usize;
         check_fits(stream, offset, 8)?;
-        if name_at(self.buffer(stream), u32_at(stream, offset)).is_none() {
+        if name_at(self.buffer(stream), u32_at(stream, offset) as usize).is_none() {
             return Err(InfoFault::NameOffset(bucket));
         }
         Ok(())

@@ -6,25 +6,24 @@ ghost use Rattle.pdb_info.specs.Info.{HasInfo};
 ghost use Rattle.pdb_info.specs.Written.{info_text, info_view};
 
 use crate::guid::guid_bytes;
+use crate::header::{LENGTH, header_bytes};
 use crate::settings::Settings;
 
-/// The version VC70, which current compilers write.
-const VERSION: u32 = 20000404;
+/// The offset of Capacity in a stream without names: the length of the buffer and Size come
+/// between the header and it.
+const CAPACITY: usize = LENGTH + 8;
 
 /// How many buckets a map without names has.
-const CAPACITY: u32 = 8;
+const BUCKETS: u32 = 8;
 
-/// Makes the stream, field by field.
-#[tactic(auto, unfolding(byte_fields::specs::Number::four_bytes))]
+/// Makes the stream: the header, and a map without names.
 fn stream_of(age: u32, stored: [u8; 16]) -> [u8; 52]
     ensures value { result ≡ words (20000404 ∷ 0 ∷ age ∷ []) ++ (stored ++ words (0 ∷ 0 ∷ 8 ∷ 0 ∷ 0 ∷ 0 ∷ [])) }
     ensures long { length stored ≡ 16 }
 {
     let mut stream = [0; 52];
-    stream[..4].copy_from_slice(&VERSION.to_le_bytes());
-    stream[8..12].copy_from_slice(&age.to_le_bytes());
-    stream[36..40].copy_from_slice(&CAPACITY.to_le_bytes());
-    stream[12..28].copy_from_slice(&stored);
+    stream[CAPACITY..CAPACITY + 4].copy_from_slice(&BUCKETS.to_le_bytes());
+    stream[..LENGTH].copy_from_slice(&header_bytes(age, stored));
     stream
 }
 

@@ -1,8 +1,9 @@
-//! The header of a TPI stream.
+//! The header of a TPI stream: reads one, and writes one.
 
-ghost use Rattle.std.specs.Prelude.{◌≡◌, ◌≢◌, IsOk, IfOk, IfErr};
+ghost use Rattle.std.specs.Prelude.{◌≡◌, ◌≢◌, ◌+◌, ◌<◌, ◌^◌, IsOk, IfOk, IfErr};
 ghost use Rattle.byte_fields.specs.Check.{Makes};
 ghost use Rattle.tpi_records.specs.Header.{Header, HasTpiHeader, header_checks};
+ghost use Rattle.tpi_records.specs.Written.{header_text, HeadsRecords};
 
 use crate::fault::TpiFault;
 use byte_fields::u32_at;
@@ -11,11 +12,36 @@ use std::marker::Model;
 /// The length of a header, in bytes.
 pub(crate) const LENGTH: usize = 56;
 
-/// The version V80, which current compilers write.
-pub(crate) const VERSION: u32 = 20040203;
+// The offsets of the fields, in bytes from the front of the stream.
+const VERSION: usize = 0;
 
-/// The first type index of a record. The type indices below it are simple types.
-pub(crate) const BEGIN: u32 = 0x1000;
+const HEADER_SIZE: usize = 4;
+
+const TYPE_INDEX_BEGIN: usize = 8;
+
+const TYPE_INDEX_END: usize = 12;
+
+const TYPE_RECORD_BYTES: usize = 16;
+
+const HASH_STREAM: usize = 20;
+
+const HASH_KEY_SIZE: usize = 24;
+
+const NUM_HASH_BUCKETS: usize = 28;
+
+const HASH_VALUE_BUFFER: usize = 32;
+
+/// The version V80, which current compilers write.
+const V80: u32 = 20040203;
+
+/// The type index of the first record. The type indices below it are simple types.
+pub const FIRST_INDEX: u32 = 0x1000;
+
+/// How many bytes a hash value has.
+const HASH_KEY_BYTES: u32 = 4;
+
+/// How many hash buckets there are.
+const HASH_BUCKETS: u32 = 0x3FFFF;
 
 /// What the header of a TPI stream says of the records: how many there are, and their length in
 /// bytes.
@@ -62,30 +88,30 @@ impl TpiHeader {
         if stream.len() < LENGTH {
             return Err(TpiFault::Short);
         }
-        let version = u32_at(stream, 0);
-        if version != VERSION {
+        let version = u32_at(stream, VERSION);
+        if version != V80 {
             return Err(TpiFault::Version(version));
         }
-        let header_size = u32_at(stream, 4);
-        if header_size != 56 {
+        let header_size = u32_at(stream, HEADER_SIZE);
+        if header_size != LENGTH as u32 {
             return Err(TpiFault::HeaderSize(header_size));
         }
-        let begin = u32_at(stream, 8);
-        if begin != BEGIN {
+        let begin = u32_at(stream, TYPE_INDEX_BEGIN);
+        if begin != FIRST_INDEX {
             return Err(TpiFault::Begin(begin));
         }
-        let end = u32_at(stream, 12);
-        if end < BEGIN {
+        let end = u32_at(stream, TYPE_INDEX_END);
+        if end < FIRST_INDEX {
             return Err(TpiFault::End(end));
         }
-        let record_bytes = u32_at(stream, 16);
+        let record_bytes = u32_at(stream, TYPE_RECORD_BYTES);
         let need = u64::from(record_bytes);
         let have = (stream.len() - LENGTH) as u64;
         if have < need {
             return Err(TpiFault::Bytes { need, have });
         }
         Ok(TpiHeader {
-            count: end - BEGIN,
+            count: end - FIRST_INDEX,
             record_bytes,
         })
     }
@@ -103,4 +129,37 @@ impl TpiHeader {
     {
         self.record_bytes
     }
+}
+
+/// Makes the header, field by field.
+#[tactic(auto, unfolding(crate::specs::Written::header_text, byte_fields::specs::Number::four_bytes))]
+fn header_of(count: u32, bytes: u32) -> [u8; LENGTH]
+    requires { FIRST_INDEX + count < 2 ^ 32 }
+    ensures { result ≡ header_text count bytes }
+{
+    let end = FIRST_INDEX + count;
+    let mut header = [0; LENGTH];
+    header[VERSION..HEADER_SIZE].copy_from_slice(&V80.to_le_bytes());
+    header[HEADER_SIZE..TYPE_INDEX_BEGIN].copy_from_slice(&(LENGTH as u32).to_le_bytes());
+    header[TYPE_INDEX_BEGIN..TYPE_INDEX_END].copy_from_slice(&FIRST_INDEX.to_le_bytes());
+    header[TYPE_INDEX_END..TYPE_RECORD_BYTES].copy_from_slice(&end.to_le_bytes());
+    header[TYPE_RECORD_BYTES..HASH_STREAM].copy_from_slice(&bytes.to_le_bytes());
+    // Two stream numbers of two bytes each: there is no hash stream and no auxiliary hash stream.
+    header[HASH_STREAM..HASH_KEY_SIZE].copy_from_slice(&u32::MAX.to_le_bytes());
+    header[HASH_KEY_SIZE..NUM_HASH_BUCKETS].copy_from_slice(&HASH_KEY_BYTES.to_le_bytes());
+    header[NUM_HASH_BUCKETS..HASH_VALUE_BUFFER].copy_from_slice(&HASH_BUCKETS.to_le_bytes());
+    header
+}
+
+/// The header of a TPI stream with `count` records, which have `bytes` bytes together.
+///
+/// The version is 20040203, the header has 56 bytes, the type indices begin at 0x1000, and there is
+/// no hash stream. A stream of this header and `count` records after it reads back as these
+/// records. This does not allocate. ("The PDB TPI and IPI Streams", "Stream Header".)
+pub fn tpi_header_bytes(count: u32, bytes: u32) -> [u8; 56]
+    requires { FIRST_INDEX + count < 2 ^ 32 }
+    ensures value { result ≡ header_text count bytes }
+    ensures read_back { HeadsRecords result count bytes }
+{
+    header_of(count, bytes)
 }

@@ -31,10 +31,8 @@ mod fault;
 mod header;
 mod iter;
 mod records;
-mod written;
 
 pub use fault::TpiFault;
-pub use header::TpiHeader;
+pub use header::{FIRST_INDEX, TpiHeader, tpi_header_bytes};
 pub use iter::Iter;
 pub use records::Records;
-pub use written::tpi_header_bytes;

@@ -7,7 +7,7 @@ ghost use Rattle.tpi_records.specs.Header.{HasTpiHeader};
 ghost use Rattle.tpi_records.specs.Records.{IsRecord, IsFlaw, IsFramed, AreStarts, Begins, HasFlaw, IsMiscounted, IsFirstFault, HasRecords, record_at, records_in, framed_bytes};
 
 use crate::fault::TpiFault;
-use crate::header::{BEGIN, LENGTH, TpiHeader};
+use crate::header::{FIRST_INDEX, LENGTH, TpiHeader};
 use crate::iter::Iter;
 use byte_fields::u16_at;
 use std::alloc::{Allocator, Global};
@@ -67,7 +67,7 @@ fn check_records(bytes: &[u8], said: u32) -> Result<(), TpiFault>
     let mut start = 0;
     let mut found = 0;
     while start < bytes.len() {
-        start += record_len(bytes, start, BEGIN + found)?;
+        start += record_len(bytes, start, FIRST_INDEX + found)?;
         found += 1;
     }
     if found != said {
@@ -99,7 +99,7 @@ fn record_starts<A: Allocator>(alloc: A, bytes: &[u8], count: u32) -> Result<Vec
 {
     let mut starts = Vec::with_capacity(alloc, count as usize)?;
     let mut start = 0;
-    let mut index = BEGIN;
+    let mut index = FIRST_INDEX;
     while start < bytes.len() {
         // Both passes take the same step, so they see the same records.
         let len = record_len(bytes, start, index)?;

@@ -8,7 +8,7 @@ pub returns-clause-some : goal.returns-clause-some
 returns-clause-some g c =
     let layout = c.args.layout.now in
     let block = c.in_ok-block.block in
-    let there : block_of layout.streams c.args.s c.args.position ≡ Some block = sym c.block.ensures ∙ c.in_ok-block.was in
+    let there : block_of layout.streams c.args.s c.args.position ≡ Some block = sym c.block.ensures.value ∙ c.in_ok-block.was in
     let size : c.block_size-block_size.result ≡ layout.superblock.block_size = c.block_size-block_size.ensures.value ∙ ap (λ (fields : Fields). fields.block_size) c.superblock.ensures in
     let start = block * layout.superblock.block_size in
     let len : start + c.min-len.result - start ≡ min layout.superblock.block_size c.args.left = omega (arith, c.min-len.ensures, size) in

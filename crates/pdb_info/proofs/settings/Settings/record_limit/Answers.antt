@@ -1,5 +1,3 @@
-use Rattle.std.proofs.Common.{◌≡◌, subst}
-use Rattle.pdb_info.specs.Settings.{SettingsView, AreSettings, RecordsFit}
 use Rattle.pdb_info.proofs.SettingsLaws.{records_fit}
 use Rattle.pdb_info.proofs.settings.Settings.record_limit.Goals as goal
 
