@@ -11,7 +11,8 @@ use Rattle.byte_fields.proofs.CheckLaws.{check_held, first_failing-parts}
 use Rattle.byte_fields.proofs.NumberLaws.{number_at-take}
 use Rattle.cv_leaves.specs.Field.{fits}
 use Rattle.cv_leaves.specs.Numeric.{numeric_len, numeric_end, has_numeric, numeric_checks, numerics_end, numerics_checks}
-use Rattle.cv_leaves.specs.Terminated.{name_len, has_name, name_end, name_checks}
+use Rattle.byte_fields.specs.Name.{name_len, has_name}
+use Rattle.cv_leaves.specs.Terminated.{name_end, name_checks}
 use Rattle.cv_leaves.specs.Padding.{pads, padding_len, padding_holds, padding_checks}
 use Rattle.cv_leaves.specs.Member.{Member, member_of, has_virtual, indices_end, head_end, head_checks, numbers_end, fields_end, padded_end, fields_checks, member_end, member_checks, member_places, index_places}
 use Rattle.cv_leaves.specs.HasPlaces.{AreNumerics, IsNamed, IsPadding, IsMember}

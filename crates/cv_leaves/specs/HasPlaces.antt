@@ -1,11 +1,11 @@
 -- Where a record names other types: what it is made of, and the places in it ("CodeView Type Records").
 use Rattle.std.specs.Prelude.{ℕ, zero, suc, ◌≡◌, ◌⊎◌, ◌+◌, ◌*◌, ◌≤◌, ◌<◌, Bool, true, false, List, [], ◌∷◌, ◌++◌, Some, length, map, drop, slice_index, if◌then◌else◌}
 use Rattle.std.specs.List.{concat, AllByRecursion, Contains}
+use Rattle.byte_fields.specs.Name.{name_len}
 use Rattle.byte_fields.specs.Number.{number_at}
 use Rattle.cv_leaves.specs.Leaf.{Leaf, leaf_of}
 use Rattle.cv_leaves.specs.Attributes.{points_to_member, introduces}
 use Rattle.cv_leaves.specs.Numeric.{numeric_len}
-use Rattle.cv_leaves.specs.Terminated.{name_len}
 use Rattle.cv_leaves.specs.Member.{Member, member_of, has_virtual, index_places}
 use Rattle.cv_leaves.specs.Part.{start_of, stop_of}
 use Rattle.cv_leaves.specs.Checks.{kind_of, body_of}

@@ -1,9 +1,9 @@
 -- The name of the type that a record describes.
 use Rattle.std.specs.Prelude.{ℕ, List, Option, None, if◌then◌else◌}
 use Rattle.std.specs.Option.{option_map_or}
+use Rattle.byte_fields.specs.Name.{name_at}
 use Rattle.cv_leaves.specs.Leaf.{leaf_of}
 use Rattle.cv_leaves.specs.Numeric.{has_numeric, numeric_end}
-use Rattle.cv_leaves.specs.Terminated.{name_at}
 use Rattle.cv_leaves.specs.Checks.{kind_of, body_of}
 use Rattle.cv_leaves.specs.declared.leaf.Naming.{Naming}
 use Rattle.cv_leaves.specs.declared.leaf.Naming.TheVariants.{Unnamed, At, AfterNumeric}

@@ -1,21 +1,9 @@
--- A name that a NUL ends.
-use Rattle.std.specs.Prelude.{ℕ, ◌+◌, ◌==◌, nat_lt, Bool, List, [], ◌∷◌, Option, Some, None, length, take, drop, if◌then◌else◌}
-use Rattle.std.specs.List.{position_or_len}
+-- A name that a NUL ends, in a body.
+use Rattle.std.specs.Prelude.{ℕ, ◌+◌, List, [], ◌∷◌, drop}
 use Rattle.byte_fields.specs.Check.{Check}
+use Rattle.byte_fields.specs.Name.{name_len, has_name}
 use Rattle.cv_leaves.specs.declared.fault.LeafFault.{LeafFault}
 use Rattle.cv_leaves.specs.declared.fault.LeafFault.TheVariants.{Name}
-
--- how many bytes there are before the first NUL
-abbrev pub name_len : List ℕ → ℕ
-name_len bytes = position_or_len (λ b. b == 0) bytes
-
--- there is a NUL at `at` or after it
-unfoldable pub has_name : List ℕ → ℕ → Bool
-has_name body at = nat_lt (name_len (drop at body)) (length (drop at body))
-
--- the name at `at`: the bytes up to the first NUL, if one follows
-unfoldable pub name_at : List ℕ → ℕ → Option (List ℕ)
-name_at body at = if has_name body at then Some (take (name_len (drop at body)) (drop at body)) else None
 
 -- the offset at which the name at `at` ends, with its NUL
 unfoldable pub name_end : List ℕ → ℕ → ℕ

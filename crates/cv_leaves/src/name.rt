@@ -1,36 +1,15 @@
 //! The name of the type that a record describes.
 
-ghost use Rattle.std.specs.Prelude.{◌≡◌, ◌≤◌, ◌<◌, ◌^◌, option_map, length, drop, IfOk};
+ghost use Rattle.std.specs.Prelude.{◌≡◌, ◌≤◌, ◌<◌, ◌^◌, option_map, length, IfOk};
 ghost use Rattle.byte_fields.specs.Check.{Makes};
-ghost use Rattle.cv_leaves.specs.Terminated.{name_at, name_end, name_checks};
+ghost use Rattle.cv_leaves.specs.Terminated.{name_end, name_checks};
 ghost use Rattle.cv_leaves.specs.Name.{name_in, name_of};
 
 use crate::checks::{body_of, kind_of};
 use crate::fault::LeafFault;
 use crate::leaf::{Naming, leaf_of};
 use crate::numeric::after_numeric;
-use memchr::memchr;
-
-/// The bytes from the offset `at` on.
-fn rest_from(body: &[u8], at: usize) -> &[u8]
-    requires { at ≤ length body.now }
-    ensures { result.now ≡ drop at body.now }
-{
-    &body[at..]
-}
-
-/// The name that begins at the offset `at`, without its NUL. `None` where no NUL follows.
-#[tactic(auto, using(crate::proofs::NameLaws::name_here, crate::proofs::NameLaws::no_name_here, crate::proofs::NameLaws::no_name_past))]
-fn name_at(body: &[u8], at: usize) -> Option<&[u8]>
-    ensures { option_map (λ n. n.now) result ≡ name_at body.now at }
-{
-    if body.len() < at {
-        return None;
-    }
-    let rest = rest_from(body, at);
-    let len = memchr(0, rest)?;
-    Some(&rest[..len])
-}
+use byte_fields::name_at;
 
 /// Where the name at the offset `at` ends, with its NUL.
 #[tactic(auto, using(crate::proofs::NameLaws::name_ends, crate::proofs::NameLaws::name_holds, crate::proofs::NameLaws::name_fails))]

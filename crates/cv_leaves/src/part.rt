@@ -23,7 +23,7 @@ pub fn fits(body: &[u8], at: usize, len: usize) -> Result<(), LeafFault>
     requires { at + len < 2 ^ 32 }
     ensures { Makes result (fits body.now at len) }
 {
-    if body.len() < at + len {
+    if !byte_fields::fits(body, at, len) {
         return Err(LeafFault::Body(at as u32));
     }
     Ok(())
