@@ -6,7 +6,7 @@ use Rattle.byte_fields.specs.Bytes.{AreBytes}
 use Rattle.byte_fields.specs.Number.{number_at}
 use Rattle.cv_leaves.specs.Checks.{body_of}
 use Rattle.cv_leaves.specs.Blank.{put_four, fill, blank}
-use Rattle.cv_leaves.specs.HasPlaces.{HasPlaces, Apart}
+use Rattle.cv_leaves.specs.Place.{HasPlaces, Apart}
 use Rattle.cv_leaves.specs.References.{reference_at}
 use Rattle.cv_leaves.proofs.PutLaws.{number_in_body, put_len, two_before, read_before, put_read, put_own, put_twice, put_swap, put_bytes}
 use Rattle.cv_leaves.proofs.PlaceLaws.{Among, ends_behind, places_apart}

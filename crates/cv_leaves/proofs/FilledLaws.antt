@@ -6,7 +6,7 @@ use Rattle.byte_fields.specs.Number.{number_at}
 use Rattle.tpi_records.specs.Records.{IsRecord}
 use Rattle.cv_leaves.specs.Checks.{places_of}
 use Rattle.cv_leaves.specs.Blank.{fill, blank}
-use Rattle.cv_leaves.specs.HasPlaces.{HasPlaces, IsChecked}
+use Rattle.cv_leaves.specs.Place.{HasPlaces, IsChecked}
 use Rattle.cv_leaves.specs.Laws.{FilledIsRead, FillKeepsBlank, OwnFill, FillKeepsFrame, BlankKeepsFrame, FillKeepsBytes, BlankKeepsBytes}
 use Rattle.cv_leaves.specs.References.{reference_at, references, blanked, filled}
 use Rattle.cv_leaves.proofs.HoldLaws.{places_met}

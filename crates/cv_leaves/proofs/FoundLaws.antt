@@ -12,7 +12,7 @@ use Rattle.cv_leaves.specs.Field.{fits}
 use Rattle.cv_leaves.specs.Attributes.{points_to_member, introduces}
 use Rattle.cv_leaves.specs.Part.{start_of, stop_of, extent_checks, part_end, part_places, part_checks}
 use Rattle.cv_leaves.specs.Checks.{kind_of, body_of, fixed_checks, record_checks, checks_from, places_from, places_of}
-use Rattle.cv_leaves.specs.HasPlaces.{IsPart, AreParts, HasPlaces}
+use Rattle.cv_leaves.specs.Place.{IsPart, AreParts, HasPlaces}
 use Rattle.cv_leaves.specs.declared.leaf.Rest.{Rest}
 use Rattle.cv_leaves.specs.declared.leaf.Rest.TheVariants.{Nothing, Containing, Indices, Methods, Members}
 use Rattle.cv_leaves.proofs.TextLaws.{text_of, cut, text_len, fits_held}

@@ -9,7 +9,7 @@ use Rattle.cv_leaves.specs.Field.{fits}
 use Rattle.cv_leaves.specs.Attributes.{points_to_member, introduces}
 use Rattle.cv_leaves.specs.Part.{start_of, stop_of, extent_checks, part_end, part_places, part_checks}
 use Rattle.cv_leaves.specs.Checks.{body_of, fixed_checks, rest_checks, record_checks, checks_from, places_from, places_of}
-use Rattle.cv_leaves.specs.HasPlaces.{IsPart, AreParts, HasParts, HasPlaces, IsChecked}
+use Rattle.cv_leaves.specs.Place.{IsPart, AreParts, HasParts, HasPlaces, IsChecked}
 use Rattle.cv_leaves.specs.declared.leaf.Rest.{Rest}
 use Rattle.cv_leaves.specs.declared.leaf.Rest.TheVariants.{Nothing, Containing, Indices, Methods, Members}
 use Rattle.cv_leaves.specs.declared.fault.LeafFault.{LeafFault}

@@ -3,7 +3,7 @@ use Rattle.std.proofs.Common.{rules}
 use Rattle.std.specs.Prelude.{ℕ, ◌≤◌, List, length, Result, Ok, Err, IsOk, IfOk}
 use Rattle.byte_fields.specs.Check.{Makes}
 use Rattle.cv_leaves.specs.Checks.{record_checks, places_of}
-use Rattle.cv_leaves.specs.HasPlaces.{HasPlaces}
+use Rattle.cv_leaves.specs.Place.{HasPlaces}
 use Rattle.cv_leaves.specs.declared.fault.LeafFault.{LeafFault}
 use Rattle.cv_leaves.proofs.FoundLaws.{places_found}
 use Rattle.cv_leaves.proofs.HoldLaws.{not_refused}

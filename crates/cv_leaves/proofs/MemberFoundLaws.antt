@@ -15,7 +15,7 @@ use Rattle.byte_fields.specs.Name.{name_len, has_name}
 use Rattle.cv_leaves.specs.Terminated.{name_end, name_checks}
 use Rattle.cv_leaves.specs.Padding.{pads, padding_len, padding_holds, padding_checks}
 use Rattle.cv_leaves.specs.Member.{Member, member_of, has_virtual, indices_end, head_end, head_checks, numbers_end, fields_end, padded_end, fields_checks, member_end, member_checks, member_places, index_places}
-use Rattle.cv_leaves.specs.HasPlaces.{AreNumerics, IsNamed, IsPadding, IsMember}
+use Rattle.cv_leaves.specs.Place.{AreNumerics, IsNamed, IsPadding, IsMember}
 use Rattle.cv_leaves.specs.declared.fault.LeafFault.{LeafFault}
 use Rattle.cv_leaves.specs.declared.fault.LeafFault.TheVariants as fault
 use Rattle.cv_leaves.proofs.TestLaws.{and_both}

@@ -8,7 +8,7 @@ use Rattle.byte_fields.specs.Number.{number_at}
 use Rattle.cv_leaves.specs.Numeric.{numeric_len, numeric_end, numerics_end}
 use Rattle.cv_leaves.specs.Terminated.{name_end}
 use Rattle.cv_leaves.specs.Member.{Member, members, member_of, has_virtual, indices_end, head_end, numbers_end, fields_end, padded_end, member_end}
-use Rattle.cv_leaves.specs.HasPlaces.{IsMember, Apart}
+use Rattle.cv_leaves.specs.Place.{IsMember, Apart}
 use Rattle.cv_leaves.proofs.TestLaws.{and_both, found_passes}
 
 -- ---- where they end

@@ -4,9 +4,8 @@ use Rattle.std.proofs.lemmas.Bool.{cases_lt, lt-ltb, le-ltb}
 use Rattle.byte_fields.specs.Check.{Check, first_failing}
 use Rattle.byte_fields.proofs.CheckLaws.{first_failing-append_none, first_failing-append_some, first_failing-parts}
 use Rattle.byte_fields.specs.Number.{number_at}
-use Rattle.cv_leaves.specs.Walk.{collect, each_part}
 use Rattle.cv_leaves.specs.Attributes.{points_to_member, introduces}
-use Rattle.cv_leaves.specs.Part.{part_end, part_checks, part_places}
+use Rattle.cv_leaves.specs.Part.{part_end, part_checks, part_places, collect, each_part}
 use Rattle.cv_leaves.specs.Checks.{checks_from, places_from}
 use Rattle.cv_leaves.proofs.MemberLaws.{member_forward}
 use Rattle.cv_leaves.specs.declared.leaf.Rest.{Rest}

@@ -11,7 +11,7 @@ use Rattle.cv_leaves.proofs.MemberLaws.{member_apart}
 use Rattle.cv_leaves.specs.Attributes.{points_to_member, introduces}
 use Rattle.cv_leaves.specs.Part.{start_of, stop_of}
 use Rattle.cv_leaves.specs.Checks.{kind_of, body_of}
-use Rattle.cv_leaves.specs.HasPlaces.{IsPart, AreParts, HasParts, HasPlaces, Apart}
+use Rattle.cv_leaves.specs.Place.{IsPart, AreParts, HasParts, HasPlaces, Apart}
 use Rattle.cv_leaves.specs.declared.leaf.Rest.{Rest}
 use Rattle.cv_leaves.specs.declared.leaf.Rest.TheVariants.{Nothing, Containing, Indices, Methods, Members}
 use Rattle.byte_fields.specs.Number.{number_at}

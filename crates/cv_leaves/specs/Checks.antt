@@ -5,9 +5,8 @@ use Rattle.std.specs.List.{flat_map}
 use Rattle.byte_fields.specs.Check.{Check}
 use Rattle.byte_fields.specs.Number.{number_at}
 use Rattle.cv_leaves.specs.Leaf.{Leaf, leaf_of}
-use Rattle.cv_leaves.specs.Part.{start_of, stop_of, extent_checks, part_end, part_places, part_checks}
+use Rattle.cv_leaves.specs.Part.{start_of, stop_of, extent_checks, part_end, part_places, part_checks, each_part}
 use Rattle.cv_leaves.specs.Field.{fits}
-use Rattle.cv_leaves.specs.Walk.{each_part}
 use Rattle.cv_leaves.specs.declared.leaf.Rest.{Rest}
 use Rattle.cv_leaves.specs.declared.fault.LeafFault.{LeafFault}
 use Rattle.cv_leaves.specs.declared.fault.LeafFault.TheVariants as fault

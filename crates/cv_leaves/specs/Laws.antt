@@ -6,7 +6,7 @@ use Rattle.byte_fields.specs.Number.{number_at}
 use Rattle.tpi_records.specs.Records.{IsRecord}
 use Rattle.cv_leaves.specs.Checks.{body_of, places_of}
 use Rattle.cv_leaves.specs.Blank.{put_four, fill, blank}
-use Rattle.cv_leaves.specs.HasPlaces.{AreParts, HasParts, HasPlaces, IsChecked, IsPlace, Apart}
+use Rattle.cv_leaves.specs.Place.{AreParts, HasParts, HasPlaces, IsChecked, IsPlace, Apart}
 use Rattle.cv_leaves.specs.References.{references, blanked, filled}
 use Rattle.cv_leaves.specs.declared.leaf.Rest.TheVariants.{Methods, Members}
 

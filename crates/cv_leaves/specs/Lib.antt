@@ -3,14 +3,13 @@ pub mod Attributes
 pub mod Table
 pub mod Leaf
 pub mod Part
-pub mod Walk
 pub mod Numeric
 pub mod Terminated
 pub mod Padding
 pub mod Member
 pub mod Checks
 pub mod Name
-pub mod HasPlaces
+pub mod Place
 pub mod Blank
 pub mod Laws
 pub mod References

@@ -1,5 +1,5 @@
 -- The parts of a body that follow the fixed places ("CodeView Type Records").
-use Rattle.std.specs.Prelude.{ℕ, ◌+◌, ◌*◌, false, List, [], ◌∷◌, ◌++◌, length, if◌then◌else◌}
+use Rattle.std.specs.Prelude.{ℕ, zero, suc, ◌+◌, ◌-◌, ◌*◌, nat_lt, false, List, [], ◌∷◌, ◌++◌, length, if◌then◌else◌}
 use Rattle.byte_fields.specs.Check.{Check}
 use Rattle.byte_fields.specs.Number.{number_at}
 use Rattle.cv_leaves.specs.Attributes.{points_to_member, introduces}
@@ -55,3 +55,14 @@ part_checks Indices body at = fits body at 4
 part_checks Methods body at =
     fits body at 2 ++ (fits body (at + 4) 4 ++ (if introduces (number_at 2 body at) then fits body (at + 8) 4 else []))
 part_checks Members body at = member_checks body at
+
+-- ---- one after the other
+
+-- what `here` gives for the part at `at`, for the part that begins where that one ends, and so on below `stop`; for at most this number of parts
+unfoldable pub collect : {X : Type 0} → (ℕ → ℕ) → (ℕ → List X) → ℕ → ℕ → ℕ → List X
+collect end here stop zero at = []
+collect end here stop (suc n) at = if nat_lt at stop then here at ++ collect end here stop n (end at) else []
+
+-- what `here` gives for each part from `at` up to `stop`, where each part ends after its beginning
+unfoldable pub each_part : {X : Type 0} → (ℕ → ℕ) → (ℕ → List X) → ℕ → ℕ → List X
+each_part end here stop at = collect end here stop (stop - at) at

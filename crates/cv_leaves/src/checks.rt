@@ -4,7 +4,7 @@ ghost use Rattle.std.specs.Prelude.{◌≡◌, ◌≤◌, ◌^◌, ◌<◌, List
 ghost use Rattle.byte_fields.specs.Check.{Makes};
 ghost use Rattle.cv_leaves.specs.Leaf.{seen};
 ghost use Rattle.cv_leaves.specs.Checks.{leaf_checks, kind_of, body_of, checks_from, fixed_checks, record_checks};
-ghost use Rattle.cv_leaves.specs.HasPlaces.{HasPlaces};
+ghost use Rattle.cv_leaves.specs.Place.{HasPlaces};
 
 use crate::fault::LeafFault;
 use crate::leaf::{Leaf, Rest, leaf_of};

@@ -22,9 +22,9 @@
 //! `member`.
 //!
 //! What is proved: a record is accepted exactly where it has places (`HasPlaces` of
-//! `specs/HasPlaces`: the record is made of these parts, and these are the places in them). A
-//! refusal names the first check that fails. [`places`] returns the places. A record keeps its
-//! places when an index is written at one of them.
+//! `specs/Place`: the record is made of these parts, and these are the places in them). A refusal
+//! names the first check that fails. [`places`] returns the places. A record keeps its places when
+//! an index is written at one of them.
 //!
 //! [`laws`] says what holds of every record. A record has one list of places: those that the walk
 //! meets. They are at least four bytes apart and lie within the body. Numbers that are written at
@@ -45,12 +45,10 @@ mod padding;
 mod part;
 mod place;
 mod reference;
-mod walk;
 
 pub use checks::{check, kind_of};
 pub use fault::LeafFault;
 pub use leaf::leaf_text;
 pub use name::type_name;
-pub use place::Places;
+pub use place::{RecordPlaces as Places, places};
 pub use reference::{ref_at, set_ref};
-pub use walk::places;

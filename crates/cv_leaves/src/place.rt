@@ -1,20 +1,37 @@
-//! The iterator over the places of a record.
+//! The places of a record.
+//!
+//! The crate exports `RecordPlaces` as `Places`. The toolchain refuses two items of one module
+//! whose names differ only in case, as `places` and `Places`.
 
 ghost use Rattle.std.specs.Prelude.{IfNone, IfSome, [], ◌++◌, map, ◌≡◌, ◌≤◌, ◌+◌, ◌^◌, ◌<◌, None, length};
 ghost use Rattle.std.specs.Iterator.{YieldsFirst, item_count};
 ghost use Rattle.byte_fields.specs.Check.{first_failing};
 ghost use Rattle.cv_leaves.specs.Checks.{record_checks, places_of, checks_from, places_from};
+ghost use Rattle.cv_leaves.specs.Place.{HasPlaces, IsChecked};
 
 use crate::checks::{body_of, kind_of};
 use crate::leaf::{Rest, leaf_of};
 use crate::part::{Part, extent, part_at};
 use std::marker::Model;
 
+/// The places of a record: the offsets in its body, in bytes, at which there are type indices.
+///
+/// They rise. The record has to be one that [`check`](crate::check) accepts, of at most 65,536
+/// bytes. This does not allocate.
+#[tactic(auto, using(crate::proofs::FoundLaws::places_found, crate::proofs::HoldLaws::checks_hold, crate::proofs::HoldLaws::checked_long))]
+pub fn places(record: &[u8]) -> RecordPlaces<'_>
+    requires short { length «record».now ≤ 2 ^ 16 }
+    requires checked { IsChecked «record».now }
+    ensures { HasPlaces «record».now result }
+{
+    RecordPlaces::of(record)
+}
+
 /// The places of a record that are still to come, in rising order.
 ///
-/// [`places`](crate::places) makes it.
+/// [`places`] makes it.
 #[derive(Drop)]
-pub struct Places<'a> {
+pub struct RecordPlaces<'a> {
     body: &'a [u8],
     rest: Rest,
     // where the current part begins, and those of its places that are still to come
@@ -25,7 +42,7 @@ pub struct Places<'a> {
     stop: usize,
 }
 
-impl<'a> Model for Places<'a> {
+impl<'a> Model for RecordPlaces<'a> {
     ghost use Rattle.std.specs.Prelude.{◌≡◌, ◌+◌, ◌++◌, ◌^◌, ◌<◌, None, List, ℕ, map, length};
     ghost use Rattle.byte_fields.specs.Check.{first_failing};
     ghost use Rattle.cv_leaves.specs.Checks.{checks_from, places_from};
@@ -37,7 +54,7 @@ impl<'a> Model for Places<'a> {
     ghost invariant = { λ p. (length p.body.now < 2 ^ 17) × (p.base < 2 ^ 17) × (p.next < 2 ^ 17) × (first_failing (checks_from p.rest p.body.now p.stop p.next) ≡ None) };
 }
 
-impl<'a> Iterator for Places<'a> {
+impl<'a> Iterator for RecordPlaces<'a> {
     type Item = usize;
 
     ghost next_gives = { YieldsFirst (λ s. s) };
@@ -90,10 +107,10 @@ fn next_placed(rest: Rest, body: &[u8], start: usize, stop: usize) -> Option<(us
     None
 }
 
-impl<'a> Places<'a> {
+impl<'a> RecordPlaces<'a> {
     /// The places of a record that passes its checks.
     #[tactic(auto, using(crate::proofs::RecordLaws::extent_held, crate::proofs::RecordLaws::parts_held, crate::proofs::RecordLaws::has_leaf, crate::proofs::RecordLaws::places_are))]
-    pub(crate) fn of(record: &'a [u8]) -> Places<'a>
+    fn of(record: &'a [u8]) -> RecordPlaces<'a>
         requires long { (4 ≤ length «record».now) × (length «record».now ≤ 2 ^ 16) }
         requires checked { first_failing (record_checks «record».now) ≡ None }
         ensures { result ≡ places_of «record».now }
@@ -105,7 +122,7 @@ impl<'a> Places<'a> {
         let Ok((start, stop)) = extent(leaf.rest, body) else {
             unreachable!()
         };
-        Places {
+        RecordPlaces {
             body,
             rest: leaf.rest,
             base: 0,

@@ -4,7 +4,7 @@ ghost use Rattle.std.specs.Prelude.{◌≡◌, ◌≤◌, ◌+◌, List, ℕ, le
 ghost use Rattle.byte_fields.specs.Number.{number_at};
 ghost use Rattle.cv_leaves.specs.Checks.{body_of};
 ghost use Rattle.cv_leaves.specs.Blank.{put_four};
-ghost use Rattle.cv_leaves.specs.HasPlaces.{HasPlaces, IsPlace};
+ghost use Rattle.cv_leaves.specs.Place.{HasPlaces, IsPlace};
 
 use byte_fields::u32_at;
 use byteorder::{ByteOrder, LittleEndian};

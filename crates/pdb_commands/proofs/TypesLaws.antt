@@ -2,7 +2,7 @@
 use Rattle.std.proofs.Common.{◌≡◌, ℕ, ◌+◌, List, [], ◌∷◌, ◌++◌, length, refl, sym, ap, ◌∙◌, arith, append_assoc}
 use Rattle.std.proofs.lemmas.List.{append-nil, length-append}
 use Rattle.std.specs.List.{AllByRecursion}
-use Rattle.cv_leaves.specs.HasPlaces.{HasPlaces, IsChecked}
+use Rattle.cv_leaves.specs.Place.{HasPlaces, IsChecked}
 use Rattle.pdb_commands.specs.Types.{AreTypeLines, type_line}
 
 -- ---- lines

@@ -6,7 +6,7 @@ use Rattle.hex.specs.Hex.{encode_lower}
 use Rattle.byte_fields.specs.Number.{number_at}
 use Rattle.byte_fields.specs.Check.{first_failing}
 use Rattle.cv_leaves.specs.Checks.{body_of, record_checks}
-use Rattle.cv_leaves.specs.HasPlaces.{HasPlaces}
+use Rattle.cv_leaves.specs.Place.{HasPlaces}
 use Rattle.cv_leaves.specs.Name.{name_of}
 use Rattle.pdb_merge.specs.Accepted.{HasTypeRecords}
 use Rattle.pdb_commands.specs.Records.{HasNoTypeRecords}

@@ -7,7 +7,7 @@ use Rattle.byte_fields.specs.Number.{number_at}
 use Rattle.byte_fields.specs.Check.{first_failing}
 use Rattle.cv_leaves.specs.Leaf.{leaf_of}
 use Rattle.cv_leaves.specs.Checks.{kind_of, body_of, record_checks}
-use Rattle.cv_leaves.specs.HasPlaces.{HasPlaces, IsChecked}
+use Rattle.cv_leaves.specs.Place.{HasPlaces, IsChecked}
 use Rattle.cv_leaves.specs.Name.{name_of}
 use Rattle.cv_leaves.specs.declared.fault.LeafFault.{LeafFault}
 use Rattle.pdb_merge.specs.Accepted.{HasTypeRecords}

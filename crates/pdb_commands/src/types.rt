@@ -6,7 +6,7 @@ ghost use Rattle.std.specs.Fmt.{decimal};
 ghost use Rattle.byte_fields.specs.Check.{first_failing};
 ghost use Rattle.tpi_records.specs.Records.{IsRecord};
 ghost use Rattle.cv_leaves.specs.Checks.{record_checks};
-ghost use Rattle.cv_leaves.specs.HasPlaces.{HasPlaces, IsChecked};
+ghost use Rattle.cv_leaves.specs.Place.{HasPlaces, IsChecked};
 ghost use Rattle.cv_leaves.specs.Name.{name_of};
 ghost use Rattle.cv_leaves.specs.declared.fault.LeafFault.{LeafFault};
 ghost use Rattle.pdb_commands.specs.Run.{Answers};

@@ -20,7 +20,7 @@ use Rattle.type_trees.specs.Checked.{AreTypes}
 use Rattle.type_trees.specs.Tree.{Stands, tree}
 use Rattle.type_trees.proofs.ReadLaws.{canonical_reads_back}
 use Rattle.type_trees.proofs.WeightLaws.{weight_of_texts, weight_grows}
-use Rattle.cv_leaves.specs.HasPlaces.{IsChecked}
+use Rattle.cv_leaves.specs.Place.{IsChecked}
 use Rattle.pdb_merge.specs.Union.{HasType, Within}
 use Rattle.pdb_merge.specs.Merged.{StandOnce, type_stream, merged_texts, merged_file}
 use Rattle.byte_fields.specs.Bytes.{AreBytes}

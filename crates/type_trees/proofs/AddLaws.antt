@@ -10,7 +10,7 @@ use Rattle.std.specs.List.{AllByRecursion, Contains, concat, sum_by}
 use Rattle.topological_order.specs.Order.{IsOrder}
 use Rattle.topological_order.proofs.WalkLaws.{none_in}
 use Rattle.tpi_records.specs.Records.{IsRecord}
-use Rattle.cv_leaves.specs.HasPlaces.{IsChecked}
+use Rattle.cv_leaves.specs.Place.{IsChecked}
 use Rattle.text_set.specs.TextSet.{Holds}
 use Rattle.cv_leaves.specs.References.{references, blanked, filled}
 use Rattle.type_trees.specs.Tree.{Tree, Branches, tree, no_branch, simple, branch, nothing, Stands, AreBranches, IsType, IsRanked, NamesLower}

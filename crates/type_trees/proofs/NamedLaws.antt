@@ -4,7 +4,7 @@ use Rattle.std.specs.List.{AllByRecursion, Contains, concat}
 use Rattle.std.proofs.lemmas.Bool.{cases_lt, lt-ltb, le-ltb}
 use Rattle.std.proofs.lemmas.List.{get_or-map, length-append, length-map, length-drop, append_assoc, append-nil, drop_more}
 use Rattle.cv_leaves.specs.Checks.{body_of, places_of}
-use Rattle.cv_leaves.specs.HasPlaces.{IsChecked, Apart}
+use Rattle.cv_leaves.specs.Place.{IsChecked, Apart}
 use Rattle.cv_leaves.proofs.PlaceLaws.{places_apart}
 use Rattle.cv_leaves.proofs.HoldLaws.{places_met}
 use Rattle.topological_order.specs.Graph.{Names, NamesNodes, IsRank}

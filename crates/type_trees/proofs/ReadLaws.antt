@@ -4,7 +4,7 @@ use Rattle.std.specs.List.{AllByRecursion, Contains}
 use Rattle.std.proofs.lemmas.List.{length-map, get_or-map}
 use Rattle.std.proofs.lemmas.List.Sums.{sum_by-cons}
 use Rattle.cv_leaves.specs.References.{references, blanked}
-use Rattle.cv_leaves.specs.HasPlaces.{IsChecked}
+use Rattle.cv_leaves.specs.Place.{IsChecked}
 use Rattle.tpi_records.specs.Records.{IsRecord}
 use Rattle.type_trees.specs.Tree.{Tree, Branches, tree, no_branch, simple, branch, nothing, blank_of, branches_of, trees_in, IsClosed, AreClosed, Stands, AreBranches, NamesLower}
 use Rattle.type_trees.specs.Canon.{position_in, numbers, text, weight, Canonical}

@@ -4,7 +4,7 @@ use Rattle.std.specs.List.{AllByRecursion}
 use Rattle.std.proofs.lemmas.Bool.{cases_order, lt-ltb, le-ltb}
 use Rattle.std.proofs.Math.ListN.{get_or-append}
 use Rattle.cv_leaves.specs.References.{references, blanked, filled}
-use Rattle.cv_leaves.specs.HasPlaces.{IsChecked}
+use Rattle.cv_leaves.specs.Place.{IsChecked}
 use Rattle.type_trees.specs.Tree.{Tree, Branches, tree, no_branch, simple, branch, trees_in, Stands, AreBranches, IsType}
 use Rattle.type_trees.specs.Canon.{position_in, numbers, text}
 use Rattle.byte_fields.specs.Bytes.{AreBytes}

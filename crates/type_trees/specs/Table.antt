@@ -6,7 +6,7 @@ use Rattle.std.specs.Cmp.Lexicographic.{slice_cmp}
 use Rattle.std.specs.List.{AllByRecursion, AllPairs, Contains, concat}
 use Rattle.byte_fields.specs.Bytes.{AreBytes}
 use Rattle.cv_leaves.specs.References.{references, filled}
-use Rattle.cv_leaves.specs.HasPlaces.{IsChecked}
+use Rattle.cv_leaves.specs.Place.{IsChecked}
 use Rattle.type_trees.specs.Tree.{Tree, Stands, IsType, IsRanked, IsClosed, trees_in, branches_of, nothing}
 use Rattle.type_trees.specs.Depth.{depth}
 use Rattle.type_trees.specs.Canon.{position_in, text, weight, Canonical}

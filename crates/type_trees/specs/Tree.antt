@@ -5,7 +5,7 @@ use Rattle.std.specs.Str.{bytes_eq}
 use Rattle.tpi_records.specs.Records.{IsRecord}
 use Rattle.cv_leaves.specs.Checks.{places_of}
 use Rattle.cv_leaves.specs.References.{references, blanked}
-use Rattle.cv_leaves.specs.HasPlaces.{IsChecked}
+use Rattle.cv_leaves.specs.Place.{IsChecked}
 
 mutual
   -- a type: a blank record, and a branch for each of its places

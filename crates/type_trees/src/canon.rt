@@ -3,7 +3,7 @@
 ghost use Rattle.std.specs.Prelude.{◌≡◌, ◌⊎◌, ◌↔◌, ◌^◌, ◌<◌, ◌≤◌, [], IsTrue, ℕ, List, length, option_map, slice_get, IfOk, IfErr, IfSome};
 ghost use Rattle.std.specs.List.{concat};
 ghost use Rattle.tpi_records.specs.Records.{IsRecord};
-ghost use Rattle.cv_leaves.specs.HasPlaces.{IsChecked};
+ghost use Rattle.cv_leaves.specs.Place.{IsChecked};
 ghost use Rattle.type_trees.specs.Tree.{Tree, IsType};
 ghost use Rattle.type_trees.specs.Canon.{weight};
 ghost use Rattle.type_trees.specs.Table.{IsUnion};

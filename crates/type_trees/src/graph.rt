@@ -3,7 +3,7 @@
 ghost use Rattle.std.specs.Prelude.{◌≡◌, IfOk, OnOk};
 ghost use Rattle.std.specs.List.{AllByRecursion};
 ghost use Rattle.tpi_records.specs.Records.{IsRecord};
-ghost use Rattle.cv_leaves.specs.HasPlaces.{IsChecked};
+ghost use Rattle.cv_leaves.specs.Place.{IsChecked};
 ghost use Rattle.type_trees.specs.Named.{named_by, graph_of};
 
 use crate::reference::FIRST_INDEX;

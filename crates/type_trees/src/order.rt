@@ -4,7 +4,7 @@ ghost use Rattle.std.specs.Prelude.{◌≡◌, ◌+◌, ◌-◌, ◌≤◌, ◌<
 ghost use Rattle.std.specs.List.{All, AllByRecursion};
 ghost use Rattle.std.specs.Iterator.{YieldsFirst, item_count};
 ghost use Rattle.tpi_records.specs.Records.{IsRecord};
-ghost use Rattle.cv_leaves.specs.HasPlaces.{IsChecked};
+ghost use Rattle.cv_leaves.specs.Place.{IsChecked};
 ghost use Rattle.topological_order.specs.Order.{IsOrder};
 ghost use Rattle.type_trees.specs.Tree.{IsRanked};
 ghost use Rattle.type_trees.specs.Named.{graph_of};

@@ -2,7 +2,7 @@
 
 ghost use Rattle.std.specs.Prelude.{◌≡◌, ◌⊎◌, ◌≤◌, ◌<◌, ◌+◌, ◌-◌, ◌^◌, ℕ, length, get_or};
 ghost use Rattle.tpi_records.specs.Records.{IsRecord};
-ghost use Rattle.cv_leaves.specs.HasPlaces.{IsChecked};
+ghost use Rattle.cv_leaves.specs.Place.{IsChecked};
 ghost use Rattle.cv_leaves.specs.References.{references};
 ghost use Rattle.type_trees.specs.Table.{renumber_one, renumbered, AreNumbered};
 

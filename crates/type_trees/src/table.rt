@@ -3,7 +3,7 @@
 ghost use Rattle.std.specs.Prelude.{◌≡◌, ◌≢◌, ◌⊎◌, ◌↔◌, ◌+◌, ◌-◌, ◌%◌, ◌^◌, ◌<◌, ◌≤◌, [], ℕ, List, length, get_or, map, take, IfOk, IfErr};
 ghost use Rattle.std.specs.List.{AllByRecursion, concat};
 ghost use Rattle.tpi_records.specs.Records.{IsRecord};
-ghost use Rattle.cv_leaves.specs.HasPlaces.{IsChecked};
+ghost use Rattle.cv_leaves.specs.Place.{IsChecked};
 ghost use Rattle.text_set.specs.TextSet.{Holds};
 ghost use Rattle.cv_leaves.specs.References.{references};
 ghost use Rattle.type_trees.specs.Tree.{Tree, IsType};

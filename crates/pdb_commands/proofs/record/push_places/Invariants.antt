@@ -1,6 +1,6 @@
 use Rattle.std.proofs.Common.{◌≡◌, ◌≤◌, ◌+◌, ◌++◌, List, ℕ, length, string_bytes}
 use Rattle.std.specs.List.{AllByRecursion, flat_map}
-use Rattle.cv_leaves.specs.HasPlaces.{HasPlaces}
+use Rattle.cv_leaves.specs.Place.{HasPlaces}
 use Rattle.pdb_commands.specs.Record.{place_line}
 use Rattle.pdb_commands.proofs.record.push_places.Given as goal
 

@@ -1,6 +1,6 @@
 use Rattle.std.proofs.Common.{◌≡◌, ◌≤◌, ◌+◌, ◌++◌, List, ℕ, length, string_bytes}
 use Rattle.std.specs.List.{AllByRecursion, flat_map}
-use Rattle.cv_leaves.specs.HasPlaces.{HasPlaces}
+use Rattle.cv_leaves.specs.Place.{HasPlaces}
 use Rattle.pdb_commands.specs.Types.{reference}
 use Rattle.pdb_commands.proofs.types.push_references.Given as goal
 

@@ -1,7 +1,7 @@
 use Rattle.std.proofs.Common.{◌≡◌, ◌+◌, ◌++◌, ◌∷◌, [], ◌∙◌, ℕ, List, drop, take, map, get_or, length, sym, ap, arith, rules}
 use Rattle.std.specs.List.{concat}
 use Rattle.std.proofs.lemmas.List.{length_push, take_all, map_more}
-use Rattle.cv_leaves.specs.HasPlaces.{IsChecked}
+use Rattle.cv_leaves.specs.Place.{IsChecked}
 use Rattle.type_trees.specs.Named.{named_by}
 use Rattle.type_trees.proofs.TreeLaws.{at_position}
 use Rattle.type_trees.proofs.DepthLaws.{next_record, all_records}

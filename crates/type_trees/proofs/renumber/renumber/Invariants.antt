@@ -2,7 +2,7 @@ use Rattle.std.proofs.Common.{◌≡◌, ◌≤◌, ◌+◌, ℕ, map, length, g
 use Rattle.std.specs.List.{AllByRecursion, Contains}
 use Rattle.cv_leaves.specs.Blank.{fill}
 use Rattle.cv_leaves.specs.Checks.{places_of}
-use Rattle.cv_leaves.specs.HasPlaces.{HasPlaces}
+use Rattle.cv_leaves.specs.Place.{HasPlaces}
 use Rattle.cv_leaves.specs.References.{reference_at}
 use Rattle.type_trees.specs.Table.{renumber, renumbered, AreNumbered}
 use Rattle.type_trees.proofs.renumber.renumber.Given as goal

@@ -2,7 +2,7 @@ use Rattle.std.proofs.Common.{◌≡◌, ◌∙◌, ap, arith, Some}
 use Rattle.cv_leaves.specs.Leaf.{seen, leaf_of}
 use Rattle.cv_leaves.specs.Checks.{kind_of}
 use Rattle.cv_leaves.proofs.RecordLaws.{extent_held, parts_held, places_are}
-use Rattle.cv_leaves.proofs.place.Places.of.Goals as goal
+use Rattle.cv_leaves.proofs.place.RecordPlaces.of.Goals as goal
 
 pub unreachable-requires-in_default-extent : goal.unreachable-requires-in_default-extent
 unreachable-requires-in_default-extent c =
