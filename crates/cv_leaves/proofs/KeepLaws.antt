@@ -215,24 +215,24 @@ parts_kept rest body places p n inside in_places has =
     }
 
 -- a number that is written at a fixed place
-fixed_kept : (rest : Rest) (body places : List ℕ) (p n : ℕ) → p + 4 ≤ length body → p + 4 ≤ fixed_end rest → HasParts rest body places → HasParts rest (put_four body p n) places
-fixed_kept Nothing body places p n inside fixed has = record {
+fixed_kept : (rest : Rest) (body fixed places : List ℕ) (p n : ℕ) → p + 4 ≤ length body → p + 4 ≤ fixed_end rest fixed → HasParts rest body places → HasParts rest (put_four body p n) places
+fixed_kept Nothing body fixed places p n inside early has = record {
   starts = omega arith;
   texts = [];
   back = put_four body p n;
   parts = refl;
   parts_are = (omega arith, nothing_follows 0 has.texts places (omega arith) has.parts_are);
 }
-fixed_kept Containing body places p n inside fixed has = record {
+fixed_kept Containing body fixed places p n inside early has = record {
   starts = omega (arith, has.starts, put_len body p n inside);
   texts = has.texts;
   back = has.back;
-  parts = put_before body 4 p n fixed has.starts ∙ has.parts;
+  parts = put_before body 4 p n early has.starts ∙ has.parts;
   parts_are = has.parts_are;
 }
-fixed_kept Indices body places p n inside fixed has = absurd (omega (arith, fixed))
-fixed_kept Methods body places p n inside fixed has = absurd (omega (arith, fixed))
-fixed_kept Members body places p n inside fixed has = absurd (omega (arith, fixed))
+fixed_kept Indices body fixed places p n inside early has = absurd (omega (arith, early))
+fixed_kept Methods body fixed places p n inside early has = absurd (omega (arith, early))
+fixed_kept Members body fixed places p n inside early has = absurd (omega (arith, early))
 
 -- ---- the record
 
@@ -262,7 +262,7 @@ kind_kept r p n long = kind_before r (4 + p) n (omega arith) long
 -- what follows the fixed places, by whether the number was written at one of these
 rest_kept : (r places : List ℕ) (p n : ℕ) (has : HasPlaces r places) → p + 4 ≤ length (body_of r) → Among p has.leaf.places ⊎ Among p has.others → HasParts has.leaf.rest (put_four (body_of r) p n) has.others
 rest_kept r places p n has inside (inl fixed) =
-    fixed_kept has.leaf.rest (body_of r) has.others p n inside (among_inside p 0 has.leaf.places (fixed_end has.leaf.rest) (fixed_apart (kind_of r) has.leaf has.kind) fixed).1 has.rest
+    fixed_kept has.leaf.rest (body_of r) has.leaf.places has.others p n inside (among_inside p 0 has.leaf.places (fixed_end has.leaf.rest has.leaf.places) (fixed_apart (kind_of r) has.leaf has.kind) fixed).1 has.rest
 rest_kept r places p n has inside (inr parts) = parts_kept has.leaf.rest (body_of r) has.others p n inside parts has.rest
 
 -- a number written at one of a record's places leaves it with these places

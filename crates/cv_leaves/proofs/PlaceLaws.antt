@@ -74,15 +74,18 @@ among_inside p from (q ∷ qs) end apart (inr in_qs) = let later = among_inside 
 
 -- ---- the table
 
--- where the fixed places of a leaf end at the latest
-abbrev pub fixed_end : Rest → ℕ
-fixed_end Nothing = 20
-fixed_end Containing = 4
-fixed_end Indices = 0
-fixed_end Methods = 0
-fixed_end Members = 0
+-- where the last of these places ends; `from` if there is none
+abbrev last_end : ℕ → List ℕ → ℕ
+last_end from [] = from
+last_end from (p ∷ ps) = last_end (p + 4) ps
 
--- the test of that
+-- where the fixed places of a leaf end at the latest: before the parts, and before the number of indices; where nothing follows the places, they may end anywhere
+abbrev pub fixed_end : Rest → List ℕ → ℕ
+fixed_end Nothing places = last_end 0 places
+fixed_end Indices places = 0
+fixed_end rest places = start_of rest
+
+-- the test that places rise, and end before the end
 abbrev are_apart : ℕ → List ℕ → ℕ → Bool
 are_apart from [] end = nat_le from end
 are_apart from (p ∷ ps) end = nat_le from p && are_apart (p + 4) ps end
@@ -95,9 +98,9 @@ apart_told from (p ∷ ps) end e =
     (leb-true from p both.0, apart_told (p + 4) ps end both.1)
 
 -- the fixed places of a leaf of the table rise, and end before what follows them
-pub fixed_apart : (kind : ℕ) (l : Leaf) → leaf_of kind ≡ Some l → Apart 0 l.places (fixed_end l.rest)
+pub fixed_apart : (kind : ℕ) (l : Leaf) → leaf_of kind ≡ Some l → Apart 0 l.places (fixed_end l.rest l.places)
 unfolding leaf_of
-fixed_apart kind l is = apart_told 0 l.places (fixed_end l.rest) (found_passes (λ k l. are_apart 0 l.places (fixed_end l.rest)) leaves kind l refl is)
+fixed_apart kind l is = apart_told 0 l.places (fixed_end l.rest l.places) (found_passes (λ k l. are_apart 0 l.places (fixed_end l.rest l.places)) leaves kind l refl is)
 
 -- ---- parts
 
@@ -142,10 +145,10 @@ nothing_follows stop (t ∷ ts) places none parts = absurd (omega (arith, parts.
 -- ---- the record
 
 -- the fixed places and those after them
-record_apart : (rest : Rest) (body fixed others : List ℕ) → Apart 0 fixed (fixed_end rest) → AllByRecursion (λ p. p + 4 ≤ length body) fixed → HasParts rest body others → Apart 0 (fixed ++ others) (length body)
+record_apart : (rest : Rest) (body fixed others : List ℕ) → Apart 0 fixed (fixed_end rest fixed) → AllByRecursion (λ p. p + 4 ≤ length body) fixed → HasParts rest body others → Apart 0 (fixed ++ others) (length body)
 record_apart Nothing body fixed others apart each has =
     let none = nothing_follows 0 has.texts others (omega arith) has.parts_are in
-    rw (none, append-nil fixed) (apart_within 0 fixed 20 (length body) apart each (omega arith))
+    rw (none, append-nil fixed) (apart_within 0 fixed (last_end 0 fixed) (length body) apart each (omega arith))
 record_apart Containing body fixed others apart each has = apart_append 0 fixed 4 others (length body) apart (rest_apart Containing body others has)
 record_apart Indices body fixed others apart each has = apart_append 0 fixed 4 others (length body) (apart_longer 0 fixed 0 4 apart (omega arith)) (rest_apart Indices body others has)
 record_apart Methods body fixed others apart each has = apart_append 0 fixed 0 others (length body) apart (rest_apart Methods body others has)
