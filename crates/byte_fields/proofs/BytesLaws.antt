@@ -5,7 +5,7 @@ use Rattle.std.proofs.Math.ListN.{get_or-eq_default}
 use Rattle.std.proofs.lemmas.Bool.{cases_lt}
 use Rattle.std.proofs.lemmas.List.{get_or-drop, get_or-reverse, length-reverse}
 use Rattle.byte_fields.specs.Bytes.{AreBytes}
-use Rattle.byte_fields.specs.Number.{four_bytes, words}
+use Rattle.byte_fields.specs.Number.{four_bytes, u32s}
 
 -- two lists of bytes, one after the other, are made of bytes
 pub bytes_append : (x y : List ℕ) → AreBytes x → AreBytes y → AreBytes (x ++ y)
@@ -64,6 +64,6 @@ four_are_bytes n (suc (suc (suc zero))) = omega arith
 four_are_bytes n (suc (suc (suc (suc i)))) = omega arith
 
 -- the bytes of several numbers are bytes
-pub words_are_bytes : (numbers : List ℕ) → AreBytes (words numbers)
-words_are_bytes [] = λ i. omega arith
-words_are_bytes (n ∷ numbers) = bytes_append (four_bytes n) (words numbers) (four_are_bytes n) (words_are_bytes numbers)
+pub u32s_are_bytes : (numbers : List ℕ) → AreBytes (u32s numbers)
+u32s_are_bytes [] = λ i. omega arith
+u32s_are_bytes (n ∷ numbers) = bytes_append (four_bytes n) (u32s numbers) (four_are_bytes n) (u32s_are_bytes numbers)

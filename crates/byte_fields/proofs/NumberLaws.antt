@@ -7,7 +7,7 @@ use Rattle.std.specs.List.{range_with_len}
 use Rattle.std.proofs.Math.Seq.{take-append_seam}
 use Rattle.byteorder.specs.Endian.{little_number}
 use Rattle.byteorder.specs.Numbers.{little_from-take}
-use Rattle.byte_fields.specs.Number.{number_at, four_bytes, words, word}
+use Rattle.byte_fields.specs.Number.{number_at, four_bytes, u32s, nth_u32}
 
 -- ---- a number in a part of the bytes
 
@@ -50,12 +50,12 @@ take-plus text m n =
     sym (take-append-drop m (take (m + n) text)) ∙ rw (a, drop-take m n text) refl
 
 -- numbers that are read from some bytes, and written again, are the same bytes
-pub words-word : (text : List ℕ) (start count : ℕ) → ((i : ℕ) → get_or text i 0 < 256) → 4 * (start + count) ≤ length text → words (map (word text) (range_with_len start count)) ≡ take (4 * count) (drop (4 * start) text)
-unfolding word
-words-word text start zero bytes long = refl
-words-word text start (suc count) bytes long =
+pub u32s-nth_u32 : (text : List ℕ) (start count : ℕ) → ((i : ℕ) → get_or text i 0 < 256) → 4 * (start + count) ≤ length text → u32s (map (nth_u32 text) (range_with_len start count)) ≡ take (4 * count) (drop (4 * start) text)
+unfolding nth_u32
+u32s-nth_u32 text start zero bytes long = refl
+u32s-nth_u32 text start (suc count) bytes long =
     let first : four_bytes (number_at 4 text (4 * start)) ≡ take 4 (drop (4 * start) text) = four_bytes-number_at text (4 * start) bytes (omega arith) in
-    let others = words-word text (start + 1) count bytes (omega arith) in
+    let others = u32s-nth_u32 text (start + 1) count bytes (omega arith) in
     let here : drop 4 (drop (4 * start) text) ≡ drop (4 * (start + 1)) text = let e : 4 * start + 4 ≡ 4 * (start + 1) = omega arith in drop-drop 4 (4 * start) text ∙ ap (λ (n : ℕ). drop n text) e in
     let all : 4 * suc count ≡ 4 + 4 * count = omega arith in
     rw (first, others, all) (rw (take-plus (drop (4 * start) text) 4 (4 * count), here) refl)
@@ -64,24 +64,24 @@ pub length-four_bytes : (n : ℕ) → length (four_bytes n) ≡ 4
 unfolding four_bytes
 length-four_bytes n = refl
 
-pub length-words : (numbers : List ℕ) → length (words numbers) ≡ 4 * length numbers
-length-words [] = omega arith
-length-words (n ∷ numbers) = length-append (four_bytes n) (words numbers) ∙ rw (length-four_bytes n, length-words numbers) (omega arith)
+pub length-u32s : (numbers : List ℕ) → length (u32s numbers) ≡ 4 * length numbers
+length-u32s [] = omega arith
+length-u32s (n ∷ numbers) = length-append (four_bytes n) (u32s numbers) ∙ rw (length-four_bytes n, length-u32s numbers) (omega arith)
 
 first_number : (n : ℕ) (rest : List ℕ) → n < 2 ^ 32 → little_number 4 (four_bytes n ++ rest) ≡ n
 unfolding four_bytes
 first_number n rest small = omega arith
 
 -- a number that was written reads back
-pub word-words : (numbers rest : List ℕ) (k : ℕ) → k < length numbers → get_or numbers k 0 < 2 ^ 32 → word (words numbers ++ rest) k ≡ get_or numbers k 0
-unfolding word number_at
-word-words [] rest k lt small = absurd (omega arith)
-word-words (n ∷ numbers) rest zero lt small = rw (append_assoc (four_bytes n) (words numbers) rest) (first_number n (words numbers ++ rest) small)
-word-words (n ∷ numbers) rest (suc k) lt small =
+pub nth_u32-u32s : (numbers rest : List ℕ) (k : ℕ) → k < length numbers → get_or numbers k 0 < 2 ^ 32 → nth_u32 (u32s numbers ++ rest) k ≡ get_or numbers k 0
+unfolding nth_u32 number_at
+nth_u32-u32s [] rest k lt small = absurd (omega arith)
+nth_u32-u32s (n ∷ numbers) rest zero lt small = rw (append_assoc (four_bytes n) (u32s numbers) rest) (first_number n (u32s numbers ++ rest) small)
+nth_u32-u32s (n ∷ numbers) rest (suc k) lt small =
     let e : 4 * suc k ≡ 4 + 4 * k = omega arith in
-    let cut : drop (4 + 4 * k) (four_bytes n ++ (words numbers ++ rest)) ≡ drop (4 * k) (words numbers ++ rest) =
-    sym (drop-drop (4 * k) 4 (four_bytes n ++ (words numbers ++ rest))) ∙ ap (drop (4 * k)) (drop_at (four_bytes n) (words numbers ++ rest) 4 (length-four_bytes n)) in
-    rw (append_assoc (four_bytes n) (words numbers) rest, e, cut) (word-words numbers rest k (omega arith) small)
+    let cut : drop (4 + 4 * k) (four_bytes n ++ (u32s numbers ++ rest)) ≡ drop (4 * k) (u32s numbers ++ rest) =
+    sym (drop-drop (4 * k) 4 (four_bytes n ++ (u32s numbers ++ rest))) ∙ ap (drop (4 * k)) (drop_at (four_bytes n) (u32s numbers ++ rest) 4 (length-four_bytes n)) in
+    rw (append_assoc (four_bytes n) (u32s numbers) rest, e, cut) (nth_u32-u32s numbers rest k (omega arith) small)
 
 -- a number that is read from four bytes is below 2 ^ 32
 pub number_at-small : (bytes : List ℕ) (offset : ℕ) → ((i : ℕ) → get_or bytes i 0 < 256) → number_at 4 bytes offset < 2 ^ 32

@@ -12,9 +12,9 @@ unfoldable pub four_bytes : ℕ → List ℕ
 four_bytes number = little_bytes 4 number
 
 -- the bytes of several numbers of four bytes each, one after the other
-abbrev pub words : List ℕ → List ℕ
-words numbers = flat_map four_bytes numbers
+abbrev pub u32s : List ℕ → List ℕ
+u32s numbers = flat_map four_bytes numbers
 
 -- the number at a position, from 0, in a list of four-byte numbers
-unfoldable pub word : List ℕ → ℕ → ℕ
-word text position = number_at 4 text (4 * position)
+unfoldable pub nth_u32 : List ℕ → ℕ → ℕ
+nth_u32 text position = number_at 4 text (4 * position)

@@ -5,19 +5,19 @@ use Rattle.std.proofs.lemmas.List.{get_or-drop}
 use Rattle.std.proofs.lemmas.List.FromFn.{map-range_with_len_more, get_or-map-range_with_len, length-map-range_with_len}
 use Rattle.std.proofs.lemmas.Nat.{mul-le, div-add-mod', mod_below, div-mul-add, mod-mul-add}
 use Rattle.std.proofs.lemmas.Bool.Decides.{nat_tests}
-use Rattle.byte_fields.specs.Number.{number_at, word}
+use Rattle.byte_fields.specs.Number.{number_at, nth_u32}
 use Rattle.byte_fields.proofs.CheckLaws.{checks_below-each, check_held}
 use Rattle.msf_blocks.specs.BlockNumber.{IsBlockSize, IsOrdinary, is_ordinary, blocks_for}
 use Rattle.msf_blocks.specs.Superblock.{Fields}
-use Rattle.msf_blocks.specs.Directory.{map_number, directory_text, directory_blocks, directory_block_check, directory_block_checks, IsReadable, list_start, stream_blocks}
+use Rattle.msf_blocks.specs.Directory.{map_number, directory_contents, directory_blocks, directory_block_check, directory_block_checks, IsReadable, list_start, stream_blocks}
 use Rattle.msf_blocks.specs.declared.fault.MsfFault.TheVariants.{DirectoryBlock}
 use Rattle.msf_blocks.proofs.SizeLaws.{size_facts, some_bytes, place_below}
 
 -- ---- where a number is
 
 -- the directory is as long as the superblock says
-pub text_length : (file : List ℕ) (fields : Fields) → length (directory_text file fields) ≡ fields.directory_bytes
-unfolding directory_text
+pub text_length : (file : List ℕ) (fields : Fields) → length (directory_contents file fields) ≡ fields.directory_bytes
+unfolding directory_contents
 text_length file fields = length-map-range_with_len _ 0 fields.directory_bytes
 
 -- the four bytes of a number of the directory are next to each other in one block
@@ -51,18 +51,18 @@ abbrev pub word_offset : List ℕ → Fields → ℕ → ℕ
 word_offset file fields j = map_number file fields (4 * j / fields.block_size) * fields.block_size + 4 * j % fields.block_size
 
 byte_at : (file : List ℕ) (fields : Fields) (j i : ℕ) → IsBlockSize fields.block_size → i < 4 → 4 * j + 4 ≤ fields.directory_bytes
-    → get_or (directory_text file fields) (4 * j + i) 0 ≡ get_or file (word_offset file fields j + i) 0
-unfolding directory_text
+    → get_or (directory_contents file fields) (4 * j + i) 0 ≡ get_or file (word_offset file fields j + i) 0
+unfolding directory_contents
 byte_at file fields j i size lt room =
     let p = (lies_in_block fields.block_size fields.directory_bytes j size room).same_block i lt in
     get_or-map-range_with_len _ 0 fields.directory_bytes (4 * j + i) (4 * j + i) 0 (omega arith) (omega arith)
     ∙ rw (p.0, p.1) (ap (λ (n : ℕ). get_or file n 0) (omega arith))
 
 -- a number of the directory is the number in the file at its offset
-pub word_is : (file : List ℕ) (fields : Fields) (j : ℕ) → IsBlockSize fields.block_size → 4 * j + 4 ≤ length (directory_text file fields)
-    → word (directory_text file fields) j ≡ number_at 4 file (word_offset file fields j)
-unfolding word number_at
-word_is file fields j size room =
+pub nth_u32_is : (file : List ℕ) (fields : Fields) (j : ℕ) → IsBlockSize fields.block_size → 4 * j + 4 ≤ length (directory_contents file fields)
+    → nth_u32 (directory_contents file fields) j ≡ number_at 4 file (word_offset file fields j)
+unfolding nth_u32 number_at
+nth_u32_is file fields j size room =
     let fits : 4 * j + 4 ≤ fields.directory_bytes = omega (arith, text_length file fields) in
     let b0 = byte_at file fields j 0 size (omega arith) fits in
     let b1 = byte_at file fields j 1 size (omega arith) fits in
@@ -71,8 +71,8 @@ word_is file fields j size room =
     simp get_or-drop (rw (b0, b1, b2, b3) refl)
 
 -- the block map has the number of the block of each number of the directory
-pub word_block : (file : List ℕ) (fields : Fields) (j : ℕ) → IsBlockSize fields.block_size → 4 * j + 4 ≤ length (directory_text file fields) → 4 * j / fields.block_size < directory_blocks fields
-word_block file fields j size room = (lies_in_block fields.block_size fields.directory_bytes j size (omega (arith, text_length file fields))).below
+pub nth_u32_block : (file : List ℕ) (fields : Fields) (j : ℕ) → IsBlockSize fields.block_size → 4 * j + 4 ≤ length (directory_contents file fields) → 4 * j / fields.block_size < directory_blocks fields
+nth_u32_block file fields j size room = (lies_in_block fields.block_size fields.directory_bytes j size (omega (arith, text_length file fields))).below
 
 -- the blocks that the block map lists are ordinary
 pub map_is_ordinary : (file : List ℕ) (fields : Fields) (k : ℕ) → IsReadable file fields → k < directory_blocks fields → IsOrdinary fields.num_blocks (map_number file fields k)
@@ -83,9 +83,9 @@ map_is_ordinary file fields k readable lt =
     (grind (arith, nat_tests), grind (arith, nat_tests))
 
 -- the four bytes of the number are in the file
-pub word_fits : (file : List ℕ) (fields : Fields) (j : ℕ) → IsBlockSize fields.block_size → IsReadable file fields → 4 * j + 4 ≤ length (directory_text file fields)
+pub nth_u32_fits : (file : List ℕ) (fields : Fields) (j : ℕ) → IsBlockSize fields.block_size → IsReadable file fields → 4 * j + 4 ≤ length (directory_contents file fields)
     → word_offset file fields j + 4 ≤ length file
-word_fits file fields j size readable room =
+nth_u32_fits file fields j size readable room =
     let b = lies_in_block fields.block_size fields.directory_bytes j size (omega (arith, text_length file fields)) in
     let o = map_is_ordinary file fields (4 * j / fields.block_size) readable b.below in
     let m : (map_number file fields (4 * j / fields.block_size) + 1) * fields.block_size ≤ fields.num_blocks * fields.block_size = mul-le _ _ _ _ (omega (arith, o.1)) (omega arith) in
@@ -99,7 +99,7 @@ list_start-add b text t zero = let e : 0 + t ≡ t = omega arith in rw e (omega 
 list_start-add b text t (suc k) = let e : suc k + t ≡ suc (k + t) = omega arith in rw e (omega (arith, list_start-add b text t k))
 
 -- the first list comes after the number of streams and the sizes
-pub list_start_zero : (b : ℕ) (text : List ℕ) → list_start b text 0 ≡ 1 + word text 0
+pub list_start_zero : (b : ℕ) (text : List ℕ) → list_start b text 0 ≡ 1 + nth_u32 text 0
 unfolding list_start
 list_start_zero b text = refl
 
@@ -109,13 +109,13 @@ unfolding list_start
 list_start_more b text t = rw add-one refl
 
 -- every list comes after the number of streams and the sizes
-pub list_start_first : (b : ℕ) (text : List ℕ) (n : ℕ) → 1 + word text 0 ≤ list_start b text n
+pub list_start_first : (b : ℕ) (text : List ℕ) (n : ℕ) → 1 + nth_u32 text 0 ≤ list_start b text n
 list_start_first b text n =
     let f : n ≡ n + 0 = omega arith in
     rw f (omega (arith, list_start-add b text 0 n, list_start_zero b text))
 
 -- the list of a stream ends before those of later streams begin
-pub list_start_upto : (b : ℕ) (text : List ℕ) (t n : ℕ) → t < n → (list_start b text t + stream_blocks b text t ≤ list_start b text n) × (1 + word text 0 ≤ list_start b text t)
+pub list_start_upto : (b : ℕ) (text : List ℕ) (t n : ℕ) → t < n → (list_start b text t + stream_blocks b text t ≤ list_start b text n) × (1 + nth_u32 text 0 ≤ list_start b text t)
 list_start_upto b text t n lt =
     let e : n ≡ (n - (t + 1)) + (t + 1) = omega arith in
     let upto : list_start b text (t + 1) ≤ list_start b text n = rw e (list_start-add b text (t + 1) (n - (t + 1))) in

@@ -10,9 +10,9 @@ use Rattle.std.proofs.lemmas.List.Concat.{get_or-flat_map}
 use Rattle.std.proofs.lemmas.List.Folds.{length-flat_map-take}
 use Rattle.std.proofs.lemmas.List.Elements.{All-get_or}
 use Rattle.byte_fields.specs.Bytes.{AreBytes}
-use Rattle.byte_fields.specs.Number.{number_at, word, words}
+use Rattle.byte_fields.specs.Number.{number_at, nth_u32, u32s}
 use Rattle.byte_fields.specs.Check.{first_failing, checks_below}
-use Rattle.byte_fields.proofs.NumberLaws.{word-words, length-words, number_at-small}
+use Rattle.byte_fields.proofs.NumberLaws.{nth_u32-u32s, length-u32s, number_at-small}
 use Rattle.byte_fields.proofs.CheckLaws.{checks_below-all, check_holds}
 use Rattle.msf_blocks.specs.BlockNumber.{is_block_size, IsOrdinary, is_ordinary, blocks_for}
 use Rattle.msf_blocks.specs.Superblock.{Fields, IsSuperblock, fields_of, superblock_checks, magic}
@@ -42,18 +42,18 @@ record IsText (fields : Fields) (text : List ℕ) (streams : List Listed) : Type
 section_len : (fields : Fields) (text : List ℕ) (streams : List Listed) (h : ListsStreams fields text streams) → length text ≡ 4 * (1 + (length streams + length (flat_map (λ s. s.blocks) streams))) + length h.rest
 section_len fields text streams h =
     let numbers = length streams ∷ map (λ s. s.size) streams ++ flat_map (λ s. s.blocks) streams in
-    ap length h.parts ∙ length-append (words numbers) h.rest
-    ∙ rw (length-words numbers) (omega (arith, length-append (map (λ (s : Listed). s.size) streams) (flat_map (λ s. s.blocks) streams), length-map streams (λ (s : Listed). s.size)))
+    ap length h.parts ∙ length-append (u32s numbers) h.rest
+    ∙ rw (length-u32s numbers) (omega (arith, length-append (map (λ (s : Listed). s.size) streams) (flat_map (λ s. s.blocks) streams), length-map streams (λ (s : Listed). s.size)))
 
 -- the number of streams comes first
-count_is : (fields : Fields) (text : List ℕ) (streams : List Listed) → IsText fields text streams → word text 0 ≡ length streams
+count_is : (fields : Fields) (text : List ℕ) (streams : List Listed) → IsText fields text streams → nth_u32 text 0 ≡ length streams
 count_is fields text streams h =
     let numbers = length streams ∷ map (λ s. s.size) streams ++ flat_map (λ s. s.blocks) streams in
-    ap (λ (t : List ℕ). word t 0) h.lists.parts
-    ∙ word-words numbers h.lists.rest 0 (omega arith) (omega (arith, h.short, section_len fields text streams h.lists))
+    ap (λ (t : List ℕ). nth_u32 t 0) h.lists.parts
+    ∙ nth_u32-u32s numbers h.lists.rest 0 (omega arith) (omega (arith, h.short, section_len fields text streams h.lists))
 
 -- the sizes come next
-size_is : (fields : Fields) (text : List ℕ) (streams : List Listed) (t : ℕ) → IsText fields text streams → t < length streams → word text (1 + t) ≡ (get_or streams t no_stream).size
+size_is : (fields : Fields) (text : List ℕ) (streams : List Listed) (t : ℕ) → IsText fields text streams → t < length streams → nth_u32 text (1 + t) ≡ (get_or streams t no_stream).size
 size_is fields text streams t h lt =
     let sizes = map (λ (s : Listed). s.size) streams in
     let blocks = flat_map (λ (s : Listed). s.blocks) streams in
@@ -63,12 +63,12 @@ size_is fields text streams t h lt =
     let here : get_or numbers (1 + t) 0 ≡ (get_or streams t no_stream).size =
     rw one (get_or_append_left sizes blocks 0 t (omega (arith, counted)) ∙ get_or-map (λ (s : Listed). s.size) streams t no_stream 0 lt) in
     let small : (get_or streams t no_stream).size < 2 ^ 32 = (All-get_or (IsListed fields) streams t no_stream lt h.lists.each).short in
-    ap (λ (x : List ℕ). word x (1 + t)) h.lists.parts
-    ∙ word-words numbers h.lists.rest (1 + t) (omega (arith, length-append sizes blocks, counted)) (rw here small) ∙ here
+    ap (λ (x : List ℕ). nth_u32 x (1 + t)) h.lists.parts
+    ∙ nth_u32-u32s numbers h.lists.rest (1 + t) (omega (arith, length-append sizes blocks, counted)) (rw here small) ∙ here
 
 -- the lists come next: the k-th number of the list of the t-th stream
 list_is : (fields : Fields) (text : List ℕ) (streams : List Listed) (t k : ℕ) → IsText fields text streams → t < length streams → k < length (get_or streams t no_stream).blocks
-    → word text (1 + length streams + length (flat_map (λ s. s.blocks) (take t streams)) + k) ≡ get_or (get_or streams t no_stream).blocks k 0
+    → nth_u32 text (1 + length streams + length (flat_map (λ s. s.blocks) (take t streams)) + k) ≡ get_or (get_or streams t no_stream).blocks k 0
 list_is fields text streams t k h lt below =
     let sizes = map (λ (s : Listed). s.size) streams in
     let blocks_of = λ (s : Listed). s.blocks in
@@ -83,8 +83,8 @@ list_is fields text streams t k h lt below =
     rw is (get_or-append-add sizes blocks (start + k) 0 ∙ get_or-flat_map blocks_of streams t k no_stream 0 lt below) in
     let o : IsOrdinary fields.num_blocks (get_or (get_or streams t no_stream).blocks k 0) = All-get_or (IsOrdinary fields.num_blocks) (get_or streams t no_stream).blocks k 0 below (All-get_or (IsListed fields) streams t no_stream lt h.lists.each).ordinary in
     let small : get_or (get_or streams t no_stream).blocks k 0 < 2 ^ 32 = omega (arith, o.1, h.few_blocks) in
-    ap (λ (x : List ℕ). word x at) h.lists.parts
-    ∙ word-words numbers h.lists.rest at (omega (arith, length-append sizes blocks, counted, within)) (rw here small) ∙ here
+    ap (λ (x : List ℕ). nth_u32 x at) h.lists.parts
+    ∙ nth_u32-u32s numbers h.lists.rest at (omega (arith, length-append sizes blocks, counted, within)) (rw here small) ∙ here
 
 -- a stream has as many blocks as its list has numbers
 blocks_is : (fields : Fields) (text : List ℕ) (streams : List Listed) (t : ℕ) → IsText fields text streams → t < length streams → stream_blocks fields.block_size text t ≡ length (get_or streams t no_stream).blocks
@@ -115,7 +115,7 @@ stream_holds fields text streams t h lt =
     let this = get_or streams t no_stream in
     checks_below-all (stream_block_check fields text t) (stream_blocks b text t) (λ k below.
     let inside : k < length this.blocks = omega (arith, below, blocks_is fields text streams t h lt) in
-    let block = word text (list_start b text t + k) in
+    let block = nth_u32 text (list_start b text t + k) in
     let is : block ≡ get_or this.blocks k 0 = rw (start_is fields text streams t h (omega arith)) (list_is fields text streams t k h lt inside) in
     let o : IsOrdinary fields.num_blocks (get_or this.blocks k 0) = All-get_or (IsOrdinary fields.num_blocks) this.blocks k 0 inside (All-get_or (IsListed fields) streams t no_stream lt h.lists.each).ordinary in
     let ordinary : IsOrdinary fields.num_blocks block = rw is o in
@@ -132,8 +132,8 @@ length_holds fields text streams h =
     let end : list_start fields.block_size text n ≡ 1 + n + length (flat_map (λ s. s.blocks) streams) =
     start_is fields text streams n h (omega arith) ∙ rw whole refl in
     let a : nat_le 4 (length text) ≡ true = grind (arith, nat_tests) in
-    let b : nat_le (4 + 4 * word text 0) (length text) ≡ true = grind (arith, nat_tests) in
-    let c : nat_le (4 * list_start fields.block_size text (word text 0)) (length text) ≡ true = rw count (grind (arith, nat_tests)) in
+    let b : nat_le (4 + 4 * nth_u32 text 0) (length text) ≡ true = grind (arith, nat_tests) in
+    let c : nat_le (4 * list_start fields.block_size text (nth_u32 text 0)) (length text) ≡ true = rw count (grind (arith, nat_tests)) in
     rw (a, b, c) refl
 
 -- the checks of the directory's blocks hold
@@ -156,7 +156,7 @@ superblock_holds file fields s =
     let c : (number_at 4 file 36 == 1 || number_at 4 file 36 == 2) ≡ true = rw s.free_map_block_is (grind (arith, nat_tests, f.free_map_block_fits)) in
     let d : nat_le (number_at 4 file 40 * number_at 4 file 32) (length file) ≡ true = rw (s.num_blocks_is, s.block_size_is) (grind (arith, nat_tests, s.whole)) in
     let e : (number_at 4 file 44 % 4 == 0 && nat_le (blocks_for (number_at 4 file 32) (number_at 4 file 44)) (number_at 4 file 32 / 4)) ≡ true =
-    rw (s.directory_bytes_is, s.block_size_is) (grind (arith, nat_tests, f.directory_words, f.directory_fits)) in
+    rw (s.directory_bytes_is, s.block_size_is) (grind (arith, nat_tests, f.directory_multiple, f.directory_fits)) in
     let g : is_ordinary (number_at 4 file 40) (number_at 4 file 52) ≡ true = rw (s.num_blocks_is, s.block_map_addr_is) (grind (arith, nat_tests, f.block_map_fits.0, f.block_map_fits.1)) in
     rw (a, m, b, c, d, e, g) refl
 

@@ -2,11 +2,11 @@
 use Rattle.std.proofs.Common.{◌≡◌, ℕ, ◌+◌, List, [], ◌∷◌, ◌++◌, Some, None, map, refl, sym, ap, ◌∙◌}
 use Rattle.std.specs.List.{range_with_len}
 use Rattle.std.proofs.lemmas.List.{map-append}
-use Rattle.byte_fields.specs.Number.{word}
+use Rattle.byte_fields.specs.Number.{nth_u32}
 use Rattle.byte_fields.specs.Check.{first_failing, checks_below}
 use Rattle.byte_fields.proofs.CheckLaws.{first_failing-append_none, first_failing-append_some, first_failing-parts}
 use Rattle.msf_blocks.specs.Superblock.{Fields, fields_of, superblock_checks}
-use Rattle.msf_blocks.specs.Directory.{directory_text, directory_block_checks, length_checks, stream_checks, stream_blocks, list_start, listed_at, listed_below}
+use Rattle.msf_blocks.specs.Directory.{directory_contents, directory_block_checks, length_checks, stream_checks, stream_blocks, list_start, listed_at, listed_below}
 use Rattle.msf_blocks.specs.Layout.{layout_checks}
 use Rattle.msf_blocks.specs.Stream.{listed_of}
 use Rattle.msf_blocks.specs.declared.layout.Stream.{Stream}
@@ -16,7 +16,7 @@ use Rattle.msf_blocks.proofs.DirectoryLaws.{map_range_more}
 -- ---- the first fault
 
 checks_are : (file : List ℕ) (fields : Fields) → fields ≡ fields_of file
-    → layout_checks file ≡ superblock_checks file ++ (directory_block_checks file fields ++ (length_checks fields.block_size (directory_text file fields) ++ checks_below (word (directory_text file fields) 0) (stream_checks fields (directory_text file fields))))
+    → layout_checks file ≡ superblock_checks file ++ (directory_block_checks file fields ++ (length_checks fields.block_size (directory_contents file fields) ++ checks_below (nth_u32 (directory_contents file fields) 0) (stream_checks fields (directory_contents file fields))))
 unfolding layout_checks
 checks_are file fields e = rw e refl
 
@@ -32,30 +32,30 @@ block_fault file fields fault is a e =
     ap first_failing (checks_are file fields is) ∙ first_failing-append_none (superblock_checks file) _ a ∙ first_failing-append_some (directory_block_checks file fields) _ fault e
 
 after_blocks : (file : List ℕ) (fields : Fields) → fields ≡ fields_of file → first_failing (superblock_checks file) ≡ None → first_failing (directory_block_checks file fields) ≡ None
-    → first_failing (layout_checks file) ≡ first_failing (length_checks fields.block_size (directory_text file fields) ++ checks_below (word (directory_text file fields) 0) (stream_checks fields (directory_text file fields)))
+    → first_failing (layout_checks file) ≡ first_failing (length_checks fields.block_size (directory_contents file fields) ++ checks_below (nth_u32 (directory_contents file fields) 0) (stream_checks fields (directory_contents file fields)))
 after_blocks file fields is a b =
     ap first_failing (checks_are file fields is) ∙ first_failing-append_none (superblock_checks file) _ a ∙ first_failing-append_none (directory_block_checks file fields) _ b
 
 -- after these, a fault of the length of the directory is the fault of the layout
-pub length_fault : (file : List ℕ) (fields : Fields) (text : List ℕ) (fault : MsfFault) → fields ≡ fields_of file → text ≡ directory_text file fields → first_failing (superblock_checks file) ≡ None → first_failing (directory_block_checks file fields) ≡ None
+pub length_fault : (file : List ℕ) (fields : Fields) (text : List ℕ) (fault : MsfFault) → fields ≡ fields_of file → text ≡ directory_contents file fields → first_failing (superblock_checks file) ≡ None → first_failing (directory_block_checks file fields) ≡ None
     → first_failing (length_checks fields.block_size text) ≡ Some fault → first_failing (layout_checks file) ≡ Some fault
 length_fault file fields text fault is text_is a b e =
-    let here : first_failing (length_checks fields.block_size (directory_text file fields)) ≡ Some fault = rw (← text_is) e in
-    after_blocks file fields is a b ∙ first_failing-append_some (length_checks fields.block_size (directory_text file fields)) _ fault here
+    let here : first_failing (length_checks fields.block_size (directory_contents file fields)) ≡ Some fault = rw (← text_is) e in
+    after_blocks file fields is a b ∙ first_failing-append_some (length_checks fields.block_size (directory_contents file fields)) _ fault here
 
 -- after these, the first fault of the layout is the first fault of its streams
-pub stream_answer : (file : List ℕ) (fields : Fields) (text : List ℕ) (n : ℕ) → fields ≡ fields_of file → text ≡ directory_text file fields → first_failing (superblock_checks file) ≡ None → first_failing (directory_block_checks file fields) ≡ None
-    → first_failing (length_checks fields.block_size text) ≡ None → n ≡ word text 0
+pub stream_answer : (file : List ℕ) (fields : Fields) (text : List ℕ) (n : ℕ) → fields ≡ fields_of file → text ≡ directory_contents file fields → first_failing (superblock_checks file) ≡ None → first_failing (directory_block_checks file fields) ≡ None
+    → first_failing (length_checks fields.block_size text) ≡ None → n ≡ nth_u32 text 0
     → first_failing (layout_checks file) ≡ first_failing (checks_below n (stream_checks fields text))
 stream_answer file fields text n is text_is a b l e =
-    let here : first_failing (length_checks fields.block_size (directory_text file fields)) ≡ None = rw (← text_is) l in
-    after_blocks file fields is a b ∙ first_failing-append_none (length_checks fields.block_size (directory_text file fields)) _ here ∙ rw (e, text_is) refl
+    let here : first_failing (length_checks fields.block_size (directory_contents file fields)) ≡ None = rw (← text_is) l in
+    after_blocks file fields is a b ∙ first_failing-append_none (length_checks fields.block_size (directory_contents file fields)) _ here ∙ rw (e, text_is) refl
 
 -- ---- the streams that are listed
 
 -- a stream that was read is the stream that is listed
-pub stream_is : {A : Type 0} (b : ℕ) (text : List ℕ) (t start count : ℕ) (s : Stream A) → s.size ≡ word text (1 + t) → start ≡ list_start b text t → count ≡ stream_blocks b text t
-    → s.blocks.items ≡ map (λ k. word text (start + k)) (range_with_len 0 count) → listed_of s ≡ listed_at b text t
+pub stream_is : {A : Type 0} (b : ℕ) (text : List ℕ) (t start count : ℕ) (s : Stream A) → s.size ≡ nth_u32 text (1 + t) → start ≡ list_start b text t → count ≡ stream_blocks b text t
+    → s.blocks.items ≡ map (λ k. nth_u32 text (start + k)) (range_with_len 0 count) → listed_of s ≡ listed_at b text t
 unfolding listed_at
 stream_is b text t start count s size at long items = rw (size, items, at, long) refl
 
@@ -67,10 +67,10 @@ listed_more b text t xs s before here =
 
 -- if all checks hold, then the checks of the blocks of the directory hold, and so do those of the streams
 pub layout_parts : (file : List ℕ) (fields : Fields) → fields ≡ fields_of file → first_failing (layout_checks file) ≡ None
-    → (first_failing (directory_block_checks file fields) ≡ None) × (first_failing (checks_below (word (directory_text file fields) 0) (stream_checks fields (directory_text file fields))) ≡ None)
+    → (first_failing (directory_block_checks file fields) ≡ None) × (first_failing (checks_below (nth_u32 (directory_contents file fields) 0) (stream_checks fields (directory_contents file fields))) ≡ None)
 layout_parts file fields is held =
     let all = rw (checks_are file fields is) at held in
     let a = first_failing-parts (superblock_checks file) _ all in
     let b = first_failing-parts (directory_block_checks file fields) _ a.1 in
-    let c = first_failing-parts (length_checks fields.block_size (directory_text file fields)) _ b.1 in
+    let c = first_failing-parts (length_checks fields.block_size (directory_contents file fields)) _ b.1 in
     (b.0, c.1)

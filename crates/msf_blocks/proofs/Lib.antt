@@ -1,6 +1,6 @@
 pub mod SizeLaws
 pub mod SuperblockLaws
-pub mod WantLaws
+pub mod MemoryLaws
 pub mod DirectoryLaws
 pub mod LayoutLaws
 pub mod ListsLaws

@@ -8,13 +8,13 @@ use Rattle.std.proofs.lemmas.List.{append-nil, take-append-drop, get_or_past}
 use Rattle.std.proofs.lemmas.List.FromFn.{get_or-map-range_with_len, length-map-range_with_len}
 use Rattle.std.proofs.lemmas.List.Elements.{All-from_get_or}
 use Rattle.byte_fields.specs.Bytes.{AreBytes}
-use Rattle.byte_fields.specs.Number.{word, words}
+use Rattle.byte_fields.specs.Number.{nth_u32, u32s}
 use Rattle.byte_fields.specs.Check.{first_failing, checks_below}
-use Rattle.byte_fields.proofs.NumberLaws.{words-word, number_at-small}
+use Rattle.byte_fields.proofs.NumberLaws.{u32s-nth_u32, number_at-small}
 use Rattle.byte_fields.proofs.CheckLaws.{checks_below-each, check_held}
 use Rattle.msf_blocks.specs.BlockNumber.{IsOrdinary, is_ordinary}
 use Rattle.msf_blocks.specs.Superblock.{Fields, IsSuperblock, fields_of}
-use Rattle.msf_blocks.specs.Directory.{Listed, IsListed, ListsStreams, directory_text, map_number, stream_checks, stream_block_check, stream_blocks, list_start, listed_at, listed_below}
+use Rattle.msf_blocks.specs.Directory.{Listed, IsListed, ListsStreams, directory_contents, map_number, stream_checks, stream_block_check, stream_blocks, list_start, listed_at, listed_below}
 use Rattle.msf_blocks.specs.Layout.{HasLayout, IsLayout, layout_checks}
 use Rattle.msf_blocks.specs.declared.fault.MsfFault.TheVariants.{StreamBlock}
 use Rattle.msf_blocks.proofs.DirectoryLaws.{map_range_more, map_is_ordinary, list_start_zero, list_start_more}
@@ -33,53 +33,53 @@ shifted : (f : ℕ → ℕ) (a c n : ℕ) → map (λ k. f (a + k)) (range_with_
 shifted f a c zero = refl
 shifted f a c (suc n) = let e : a + (c + 1) ≡ a + c + 1 = omega arith in ap (λ (xs : List ℕ). f (a + c) ∷ xs) (shifted f a (c + 1) n ∙ rw e refl)
 
-sizes_from : (b : ℕ) (text : List ℕ) (a n : ℕ) → map (λ s. s.size) (map (listed_at b text) (range_with_len a n)) ≡ map (word text) (range_with_len (1 + a) n)
+sizes_from : (b : ℕ) (text : List ℕ) (a n : ℕ) → map (λ s. s.size) (map (listed_at b text) (range_with_len a n)) ≡ map (nth_u32 text) (range_with_len (1 + a) n)
 unfolding listed_at
 sizes_from b text a zero = refl
-sizes_from b text a (suc n) = let e : 1 + (a + 1) ≡ 1 + a + 1 = omega arith in ap (λ (xs : List ℕ). word text (1 + a) ∷ xs) (sizes_from b text (a + 1) n ∙ rw e refl)
+sizes_from b text a (suc n) = let e : 1 + (a + 1) ≡ 1 + a + 1 = omega arith in ap (λ (xs : List ℕ). nth_u32 text (1 + a) ∷ xs) (sizes_from b text (a + 1) n ∙ rw e refl)
 
 -- the lists of the first n streams are the numbers after the sizes, up to the position where the next list begins
-lists_are : (b : ℕ) (text : List ℕ) (n : ℕ) → (extra : ℕ) × (list_start b text n ≡ (1 + word text 0) + extra) × (flat_map (λ s. s.blocks) (listed_below b text n) ≡ map (word text) (range_with_len (1 + word text 0) extra))
+lists_are : (b : ℕ) (text : List ℕ) (n : ℕ) → (extra : ℕ) × (list_start b text n ≡ (1 + nth_u32 text 0) + extra) × (flat_map (λ s. s.blocks) (listed_below b text n) ≡ map (nth_u32 text) (range_with_len (1 + nth_u32 text 0) extra))
 unfolding listed_at
 lists_are b text zero = (0, omega (arith, list_start_zero b text), refl)
 lists_are b text (suc n) =
     let before = lists_are b text n in
     let c = stream_blocks b text n in
     let one : suc n ≡ n + 1 = omega arith in
-    let zeros : list_start b text n + 0 ≡ (1 + word text 0) + before.0 = omega (arith, before.1) in
-    let next : (listed_at b text n).blocks ≡ map (word text) (range_with_len ((1 + word text 0) + before.0) c) = shifted (word text) (list_start b text n) 0 c ∙ rw zeros refl in
+    let zeros : list_start b text n + 0 ≡ (1 + nth_u32 text 0) + before.0 = omega (arith, before.1) in
+    let next : (listed_at b text n).blocks ≡ map (nth_u32 text) (range_with_len ((1 + nth_u32 text 0) + before.0) c) = shifted (nth_u32 text) (list_start b text n) 0 c ∙ rw zeros refl in
     let single : flat_map (λ s. s.blocks) (listed_at b text n ∷ []) ≡ (listed_at b text n).blocks = append-nil (listed_at b text n).blocks in
-    let both : flat_map (λ s. s.blocks) (listed_below b text (n + 1)) ≡ map (word text) (range_with_len (1 + word text 0) (before.0 + c)) =
+    let both : flat_map (λ s. s.blocks) (listed_below b text (n + 1)) ≡ map (nth_u32 text) (range_with_len (1 + nth_u32 text 0) (before.0 + c)) =
     ap (flat_map (λ s. s.blocks)) (map_range_more (listed_at b text) n) ∙ flat_map-append (λ s. s.blocks) (listed_below b text n) (listed_at b text n ∷ [])
-    ∙ rw (before.2, single, next) (sym (range_split (word text) (1 + word text 0) before.0 c)) in (
+    ∙ rw (before.2, single, next) (sym (range_split (nth_u32 text) (1 + nth_u32 text 0) before.0 c)) in (
       before.0 + c,
       rw one (omega (arith, list_start_more b text n, before.1)),
-      subst (λ (m : ℕ). flat_map (λ s. s.blocks) (listed_below b text m) ≡ map (word text) (range_with_len (1 + word text 0) (before.0 + c))) (sym one) both,
+      subst (λ (m : ℕ). flat_map (λ s. s.blocks) (listed_below b text m) ≡ map (nth_u32 text) (range_with_len (1 + nth_u32 text 0) (before.0 + c))) (sym one) both,
     )
 
 -- the directory is the numbers of what was read, then any rest
-listing : (b : ℕ) (text : List ℕ) → AreBytes text → 4 * list_start b text (word text 0) ≤ length text
-    → let streams = listed_below b text (word text 0) in
-    (rest : List ℕ) × (text ≡ words (length streams ∷ map (λ s. s.size) streams ++ flat_map (λ s. s.blocks) streams) ++ rest)
+listing : (b : ℕ) (text : List ℕ) → AreBytes text → 4 * list_start b text (nth_u32 text 0) ≤ length text
+    → let streams = listed_below b text (nth_u32 text 0) in
+    (rest : List ℕ) × (text ≡ u32s (length streams ∷ map (λ s. s.size) streams ++ flat_map (λ s. s.blocks) streams) ++ rest)
 listing b text bytes long =
-    let n = word text 0 in
+    let n = nth_u32 text 0 in
     let lists = lists_are b text n in
     let streams = listed_below b text n in
-    let sizes : map (λ s. s.size) streams ≡ map (word text) (range_with_len 1 n) = sizes_from b text 0 n in
+    let sizes : map (λ s. s.size) streams ≡ map (nth_u32 text) (range_with_len 1 n) = sizes_from b text 0 n in
     let all = n ∷ map (λ s. s.size) streams ++ flat_map (λ s. s.blocks) streams in
-    let numbers : all ≡ map (word text) (range_with_len 0 (1 + (n + lists.0))) =
-    rw (sizes, lists.2) (sym (range_split (word text) 0 1 (n + lists.0) ∙ ap (λ (xs : List ℕ). n ∷ xs) (range_split (word text) 1 n lists.0))) in
+    let numbers : all ≡ map (nth_u32 text) (range_with_len 0 (1 + (n + lists.0))) =
+    rw (sizes, lists.2) (sym (range_split (nth_u32 text) 0 1 (n + lists.0) ∙ ap (λ (xs : List ℕ). n ∷ xs) (range_split (nth_u32 text) 1 n lists.0))) in
     let counted : length streams ≡ n = length-map-range_with_len (listed_at b text) 0 n in
-    let front : words all ≡ take (4 * (1 + (n + lists.0))) text = ap words numbers ∙ words-word text 0 (1 + (n + lists.0)) bytes (omega (arith, lists.1)) in
+    let front : u32s all ≡ take (4 * (1 + (n + lists.0))) text = ap u32s numbers ∙ u32s-nth_u32 text 0 (1 + (n + lists.0)) bytes (omega (arith, lists.1)) in
     (drop (4 * (1 + (n + lists.0))) text, sym (rw counted (ap (λ (xs : List ℕ). xs ++ drop (4 * (1 + (n + lists.0))) text) front ∙ take-append-drop (4 * (1 + (n + lists.0))) text)))
 
 -- a stream whose checks hold is listed with the blocks that it needs
 listed_holds : (fields : Fields) (text : List ℕ) (t : ℕ) → AreBytes text → first_failing (stream_checks fields text t) ≡ None → IsListed fields (listed_at fields.block_size text t)
-unfolding stream_checks stream_blocks listed_at word
+unfolding stream_checks stream_blocks listed_at nth_u32
 listed_holds fields text t bytes held =
     let b = fields.block_size in
     let count = stream_blocks b text t in
-    let number = λ (k : ℕ). word text (list_start b text t + k) in
+    let number = λ (k : ℕ). nth_u32 text (list_start b text t + k) in
     record {
       short = number_at-small text (4 * (1 + t)) bytes;
       count = length-map-range_with_len number 0 count;
@@ -92,11 +92,11 @@ listed_holds fields text t bytes held =
     }
 
 -- a directory whose checks hold lists the streams that are read from it
-pub lists_what_is_read : (fields : Fields) (text : List ℕ) → AreBytes text → 4 * list_start fields.block_size text (word text 0) ≤ length text
-    → first_failing (checks_below (word text 0) (stream_checks fields text)) ≡ None → ListsStreams fields text (listed_below fields.block_size text (word text 0))
+pub lists_what_is_read : (fields : Fields) (text : List ℕ) → AreBytes text → 4 * list_start fields.block_size text (nth_u32 text 0) ≤ length text
+    → first_failing (checks_below (nth_u32 text 0) (stream_checks fields text)) ≡ None → ListsStreams fields text (listed_below fields.block_size text (nth_u32 text 0))
 lists_what_is_read fields text bytes long held =
     let b = fields.block_size in
-    let n = word text 0 in
+    let n = nth_u32 text 0 in
     let list = listing b text bytes long in
     let count : length (listed_below b text n) ≡ n = length-map-range_with_len (listed_at b text) 0 n in
     record {
@@ -109,8 +109,8 @@ lists_what_is_read fields text bytes long held =
     }
 
 -- the bytes of the directory are bytes of the file
-pub text_bytes : (file : List ℕ) (fields : Fields) → AreBytes file → AreBytes (directory_text file fields)
-unfolding directory_text
+pub text_bytes : (file : List ℕ) (fields : Fields) → AreBytes file → AreBytes (directory_contents file fields)
+unfolding directory_contents
 text_bytes file fields each i =
     let byte = λ (i : ℕ). get_or file (map_number file fields (i / fields.block_size) * fields.block_size + i % fields.block_size) 0 in
     elim (cases_lt i fields.directory_bytes) [
@@ -119,13 +119,13 @@ text_bytes file fields each i =
     ]
 
 -- what is read from a file whose checks hold is its layout
-pub layout_is : (file : List ℕ) (fields : Fields) (text : List ℕ) (n : ℕ) (streams : List Listed) → AreBytes file → IsSuperblock file fields → fields ≡ fields_of file → text ≡ directory_text file fields
-    → n ≡ word text 0 → 4 * list_start fields.block_size text n ≤ length text → first_failing (layout_checks file) ≡ None → streams ≡ listed_below fields.block_size text n
+pub layout_is : (file : List ℕ) (fields : Fields) (text : List ℕ) (n : ℕ) (streams : List Listed) → AreBytes file → IsSuperblock file fields → fields ≡ fields_of file → text ≡ directory_contents file fields
+    → n ≡ nth_u32 text 0 → 4 * list_start fields.block_size text n ≤ length text → first_failing (layout_checks file) ≡ None → streams ≡ listed_below fields.block_size text n
     → HasLayout file (record { superblock = fields; streams = streams })
 layout_is file fields text n streams bytes super is text_is count room held read =
     let parts = layout_parts file fields is held in
     let small : AreBytes text = rw text_is (text_bytes file fields bytes) in
-    let streams_hold : first_failing (checks_below (word text 0) (stream_checks fields text)) ≡ None = rw text_is parts.1 in
+    let streams_hold : first_failing (checks_below (nth_u32 text 0) (stream_checks fields text)) ≡ None = rw text_is parts.1 in
     record {
       superblock = super;
       text = text;
@@ -138,8 +138,8 @@ layout_is file fields text n streams bytes super is text_is count room held read
 
 -- what holds of every layout holds of the layout of a file
 pub layout_fits : (file : List ℕ) (fields : Fields) (text : List ℕ) (n : ℕ) (streams : List Listed) → AreBytes file → HasLayout file (record { superblock = fields; streams = streams })
-    → text ≡ directory_text file fields → n ≡ word text 0 → streams ≡ listed_below fields.block_size text n → IsLayout (record { superblock = fields; streams = streams })
-unfolding word
+    → text ≡ directory_contents file fields → n ≡ nth_u32 text 0 → streams ≡ listed_below fields.block_size text n → IsLayout (record { superblock = fields; streams = streams })
+unfolding nth_u32
 layout_fits file fields text n streams bytes h text_is count read =
     let small : AreBytes text = rw text_is (text_bytes file fields bytes) in
     let long : length streams ≡ n = rw read (length-map-range_with_len (listed_at fields.block_size text) 0 n) in

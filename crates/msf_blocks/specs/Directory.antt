@@ -1,7 +1,7 @@
 -- The stream directory: where its blocks are, and what it lists ("The MSF File Format", "The Stream Directory").
 use Rattle.std.specs.Prelude.{ℕ, zero, suc, None, if◌then◌else◌, ◌==◌, ◌≡◌, ◌+◌, ◌*◌, ◌/◌, ◌%◌, ◌<◌, ◌≤◌, ◌^◌, nat_le, List, [], ◌∷◌, ◌++◌, length, slice_index, map, All}
 use Rattle.std.specs.List.{range_with_len, flat_map}
-use Rattle.byte_fields.specs.Number.{number_at, word, words}
+use Rattle.byte_fields.specs.Number.{number_at, nth_u32, u32s}
 use Rattle.byte_fields.specs.Check.{Check, checks_below, first_failing}
 use Rattle.msf_blocks.specs.BlockNumber.{blocks_for, IsOrdinary, is_ordinary}
 use Rattle.msf_blocks.specs.Superblock.{Fields}
@@ -17,14 +17,14 @@ unfoldable pub map_number : List ℕ → Fields → ℕ → ℕ
 map_number file fields k = number_at 4 file (fields.block_map_addr * fields.block_size + 4 * k)
 
 -- the contents of the directory: byte i is in the block whose number is at position i / block_size of the block map
-unfoldable pub directory_text : List ℕ → Fields → List ℕ
-directory_text file fields =
+unfoldable pub directory_contents : List ℕ → Fields → List ℕ
+directory_contents file fields =
     map (λ i. slice_index file (map_number file fields (i / fields.block_size) * fields.block_size + i % fields.block_size)) (range_with_len 0 fields.directory_bytes)
 
 -- these are the contents of the directory of the file, and its blocks are ordinary
 pub record IsDirectory (file : List ℕ) (fields : Fields) (text : List ℕ) : Type 0 where
   pub ordinary : (k : ℕ) → k < directory_blocks fields → IsOrdinary fields.num_blocks (map_number file fields k)
-  pub text_is : text ≡ directory_text file fields
+  pub text_is : text ≡ directory_contents file fields
 
 -- a stream as the directory lists it: its size, which is 0xFFFFFFFF for a nil stream, and the numbers of its blocks
 pub record Listed : Type 0 where
@@ -44,7 +44,7 @@ pub record IsListed (fields : Fields) (stream : Listed) : Type 0 where
 -- the directory is the number of streams, then their sizes, then their lists of blocks in turn, then any rest
 pub record ListsStreams (fields : Fields) (text : List ℕ) (streams : List Listed) : Type 0 where
   pub rest : List ℕ
-  pub parts : text ≡ words (length streams ∷ map (λ s. s.size) streams ++ flat_map (λ s. s.blocks) streams) ++ rest
+  pub parts : text ≡ u32s (length streams ∷ map (λ s. s.size) streams ++ flat_map (λ s. s.blocks) streams) ++ rest
   pub each : All (IsListed fields) streams
 
 -- ---- the checks
@@ -60,25 +60,25 @@ directory_block_checks file fields = checks_below (directory_blocks fields) (dir
 
 -- how many blocks stream t has, computed from its listed size
 unfoldable pub stream_blocks : ℕ → List ℕ → ℕ → ℕ
-stream_blocks block_size text t = blocks_for block_size (bytes_of (word text (1 + t)))
+stream_blocks block_size text t = blocks_for block_size (bytes_of (nth_u32 text (1 + t)))
 
 -- the position where the list of stream t begins: after the number of streams, the sizes, and the lists of the streams before it
 unfoldable pub list_start : ℕ → List ℕ → ℕ → ℕ
-list_start block_size text zero = 1 + word text 0
+list_start block_size text zero = 1 + nth_u32 text 0
 list_start block_size text (suc t) = list_start block_size text t + stream_blocks block_size text t
 
 -- the checks of the length of the directory: it is long enough for the number of streams, for the sizes, and for the lists
 unfoldable pub length_checks : ℕ → List ℕ → List (Check MsfFault)
 length_checks block_size text =
     record { holds = nat_le 4 (length text); fault = DirectoryShort 4 (length text) }
-    ∷ record { holds = nat_le (4 + 4 * word text 0) (length text); fault = DirectoryShort (4 + 4 * word text 0) (length text) }
-    ∷ record { holds = nat_le (4 * list_start block_size text (word text 0)) (length text); fault = DirectoryShort (4 * list_start block_size text (word text 0)) (length text) }
+    ∷ record { holds = nat_le (4 + 4 * nth_u32 text 0) (length text); fault = DirectoryShort (4 + 4 * nth_u32 text 0) (length text) }
+    ∷ record { holds = nat_le (4 * list_start block_size text (nth_u32 text 0)) (length text); fault = DirectoryShort (4 * list_start block_size text (nth_u32 text 0)) (length text) }
     ∷ []
 
 -- the check of block k of stream t
 abbrev pub stream_block_check : Fields → List ℕ → ℕ → ℕ → List (Check MsfFault)
 stream_block_check fields text t k =
-    let block = word text (list_start fields.block_size text t + k) in
+    let block = nth_u32 text (list_start fields.block_size text t + k) in
     record { holds = is_ordinary fields.num_blocks block; fault = StreamBlock t k block } ∷ []
 
 -- the checks of the blocks of stream t, in order
@@ -100,8 +100,8 @@ pub record IsReadable (file : List ℕ) (fields : Fields) : Type 0 where
 -- stream t, read at the positions of its numbers
 unfoldable pub listed_at : ℕ → List ℕ → ℕ → Listed
 listed_at block_size text t = record {
-  size = word text (1 + t);
-  blocks = map (λ k. word text (list_start block_size text t + k)) (range_with_len 0 (stream_blocks block_size text t));
+  size = nth_u32 text (1 + t);
+  blocks = map (λ k. nth_u32 text (list_start block_size text t + k)) (range_with_len 0 (stream_blocks block_size text t));
 }
 
 -- the first streams, read at the positions of their numbers

@@ -1,10 +1,10 @@
 -- The layout of a container: its superblock, and its streams as the directory lists them.
 use Rattle.std.specs.Prelude.{ℕ, ◌<◌, ◌^◌, ◌++◌, List, Option, Some, None, length, slice_get, All}
-use Rattle.byte_fields.specs.Number.{word}
+use Rattle.byte_fields.specs.Number.{nth_u32}
 use Rattle.byte_fields.specs.Check.{Check, checks_below}
 use Rattle.msf_blocks.specs.BlockNumber.{IsBlockSize}
 use Rattle.msf_blocks.specs.Superblock.{Fields, IsSuperblock, fields_of, superblock_checks}
-use Rattle.msf_blocks.specs.Directory.{Listed, IsListed, IsDirectory, ListsStreams, directory_text, directory_block_checks, length_checks, stream_checks}
+use Rattle.msf_blocks.specs.Directory.{Listed, IsListed, IsDirectory, ListsStreams, directory_contents, directory_block_checks, length_checks, stream_checks}
 use Rattle.msf_blocks.specs.declared.fault.MsfFault.{MsfFault}
 
 -- contracts see a layout as the values of the superblock and the list of streams
@@ -38,5 +38,5 @@ block_of streams s k = block_in (slice_get streams s) k
 unfoldable pub layout_checks : List ℕ → List (Check MsfFault)
 layout_checks file =
     let fields = fields_of file in
-    let text = directory_text file fields in
-    superblock_checks file ++ (directory_block_checks file fields ++ (length_checks fields.block_size text ++ checks_below (word text 0) (stream_checks fields text)))
+    let text = directory_contents file fields in
+    superblock_checks file ++ (directory_block_checks file fields ++ (length_checks fields.block_size text ++ checks_below (nth_u32 text 0) (stream_checks fields text)))

@@ -24,7 +24,7 @@ pub record Fields : Type 0 where
 pub record IsFit (fields : Fields) : Type 0 where
   pub block_size_fits : IsBlockSize fields.block_size
   pub free_map_block_fits : (fields.free_map_block ≡ 1) ⊎ (fields.free_map_block ≡ 2)
-  pub directory_words : fields.directory_bytes % 4 ≡ 0
+  pub directory_multiple : fields.directory_bytes % 4 ≡ 0
   pub directory_fits : blocks_for fields.block_size fields.directory_bytes ≤ fields.block_size / 4
   pub block_map_fits : IsOrdinary fields.num_blocks fields.block_map_addr
 

@@ -2,10 +2,10 @@
 
 ghost use Rattle.std.specs.Prelude.{IfOk, OnOk, map, ◌^◌, ◌≡◌, ◌+◌, ◌*◌, ◌<◌, ◌≤◌, ◌∷◌, ◌++◌, length};
 ghost use Rattle.std.specs.List.{range_with_len};
-ghost use Rattle.byte_fields.specs.Number.{word, words};
+ghost use Rattle.byte_fields.specs.Number.{nth_u32, u32s};
 ghost use Rattle.byte_fields.specs.Check.{Makes, checks_below};
 ghost use Rattle.msf_blocks.specs.BlockNumber.{IsBlockSize, numbers};
-ghost use Rattle.msf_blocks.specs.Directory.{map_number, directory_blocks, directory_block_checks, directory_text, bytes_of, stream_blocks, list_start, length_checks, stream_checks};
+ghost use Rattle.msf_blocks.specs.Directory.{map_number, directory_blocks, directory_block_checks, directory_contents, bytes_of, stream_blocks, list_start, length_checks, stream_checks};
 
 use crate::block_number::{blocks_for, is_ordinary, nth_block};
 use crate::fault::MsfFault;
@@ -34,11 +34,11 @@ pub struct Directory<'a> {
 }
 
 impl<'a> Model for Directory<'a> {
-    ghost use Rattle.msf_blocks.specs.Directory.{DirectoryView, IsReadable, directory_text};
+    ghost use Rattle.msf_blocks.specs.Directory.{DirectoryView, IsReadable, directory_contents};
 
     ghost Value = { DirectoryView };
 
-    ghost view = { λ d. record { superblock = d.superblock; text = directory_text d.file.now d.superblock } };
+    ghost view = { λ d. record { superblock = d.superblock; text = directory_contents d.file.now d.superblock } };
 
     ghost invariant = { λ d. IsReadable d.file.now d.superblock };
 }
@@ -76,7 +76,7 @@ impl<'a> Directory<'a> {
     pub fn find(file: &'a [u8], superblock: Superblock) -> Result<Directory<'a>, MsfFault>
         requires { superblock.num_blocks * superblock.block_size ≤ length file.now }
         ensures superblock { IfOk result (λ d. d.superblock ≡ superblock) }
-        ensures text { IfOk result (λ d. d.text ≡ directory_text file.now superblock) }
+        ensures text { IfOk result (λ d. d.text ≡ directory_contents file.now superblock) }
         ensures short { IfOk result (λ d. length d.text < 2 ^ 32) }
         ensures first { Makes result (directory_block_checks file.now superblock) }
     {
@@ -94,10 +94,10 @@ impl<'a> Directory<'a> {
     }
 
     /// The number at a position of the directory. The directory is a list of four-byte numbers.
-    #[tactic(auto, using(crate::proofs::DirectoryLaws::text_length, crate::proofs::DirectoryLaws::word_is, crate::proofs::DirectoryLaws::word_block, crate::proofs::DirectoryLaws::word_fits, crate::proofs::SizeLaws::size_facts))]
-    pub fn word(&self, position: u32) -> u32
+    #[tactic(auto, using(crate::proofs::DirectoryLaws::text_length, crate::proofs::DirectoryLaws::nth_u32_is, crate::proofs::DirectoryLaws::nth_u32_block, crate::proofs::DirectoryLaws::nth_u32_fits, crate::proofs::SizeLaws::size_facts))]
+    pub fn number(&self, position: u32) -> u32
         requires { 4 * position + 4 ≤ length self.now.text }
-        ensures { result ≡ word self.now.text position }
+        ensures { result ≡ nth_u32 self.now.text position }
     {
         let block_size = self.superblock.block_size();
         let offset = 4 * position;
@@ -111,9 +111,9 @@ impl<'a> Directory<'a> {
     pub fn size(&self, stream: u32) -> u32
         requires there { 4 * (1 + stream) + 4 ≤ length self.now.text }
         requires short { length self.now.text < 2 ^ 32 }
-        ensures { result ≡ word self.now.text (1 + stream) }
+        ensures { result ≡ nth_u32 self.now.text (1 + stream) }
     {
-        self.word(1 + stream)
+        self.number(1 + stream)
     }
 
     /// How many blocks a stream has.
@@ -129,23 +129,23 @@ impl<'a> Directory<'a> {
     /// The position after the last list of blocks, computed from the sizes of the streams.
     #[tactic(auto, unfolding(crate::specs::Directory::list_start))]
     fn lists_end(&self, streams: u32) -> u64
-        requires streams { streams ≡ word self.now.text 0 }
+        requires streams { streams ≡ nth_u32 self.now.text 0 }
         requires room { 4 * (1 + streams) ≤ length self.now.text }
         ensures value { result ≡ list_start self.now.superblock.block_size self.now.text streams }
         ensures few { result < 2 ^ 60 }
     {
-        let mut words = 1 + u64::from(streams);
+        let mut end = 1 + u64::from(streams);
         for stream in 0..streams {
-            words += u64::from(self.stream_blocks(stream));
+            end += u64::from(self.stream_blocks(stream));
         }
-        words
+        end
     }
 
     /// Checks that the directory is long enough for everything that it lists, and returns how many
     /// streams it lists.
     #[tactic(auto, unfolding(crate::specs::Directory::length_checks))]
     pub fn check_length(&self) -> Result<u32, MsfFault>
-        ensures streams { IfOk result (λ n. n ≡ word self.now.text 0) }
+        ensures streams { IfOk result (λ n. n ≡ nth_u32 self.now.text 0) }
         ensures room { IfOk result (λ n. 4 * list_start self.now.superblock.block_size self.now.text n ≤ length self.now.text) }
         ensures first { Makes result (length_checks self.now.superblock.block_size self.now.text) }
     {
@@ -153,7 +153,7 @@ impl<'a> Directory<'a> {
         if have < 4 {
             return Err(MsfFault::DirectoryShort { need: 4, have });
         }
-        let streams = self.word(0);
+        let streams = self.number(0);
         let need = 4 + 4 * u64::from(streams);
         if have < need {
             return Err(MsfFault::DirectoryShort { need, have });
@@ -177,7 +177,7 @@ impl<'a> Directory<'a> {
     {
         let num_blocks = self.superblock().num_blocks();
         for at in 0..count {
-            let n = self.word(start + at);
+            let n = self.number(start + at);
             if !is_ordinary(num_blocks, n) {
                 return Err(MsfFault::StreamBlock { stream, at, n });
             }
@@ -188,7 +188,7 @@ impl<'a> Directory<'a> {
     /// Checks the block numbers of all streams. `streams` says how many streams there are.
     #[tactic(auto, unfolding(crate::specs::Directory::list_start))]
     pub fn check_streams(&self, streams: u32) -> Result<(), MsfFault>
-        requires streams { streams ≡ word self.now.text 0 }
+        requires streams { streams ≡ nth_u32 self.now.text 0 }
         requires room { 4 * list_start self.now.superblock.block_size self.now.text streams ≤ length self.now.text }
         requires short { length self.now.text < 2 ^ 32 }
         ensures { Makes result (checks_below streams (stream_checks self.now.superblock self.now.text)) }
@@ -213,20 +213,20 @@ impl<'a> Directory<'a> {
     ) -> Result<Vec<u32, A>, AllocError>
         requires room { 4 * (start + count) ≤ length self.now.text }
         requires short { length self.now.text < 2 ^ 32 }
-        ensures { IfOk result (λ v. v.items ≡ map (λ k. word self.now.text (start + k)) (range_with_len 0 count)) }
+        ensures { IfOk result (λ v. v.items ≡ map (λ k. nth_u32 self.now.text (start + k)) (range_with_len 0 count)) }
     {
         let mut numbers = Vec::with_capacity(alloc, count as usize)?;
         for k in 0..count {
-            numbers.push(self.word(start + k))?;
+            numbers.push(self.number(start + k))?;
         }
         Ok(numbers)
     }
 }
 
 /// Appends numbers in four bytes each.
-#[tactic(auto, using(crate::proofs::WrittenLaws::words_more))]
+#[tactic(auto, using(crate::proofs::WrittenLaws::u32s_more))]
 fn push_numbers<A: Allocator>(bytes: &mut Vec<u8, A>, numbers: &[u32]) -> Result<(), AllocError>
-    ensures { OnOk result (bytes.new.items ≡ bytes.old.items ++ words numbers.now) }
+    ensures { OnOk result (bytes.new.items ≡ bytes.old.items ++ u32s numbers.now) }
 {
     for number in numbers {
         push_u32(bytes, *number)?;
@@ -244,7 +244,7 @@ fn push_blocks<A: Allocator>(
 ) -> Result<(), AllocError>
     requires size { IsBlockSize block_size }
     requires few { first + count < 2 ^ 28 }
-    ensures { OnOk result (bytes.new.items ≡ bytes.old.items ++ words (numbers block_size first count)) }
+    ensures { OnOk result (bytes.new.items ≡ bytes.old.items ++ u32s (numbers block_size first count)) }
 {
     for j in 0..count {
         push_u32(bytes, nth_block(block_size, first + j))?;
@@ -264,7 +264,7 @@ pub fn block_map_bytes<A: Allocator>(
 ) -> Result<Vec<u8, A>, AllocError>
     requires size { IsBlockSize block_size }
     requires few { directory_blocks < 2 ^ 27 }
-    ensures { IfOk result (λ v. v.items ≡ words (numbers block_size 2 directory_blocks)) }
+    ensures { IfOk result (λ v. v.items ≡ u32s (numbers block_size 2 directory_blocks)) }
 {
     let mut bytes = Vec::with_capacity(alloc, 4 * directory_blocks as usize)?;
     push_blocks(&mut bytes, block_size, 2, directory_blocks)?;
@@ -286,7 +286,7 @@ pub fn directory_bytes<A: Allocator>(
     requires size { IsBlockSize block_size }
     requires few { directory_blocks < 2 ^ 26 }
     requires fits { blocks ≤ 5 * 2 ^ 23 }
-    ensures { IfOk result (λ v. v.items ≡ words (5 ∷ sizes.now ++ numbers block_size (2 + directory_blocks) blocks)) }
+    ensures { IfOk result (λ v. v.items ≡ u32s (5 ∷ sizes.now ++ numbers block_size (2 + directory_blocks) blocks)) }
 {
     let mut bytes = Vec::with_capacity(alloc, 4 * (6 + blocks as usize))?;
     push_u32(&mut bytes, 5)?;

@@ -1,10 +1,10 @@
 //! Where the streams of a container are.
 
 ghost use Rattle.std.specs.Prelude.{◌≡◌, ◌≤◌, ◌<◌, ◌*◌, ◌^◌, length, map, IfOk, IfErr, slice_get, option_map};
-ghost use Rattle.byte_fields.specs.Number.{word};
+ghost use Rattle.byte_fields.specs.Number.{nth_u32};
 ghost use Rattle.byte_fields.specs.Check.{Makes, Refuses, first_failing};
 ghost use Rattle.msf_blocks.specs.Superblock.{IsSuperblock, fields_of};
-ghost use Rattle.msf_blocks.specs.Directory.{directory_text, list_start, listed_below, bytes_of};
+ghost use Rattle.msf_blocks.specs.Directory.{directory_contents, list_start, listed_below, bytes_of};
 ghost use Rattle.msf_blocks.specs.Layout.{LayoutView, HasLayout, IsLayout, block_of, layout_checks};
 ghost use Rattle.msf_blocks.specs.Stream.{listed_of};
 
@@ -51,9 +51,9 @@ impl<A: Allocator> Model for Layout<A> {
 fn check(file: &[u8]) -> Result<(Directory<'_>, u32), MsfFault>
     ensures found { IfOk result (λ r. IsSuperblock file.now r.0.superblock) }
     ensures fields { IfOk result (λ r. r.0.superblock ≡ fields_of file.now) }
-    ensures text { IfOk result (λ r. r.0.text ≡ directory_text file.now r.0.superblock) }
+    ensures text { IfOk result (λ r. r.0.text ≡ directory_contents file.now r.0.superblock) }
     ensures short { IfOk result (λ r. length r.0.text < 2 ^ 32) }
-    ensures streams { IfOk result (λ r. r.1 ≡ word r.0.text 0) }
+    ensures streams { IfOk result (λ r. r.1 ≡ nth_u32 r.0.text 0) }
     ensures room { IfOk result (λ r. 4 * list_start r.0.superblock.block_size r.0.text r.1 ≤ length r.0.text) }
     ensures first { Makes result (layout_checks file.now) }
 {
@@ -71,7 +71,7 @@ fn listed<A: Allocator + Copy>(
     directory: &Directory<'_>,
     streams: u32,
 ) -> Result<Vec<Stream<A>, A>, MsfFault>
-    requires streams { streams ≡ word directory.now.text 0 }
+    requires streams { streams ≡ nth_u32 directory.now.text 0 }
     requires room { 4 * list_start directory.now.superblock.block_size directory.now.text streams ≤ length directory.now.text }
     requires short { length directory.now.text < 2 ^ 32 }
     ensures value { IfOk result (λ v. map listed_of v.items ≡ listed_below directory.now.superblock.block_size directory.now.text streams) }

@@ -2,7 +2,7 @@
 
 ghost use Rattle.std.specs.Prelude.{◌≡◌, ◌*◌, ◌/◌, ◌%◌, ◌≤◌, ◌⊎◌, ◌≢◌, [], ◌∷◌, ◌++◌, length, IfOk, IfErr, IsOk};
 ghost use Rattle.byte_fields.specs.Check.{Makes};
-ghost use Rattle.byte_fields.specs.Number.{words};
+ghost use Rattle.byte_fields.specs.Number.{u32s};
 ghost use Rattle.msf_blocks.specs.BlockNumber.{IsBlockSize, IsOrdinary, blocks_for};
 ghost use Rattle.msf_blocks.specs.Superblock.{Fields, IsSuperblock, fields_of, magic, superblock_checks};
 
@@ -168,7 +168,7 @@ impl Superblock {
     /// The length of the stream directory, in bytes.
     pub fn directory_bytes(&self) -> u32
         ensures value { result ≡ self.now.directory_bytes }
-        ensures words { result % 4 ≡ 0 }
+        ensures multiple { result % 4 ≡ 0 }
         ensures fits { blocks_for self.now.block_size result ≤ self.now.block_size / 4 }
     {
         self.directory_bytes
@@ -201,7 +201,7 @@ pub fn superblock_bytes(
     directory_bytes: u32,
     block_map_addr: u32,
 ) -> [u8; LENGTH]
-    ensures { result ≡ magic ++ words (block_size ∷ 1 ∷ num_blocks ∷ directory_bytes ∷ 0 ∷ block_map_addr ∷ []) }
+    ensures { result ≡ magic ++ u32s (block_size ∷ 1 ∷ num_blocks ∷ directory_bytes ∷ 0 ∷ block_map_addr ∷ []) }
 {
     let mut bytes = [0; LENGTH];
     bytes[..BLOCK_SIZE].copy_from_slice(&MAGIC);

@@ -9,11 +9,11 @@ use Rattle.std.proofs.lemmas.List.{append-nil, length-append, drop_at, take_at, 
 use Rattle.std.proofs.lemmas.List.FromFn.{length-map-range_with_len, get_or-map-range_with_len}
 use Rattle.std.proofs.lemmas.List.Sums.{sum_by-cons, sum_by-append}
 use Rattle.std.proofs.lemmas.List.Elements.{All-nil, All-cons, All-head, All-tail, All-from_get_or}
-use Rattle.byte_fields.specs.Number.{number_at, word, words}
-use Rattle.byte_fields.proofs.NumberLaws.{word-words, length-words}
+use Rattle.byte_fields.specs.Number.{number_at, nth_u32, u32s}
+use Rattle.byte_fields.proofs.NumberLaws.{nth_u32-u32s, length-u32s}
 use Rattle.msf_blocks.specs.BlockNumber.{IsBlockSize, IsOrdinary, blocks_for, nth_block}
 use Rattle.msf_blocks.specs.Superblock.{Fields, IsSuperblock, magic}
-use Rattle.msf_blocks.specs.Directory.{IsListed, IsDirectory, directory_text, map_number, bytes_of}
+use Rattle.msf_blocks.specs.Directory.{IsListed, IsDirectory, directory_contents, map_number, bytes_of}
 use Rattle.msf_blocks.proofs.BlockLaws.{nth_zero, nth_ge}
 use Rattle.msf_blocks.proofs.SizeLaws.{size_facts, big_enough, next_row, ceil_ge, place_below}
 use Rattle.msf_streams.specs.Stream.{gathered, text_of}
@@ -24,12 +24,12 @@ use Rattle.msf_streams.proofs.PieceLaws.{gathered_first, at_most_one_for}
 use Rattle.msf_streams.proofs.ImageLaws.{part_back, image_long, length_parts, nth_below}
 
 -- one of several numbers that are next to each other
-word_in : (x ns : List ℕ) (at len k : ℕ) → take len (drop at x) ≡ words ns → k < length ns → get_or ns k 0 < 2 ^ 32 → number_at 4 x (at + 4 * k) ≡ get_or ns k 0
-unfolding number_at word
+word_in : (x ns : List ℕ) (at len k : ℕ) → take len (drop at x) ≡ u32s ns → k < length ns → get_or ns k 0 < 2 ^ 32 → number_at 4 x (at + 4 * k) ≡ get_or ns k 0
+unfolding number_at nth_u32
 word_in x ns at len k e lt small =
-    let whole : drop at x ≡ words ns ++ drop len (drop at x) = sym (take-append-drop len (drop at x)) ∙ rw e refl in
-    let cut : drop (at + 4 * k) x ≡ drop (4 * k) (words ns ++ drop len (drop at x)) = sym (drop-drop (4 * k) at x) ∙ ap (drop (4 * k)) whole in
-    rw cut (word-words ns (drop len (drop at x)) k lt small)
+    let whole : drop at x ≡ u32s ns ++ drop len (drop at x) = sym (take-append-drop len (drop at x)) ∙ rw e refl in
+    let cut : drop (at + 4 * k) x ≡ drop (4 * k) (u32s ns ++ drop len (drop at x)) = sym (drop-drop (4 * k) at x) ∙ ap (drop (4 * k)) whole in
+    rw cut (nth_u32-u32s ns (drop len (drop at x)) k lt small)
 
 -- ---- streams on consecutive data blocks
 
@@ -89,17 +89,17 @@ pub length_superblock : (b : ℕ) (sizes : List ℕ) → length (superblock_part
 unfolding superblock_part
 length_superblock b sizes =
     let ns = superblock_numbers b sizes in
-    omega (arith, length-append magic (words ns), length-words ns)
+    omega (arith, length-append magic (u32s ns), length-u32s ns)
 
 pub length_block_map : (b : ℕ) (sizes : List ℕ) → length (block_map_part b sizes) ≡ 4 * directory_count b sizes
 unfolding block_map_part
-length_block_map b sizes = omega (arith, length-words (numbers b 2 (directory_count b sizes)), length-map-range_with_len (nth_block b) 2 (directory_count b sizes))
+length_block_map b sizes = omega (arith, length-u32s (numbers b 2 (directory_count b sizes)), length-map-range_with_len (nth_block b) 2 (directory_count b sizes))
 
 pub length_directory : (b : ℕ) (sizes : List ℕ) → length (directory_part b sizes) ≡ directory_len b sizes
 unfolding directory_part
 length_directory b sizes =
     let ns = numbers b (2 + directory_count b sizes) (blocks_of_all b sizes) in
-    omega (arith, length-words (length sizes ∷ sizes ++ ns), length-append sizes ns, length-map-range_with_len (nth_block b) (2 + directory_count b sizes) (blocks_of_all b sizes))
+    omega (arith, length-u32s (length sizes ∷ sizes ++ ns), length-append sizes ns, length-map-range_with_len (nth_block b) (2 + directory_count b sizes) (blocks_of_all b sizes))
 
 pub front_blocks : (b : ℕ) (ts : List (List ℕ)) → IsBlockSize b → Fits b (map length ts)
     → (blocks_for b (length (superblock_part b (map length ts))) ≡ 1) × (blocks_for b (length (block_map_part b (map length ts))) ≡ 1) × (blocks_for b (length (directory_part b (map length ts))) ≡ directory_count b (map length ts))
@@ -156,7 +156,7 @@ head b ts size fits =
 
 -- the block map of an image
 pub map_here : (b : ℕ) (ts : List (List ℕ)) → IsBlockSize b → Fits b (map length ts)
-    → take (4 * directory_count b (map length ts)) (drop (nth_block b 1 * b) (image b ts)) ≡ words (numbers b 2 (directory_count b (map length ts)))
+    → take (4 * directory_count b (map length ts)) (drop (nth_block b 1 * b) (image b ts)) ≡ u32s (numbers b 2 (directory_count b (map length ts)))
 unfolding parts block_map_part
 map_here b ts size fits =
     let sizes = map length ts in
@@ -215,7 +215,7 @@ number_here b ts k size fits lt small =
     let sizes = map length ts in
     let ns = superblock_numbers b sizes in
     let x = image b ts in
-    let first : take 24 (drop 32 x) ≡ words ns = sym (drop-take 32 24 x) ∙ ap (drop 32) (head b ts size fits) ∙ drop_at magic (words ns) 32 refl in
+    let first : take 24 (drop 32 x) ≡ u32s ns = sym (drop-take 32 24 x) ∙ ap (drop 32) (head b ts size fits) ∙ drop_at magic (u32s ns) 32 refl in
     word_in x ns 32 24 k first lt small
 
 pub super_back : (b : ℕ) (ts : List (List ℕ)) → IsBlockSize b → Fits b (map length ts) → IsSuperblock (image b ts) (image_fields b (map length ts))
@@ -233,7 +233,7 @@ super_back b ts size fits =
     let ns = superblock_numbers b sizes in
     record {
       long = omega (arith, whole, one, facts.least);
-      magical = sym (take-take 32 56 x (omega arith)) ∙ ap (take 32) (head b ts size fits) ∙ take_at magic (words ns) 32 refl;
+      magical = sym (take-take 32 56 x (omega arith)) ∙ ap (take 32) (head b ts size fits) ∙ take_at magic (u32s ns) 32 refl;
       block_size_is = number_here b ts 0 size fits (omega arith) (omega (arith, one, fits.short));
       free_map_block_is = number_here b ts 1 size fits (omega arith) (omega arith);
       num_blocks_is = number_here b ts 2 size fits (omega arith) (omega (arith, h.0));
@@ -244,7 +244,7 @@ super_back b ts size fits =
       fit = record {
         block_size_fits = size;
         free_map_block_fits = inl refl;
-        directory_words = omega arith;
+        directory_multiple = omega arith;
         directory_fits = fits.directory;
         block_map_fits = (omega (arith, nth_ge b 1 big), first);
       };
@@ -264,7 +264,7 @@ map_number_back b ts k size fits lt =
     word_in x ns (nth_block b 1 * b) (4 * directory_count b sizes) k (map_here b ts size fits) (omega (arith, lt, length-map-range_with_len (nth_block b) 2 (directory_count b sizes))) (omega (arith, at, below, h.0)) ∙ at
 
 pub dir_back : (b : ℕ) (ts : List (List ℕ)) → IsBlockSize b → Fits b (map length ts) → IsDirectory (image b ts) (image_fields b (map length ts)) (directory_part b (map length ts))
-unfolding gathered directory_text
+unfolding gathered directory_contents
 dir_back b ts size fits =
     let sizes = map length ts in
     let x = image b ts in
@@ -287,7 +287,7 @@ dir_back b ts size fits =
     }
 
 listed_parts : (b : ℕ) (sizes : List ℕ) → let streams = listed_from b (2 + directory_count b sizes) sizes in
-    directory_part b sizes ≡ words (length streams ∷ map (λ s. s.size) streams ++ flat_map (λ s. s.blocks) streams) ++ []
+    directory_part b sizes ≡ u32s (length streams ∷ map (λ s. s.size) streams ++ flat_map (λ s. s.blocks) streams) ++ []
 unfolding directory_part
 listed_parts b sizes =
     let f = 2 + directory_count b sizes in

@@ -6,16 +6,16 @@ use Rattle.std.proofs.lemmas.Nat.{pow_pos}
 use Rattle.std.proofs.lemmas.Bool.{cases_Bool}
 use Rattle.std.proofs.lemmas.Bool.Decides.{nat_tests}
 use Rattle.byte_fields.specs.Bytes.{AreBytes}
-use Rattle.byte_fields.proofs.BytesLaws.{bytes_append, bytes_take, bytes_drop, words_are_bytes}
-use Rattle.byte_fields.specs.Number.{words}
+use Rattle.byte_fields.proofs.BytesLaws.{bytes_append, bytes_take, bytes_drop, u32s_are_bytes}
+use Rattle.byte_fields.specs.Number.{u32s}
 use Rattle.msf_blocks.specs.BlockNumber.{is_map_block, blocks_for, data_blocks}
 use Rattle.msf_blocks.specs.Superblock.{magic}
 use Rattle.msf_blocks.specs.Directory.{Listed, bytes_of}
 use Rattle.msf_blocks.specs.Layout.{LayoutView}
-use Rattle.msf_streams.specs.Stream.{gathered, text_of, stream_text}
+use Rattle.msf_streams.specs.Stream.{gathered, text_of, stream_contents}
 use Rattle.msf_blocks.specs.FreeMap.{map_byte, map_block}
 use Rattle.msf_blocks.specs.BlockNumber.{numbers}
-use Rattle.msf_streams.specs.Image.{filled, text_block, image_block, laid_out, superblock_numbers, superblock_part, block_map_part, directory_part, directory_count, blocks_of_all, parts, image, image_blocks}
+use Rattle.msf_streams.specs.Image.{filled, data_block, image_block, laid_out, superblock_numbers, superblock_part, block_map_part, directory_part, directory_count, blocks_of_all, parts, image, image_blocks}
 use lib.ListN.{replicate}
 
 -- ---- lists of bytes
@@ -59,7 +59,7 @@ map_are_bytes b n k = elim (cases_Bool (nat_eq (k % b) 1)) [
 ]
 
 block_is_bytes : (b n : ℕ) (text : List ℕ) (k : ℕ) → AreBytes text → AreBytes (image_block b n text k)
-unfolding image_block text_block
+unfolding image_block data_block
 block_is_bytes b n text k each = elim (cases_Bool (is_map_block b k)) [
   | inl one ↦ rw one (map_are_bytes b n k)
   | inr other ↦ rw other (bytes_take b (drop (length (data_blocks b k) * b) text) (bytes_drop (length (data_blocks b k) * b) text each))
@@ -81,15 +81,15 @@ all_are_bytes b (p ∷ ps) each = bytes_append (filled b p) (flat_map (filled b)
 
 superblock_is_bytes : (b : ℕ) (sizes : List ℕ) → AreBytes (superblock_part b sizes)
 unfolding superblock_part
-superblock_is_bytes b sizes = bytes_append magic (words (superblock_numbers b sizes)) (bytes_tested magic refl) (words_are_bytes (superblock_numbers b sizes))
+superblock_is_bytes b sizes = bytes_append magic (u32s (superblock_numbers b sizes)) (bytes_tested magic refl) (u32s_are_bytes (superblock_numbers b sizes))
 
 block_map_is_bytes : (b : ℕ) (sizes : List ℕ) → AreBytes (block_map_part b sizes)
 unfolding block_map_part
-block_map_is_bytes b sizes = words_are_bytes (numbers b 2 (directory_count b sizes))
+block_map_is_bytes b sizes = u32s_are_bytes (numbers b 2 (directory_count b sizes))
 
 directory_is_bytes : (b : ℕ) (sizes : List ℕ) → AreBytes (directory_part b sizes)
 unfolding directory_part
-directory_is_bytes b sizes = words_are_bytes (length sizes ∷ sizes ++ numbers b (2 + directory_count b sizes) (blocks_of_all b sizes))
+directory_is_bytes b sizes = u32s_are_bytes (length sizes ∷ sizes ++ numbers b (2 + directory_count b sizes) (blocks_of_all b sizes))
 
 -- the image of streams of bytes is made of bytes
 pub image_is_bytes : (b : ℕ) (texts : List (List ℕ)) → AllByRecursion AreBytes texts → AreBytes (image b texts)
@@ -114,5 +114,5 @@ some_are_bytes file b (Some stream) text each e =
     rw (← is) (gathered_are_bytes file b stream.blocks (bytes_of stream.size) each)
 
 -- each stream of a file of bytes is made of bytes
-pub stream_is_bytes : (file : List ℕ) (layout : LayoutView) (s : ℕ) (text : List ℕ) → AreBytes file → stream_text file layout s ≡ Some text → AreBytes text
+pub stream_is_bytes : (file : List ℕ) (layout : LayoutView) (s : ℕ) (text : List ℕ) → AreBytes file → stream_contents file layout s ≡ Some text → AreBytes text
 stream_is_bytes file layout s text each e = some_are_bytes file layout.superblock.block_size (slice_get layout.streams s) text each e

@@ -12,7 +12,7 @@ use Rattle.msf_blocks.proofs.BlockLaws.{rank_is, nth_is_data, nth_onto, nth_mono
 use Rattle.msf_blocks.proofs.SizeLaws.{size_facts, big_enough, ceil_ge, place_below}
 use Rattle.msf_streams.specs.Stream.{gathered}
 use Rattle.msf_blocks.specs.FreeMap.{map_block, map_byte}
-use Rattle.msf_streams.specs.Image.{filled, text_block, image_block, laid_out, blocks_of_all, directory_len, directory_count, data_count}
+use Rattle.msf_streams.specs.Image.{filled, data_block, image_block, laid_out, blocks_of_all, directory_len, directory_count, data_count}
 use Rattle.msf_streams.proofs.RangeLaws.{map-same_ranges, part_by_places}
 use lib.ListN.{replicate}
 
@@ -49,9 +49,9 @@ length_map_block b n k = elim (cases_Bool (nat_eq (k % b) 1)) [
   | inr other ↦ rw other (length-replicate b 255)
 ]
 
-pub length_text_block : (b j : ℕ) (t : List ℕ) → (j + 1) * b ≤ length t → length (text_block b t j) ≡ b
-unfolding text_block
-length_text_block b j t fits = omega (arith, length-take b (drop (j * b) t), length-drop (j * b) t)
+pub length_data_block : (b j : ℕ) (t : List ℕ) → (j + 1) * b ≤ length t → length (data_block b t j) ≡ b
+unfolding data_block
+length_data_block b j t fits = omega (arith, length-take b (drop (j * b) t), length-drop (j * b) t)
 
 -- each data block before the end of the file has a block of the data
 pub rank_below : (b m k : ℕ) → 3 < b → is_map_block b k ≡ false → k < nth_block b m + 1 → length (data_blocks b k) < m + 1
@@ -70,7 +70,7 @@ length_image_block b m k t big long lt = elim (cases_Bool (is_map_block b k)) [
   | inr other ↦
       let r = rank_below b m k big other lt in
       let f = mul-le (length (data_blocks b k) + 1) b (m + 1) b (omega (arith, r)) (omega arith) in
-      rw other (length_text_block b (length (data_blocks b k)) t (omega (arith, f, long)))
+      rw other (length_data_block b (length (data_blocks b k)) t (omega (arith, f, long)))
 ]
 
 pub nth_below : (b m j : ℕ) → 3 < b → j < m + 1 → nth_block b j < nth_block b m + 1
@@ -82,7 +82,7 @@ nth_below b m j big lt = elim (cases_lt j m) [
 -- data block j of an image is block j of the data
 pub image_at : (b m j i : ℕ) (t : List ℕ) → 3 < b → length t ≡ (m + 1) * b → j < m + 1 → i < b
     → get_or (laid_out b (nth_block b m + 1) t) (nth_block b j * b + i) 0 ≡ get_or t (j * b + i) 0
-unfolding laid_out image_block text_block
+unfolding laid_out image_block data_block
 image_at b m j i t big long lt in' =
     let n = nth_block b m + 1 in
     let below : nth_block b j < n = nth_below b m j big lt in

@@ -13,7 +13,7 @@ use Rattle.msf_blocks.proofs.SizeLaws.{some_bytes, few_for}
 use Rattle.msf_blocks.specs.Superblock.{Fields}
 use Rattle.msf_blocks.specs.Directory.{Listed, IsListed, bytes_of}
 use Rattle.msf_blocks.specs.Layout.{LayoutView, IsLayout, block_in, block_of}
-use Rattle.msf_streams.specs.Stream.{gathered, pieces, blocks_in, pieces_from, stream_pieces, stream_text}
+use Rattle.msf_streams.specs.Stream.{gathered, pieces, blocks_in, pieces_from, stream_pieces, stream_contents}
 use Rattle.msf_streams.proofs.RangeLaws.{map-range_with_len_parts, map-same_ranges, part_by_places, next_block, first_block}
 
 -- ---- how many blocks some bytes need
@@ -185,7 +185,7 @@ blocks_fit file fields stream whole fits = All-from_get_or (IsWhole file fields.
 
 -- the joined pieces of a stream are its contents
 pub pieces_text : (file : List ℕ) (layout : LayoutView) (s : ℕ) (found : Option (List (List ℕ))) → IsLayout layout
-    → layout.superblock.num_blocks * layout.superblock.block_size ≤ length file → found ≡ stream_pieces file layout s → IfSome found (λ p. stream_text file layout s ≡ Some (concat p))
+    → layout.superblock.num_blocks * layout.superblock.block_size ≤ length file → found ≡ stream_pieces file layout s → IfSome found (λ p. stream_contents file layout s ≡ Some (concat p))
 pieces_text file layout s found holds whole e = elim (cases_lt s (length layout.streams)) [
   | inl below ↦
       let stream = get_or layout.streams s no_stream in

@@ -10,8 +10,8 @@ use Rattle.msf_blocks.specs.BlockNumber.{IsBlockSize, is_map_block, nth_block}
 use Rattle.msf_blocks.proofs.SizeLaws.{size_facts, big_enough}
 use Rattle.msf_blocks.proofs.BlockLaws.{nth_first, nth_other, nth_zero, nth_is_data, map_at, rank_is, range_more}
 use Rattle.msf_blocks.specs.FreeMap.{map_block}
-use Rattle.msf_streams.specs.Image.{filled, text_block, image_block, laid_out, parts, image, image_blocks, data_count, Fits}
-use Rattle.msf_streams.specs.Woven.{stretch, is_behind_maps, maps_of, maps_before, woven, room}
+use Rattle.msf_streams.specs.Image.{filled, data_block, image_block, laid_out, parts, image, image_blocks, data_count, Fits}
+use Rattle.msf_streams.specs.Woven.{stretch, follows_maps, maps_of, maps_before, woven, room}
 use Rattle.msf_streams.proofs.ImageLaws.{length_parts}
 use Rattle.msf_streams.proofs.BackLaws.{all_blocks, image_is}
 
@@ -35,10 +35,10 @@ room_late : (b p : ℕ) → b ≤ p → room b p ≡ stretch b - (p - b) % stret
 unfolding room
 room_late b p le = let e : nat_lt p b ≡ false = grind (arith, nat_tests) in rw e refl
 
-behind_early : (b p : ℕ) → p < b → is_behind_maps b p ≡ false
+behind_early : (b p : ℕ) → p < b → follows_maps b p ≡ false
 behind_early b p lt = let e : nat_le b p ≡ false = grind (arith, nat_tests) in rw e refl
 
-behind_late : (b p : ℕ) → b ≤ p → 0 < (p - b) % stretch b → is_behind_maps b p ≡ false
+behind_late : (b p : ℕ) → b ≤ p → 0 < (p - b) % stretch b → follows_maps b p ≡ false
 behind_late b p le more =
     let e : nat_le b p ≡ true = grind (arith, nat_tests) in
     let f : nat_eq ((p - b) % stretch b) 0 ≡ false = grind (arith, nat_tests) in
@@ -52,7 +52,7 @@ some_room b p long = elim (cases_lt p b) [
 ]
 
 -- one byte further, if there are at least two bytes before the next map blocks
-next_room : (b p : ℕ) → 0 < b → 0 < stretch b → 1 < room b p → (is_behind_maps b (p + 1) ≡ false) × (room b (p + 1) + 1 ≡ room b p)
+next_room : (b p : ℕ) → 0 < b → 0 < stretch b → 1 < room b p → (follows_maps b (p + 1) ≡ false) × (room b (p + 1) + 1 ≡ room b p)
 next_room b p some long more = elim (cases_lt p b) [
   | inl lt ↦
       let next : p + 1 < b = omega (arith, room_early b p lt) in
@@ -67,7 +67,7 @@ next_room b p some long more = elim (cases_lt p b) [
 ]
 
 -- bytes without map blocks before or between them
-plain : (b n p : ℕ) (text : List ℕ) → 0 < b → 0 < stretch b → is_behind_maps b p ≡ false → length text ≤ room b p → woven b n p text ≡ text
+plain : (b n p : ℕ) (text : List ℕ) → 0 < b → 0 < stretch b → follows_maps b p ≡ false → length text ≤ room b p → woven b n p text ≡ text
 unfolding woven maps_before
 plain b n p [] some long first fits = refl
 plain b n p (byte ∷ []) some long first fits = rw first refl
@@ -165,7 +165,7 @@ three_more f k =
     let second : flat_map f (range_with_len 0 (k + 2)) ≡ flat_map f (range_with_len 0 (k + 1)) ++ f (k + 1) = rw one (blocks_more f (k + 1)) in
     blocks_more f (k + 3) ∙ rw (third, second) (simp append_assoc)
 
-data_here : (b n j : ℕ) (text : List ℕ) → 3 < b → image_block b n text (nth_block b j) ≡ text_block b text j
+data_here : (b n j : ℕ) (text : List ℕ) → 3 < b → image_block b n text (nth_block b j) ≡ data_block b text j
 unfolding image_block
 data_here b n j text big = rw (nth_is_data b j big, rank_is b j big) refl
 
@@ -180,8 +180,8 @@ take_more m n text =
 
 -- the next block of the data
 one_more : (b n j : ℕ) (text : List ℕ) → 3 < b → (j + 2) * b ≤ length text
-    → woven b n 0 (take ((j + 2) * b) text) ≡ woven b n 0 (take ((j + 1) * b) text) ++ (maps_before b n ((j + 1) * b) ++ text_block b text (j + 1))
-unfolding text_block
+    → woven b n 0 (take ((j + 2) * b) text) ≡ woven b n 0 (take ((j + 1) * b) text) ++ (maps_before b n ((j + 1) * b) ++ data_block b text (j + 1))
+unfolding data_block
 one_more b n j text big long =
     let split : (j + 2) * b ≡ (j + 1) * b + b = omega arith in
     let front : length (take ((j + 1) * b) text) ≡ (j + 1) * b = omega (arith, length-take ((j + 1) * b) text) in
@@ -191,7 +191,7 @@ one_more b n j text big long =
     rw split (ap (woven b n 0) (take_more ((j + 1) * b) b text) ∙ woven_parts b n 0 (take ((j + 1) * b) text) (take b (drop ((j + 1) * b) text)) ∙ rw (at, run) refl)
 
 first_block : (b n : ℕ) (text : List ℕ) → 3 < b → b ≤ length text → flat_map (image_block b n text) (range_with_len 0 (nth_block b 0 + 1)) ≡ woven b n 0 (take ((0 + 1) * b) text)
-unfolding text_block
+unfolding data_block
 first_block b n text big long =
     let zeroth = nth_zero b big in
     let here : image_block b n text 0 ≡ take b (drop (0 * b) text) = rw zeroth at (data_here b n 0 text big) in
@@ -215,7 +215,7 @@ woven_blocks b n (suc j) text big long =
           blocks_more f (nth_block b (j + 1)) ∙ rw (here, beside.0, before) (sym (one_more b n j text big (omega arith) ∙ rw beside.1 refl))
       | inr behind ↦
           let k = behind.0 * b in
-          let last : f (k + 3) ≡ text_block b text (j + 1) = rw behind.2 at here in
+          let last : f (k + 3) ≡ data_block b text (j + 1) = rw behind.2 at here in
           let map_1 : f (k + 1) ≡ map_block b n (k + 1) = map_here b n (k + 1) text (map_at b behind.0 1 (omega arith) (inl refl)) in
           let map_2 : f (k + 2) ≡ map_block b n (k + 2) = map_here b n (k + 2) text (map_at b behind.0 2 (omega arith) (inr refl)) in
           let so_far : flat_map f (range_with_len 0 (k + 1)) ≡ woven b n 0 (take ((j + 1) * b) text) = rw behind.1 at before in

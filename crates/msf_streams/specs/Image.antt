@@ -1,13 +1,13 @@
 -- The image of streams: the file that is written to hold just these streams ("The MSF File Format").
 use Rattle.std.specs.Prelude.{ℕ, ◌≡◌, ◌+◌, ◌-◌, ◌*◌, ◌/◌, ◌^◌, ◌<◌, ◌≤◌, if◌then◌else◌, All, List, [], ◌∷◌, ◌++◌, length, map, take, drop, slice_get}
 use Rattle.std.specs.List.{range_with_len, flat_map, sum_by}
-use Rattle.byte_fields.specs.Number.{words}
+use Rattle.byte_fields.specs.Number.{u32s}
 use Rattle.msf_blocks.specs.BlockNumber.{blocks_for, is_map_block, nth_block, data_blocks, numbers}
 use Rattle.msf_blocks.specs.FreeMap.{map_block}
 use Rattle.msf_blocks.specs.Superblock.{Fields, magic}
 use Rattle.msf_blocks.specs.Directory.{Listed}
 use Rattle.msf_blocks.specs.Layout.{LayoutView, HasLayout}
-use Rattle.msf_streams.specs.Stream.{stream_text}
+use Rattle.msf_streams.specs.Stream.{stream_contents}
 use Rattle.std.specs.Borrow.{Bor}
 use lib.ListN.{replicate}
 
@@ -18,13 +18,13 @@ unfoldable pub filled : ℕ → List ℕ → List ℕ
 filled block_size part = part ++ replicate (blocks_for block_size (length part) * block_size - length part) 0
 
 -- block j of the data, from 0
-unfoldable pub text_block : ℕ → List ℕ → ℕ → List ℕ
-text_block block_size text j = take block_size (drop (j * block_size) text)
+unfoldable pub data_block : ℕ → List ℕ → ℕ → List ℕ
+data_block block_size text j = take block_size (drop (j * block_size) text)
 
 -- block k of the file: a map block, or the next block of the data
 unfoldable pub image_block : ℕ → ℕ → List ℕ → ℕ → List ℕ
 image_block block_size num_blocks text k =
-    if is_map_block block_size k then map_block block_size num_blocks k else text_block block_size text (length (data_blocks block_size k))
+    if is_map_block block_size k then map_block block_size num_blocks k else data_block block_size text (length (data_blocks block_size k))
 
 -- the file whose data blocks hold this data in rising order, with the map blocks between them
 unfoldable pub laid_out : ℕ → ℕ → List ℕ → List ℕ
@@ -63,16 +63,16 @@ superblock_numbers block_size sizes =
 
 -- the superblock: map 1 is the free block map in force, and the next data block is the block map
 unfoldable pub superblock_part : ℕ → List ℕ → List ℕ
-superblock_part block_size sizes = magic ++ words (superblock_numbers block_size sizes)
+superblock_part block_size sizes = magic ++ u32s (superblock_numbers block_size sizes)
 
 -- the block map: the numbers of the blocks of the directory
 unfoldable pub block_map_part : ℕ → List ℕ → List ℕ
-block_map_part block_size sizes = words (numbers block_size 2 (directory_count block_size sizes))
+block_map_part block_size sizes = u32s (numbers block_size 2 (directory_count block_size sizes))
 
 -- the directory: the number of streams, their sizes, and the numbers of their blocks; the streams are in consecutive data blocks
 unfoldable pub directory_part : ℕ → List ℕ → List ℕ
 directory_part block_size sizes =
-    words (length sizes ∷ sizes ++ numbers block_size (2 + directory_count block_size sizes) (blocks_of_all block_size sizes))
+    u32s (length sizes ∷ sizes ++ numbers block_size (2 + directory_count block_size sizes) (blocks_of_all block_size sizes))
 
 -- the parts of the file that holds these streams
 unfoldable pub parts : ℕ → List (List ℕ) → List (List ℕ)
@@ -136,4 +136,4 @@ image_layout block_size sizes = record {
 pub record ReadsBack (block_size : ℕ) (texts : List (List ℕ)) : Type 0 where
   pub long : length (image block_size texts) ≡ image_length block_size (map length texts)
   pub layout : HasLayout (image block_size texts) (image_layout block_size (map length texts))
-  pub streams : (s : ℕ) → stream_text (image block_size texts) (image_layout block_size (map length texts)) s ≡ slice_get texts s
+  pub streams : (s : ℕ) → stream_contents (image block_size texts) (image_layout block_size (map length texts)) s ≡ slice_get texts s

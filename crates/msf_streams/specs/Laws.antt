@@ -5,7 +5,7 @@ use Rattle.byte_fields.specs.Bytes.{AreBytes}
 use Rattle.msf_blocks.specs.BlockNumber.{IsBlockSize}
 use Rattle.msf_blocks.specs.Layout.{LayoutView}
 use Rattle.msf_streams.specs.Image.{Fits, ReadsBack, blocks_of_all, image}
-use Rattle.msf_streams.specs.Stream.{stream_text}
+use Rattle.msf_streams.specs.Stream.{stream_contents}
 
 -- the image of streams that fit reads back
 abbrev pub ImagesReadBack : Type 0
@@ -23,4 +23,4 @@ ImagesAreBytes = (block_size : ℕ) (texts : List (List ℕ)) → IsBlockSize bl
 
 -- each stream of a file of bytes is made of bytes
 abbrev pub StreamsAreBytes : Type 0
-StreamsAreBytes = (file : List ℕ) (layout : LayoutView) (s : ℕ) (text : List ℕ) → AreBytes file → stream_text file layout s ≡ Some text → AreBytes text
+StreamsAreBytes = (file : List ℕ) (layout : LayoutView) (s : ℕ) (text : List ℕ) → AreBytes file → stream_contents file layout s ≡ Some text → AreBytes text

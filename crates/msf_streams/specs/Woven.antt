@@ -9,8 +9,8 @@ unfoldable pub stretch : ℕ → ℕ
 stretch block_size = block_size * (block_size - 2)
 
 -- two map blocks come right before byte p of the data: it is the first byte of a stretch, and the first stretch begins after one block
-abbrev pub is_behind_maps : ℕ → ℕ → Bool
-is_behind_maps block_size p = nat_le block_size p && (p - block_size) % stretch block_size == 0
+abbrev pub follows_maps : ℕ → ℕ → Bool
+follows_maps block_size p = nat_le block_size p && (p - block_size) % stretch block_size == 0
 
 -- the two map blocks of interval q
 abbrev pub maps_of : ℕ → ℕ → ℕ → List ℕ
@@ -19,7 +19,7 @@ maps_of block_size num_blocks q = map_block block_size num_blocks (q * block_siz
 -- the map blocks right before byte p of the data, if there are any
 unfoldable pub maps_before : ℕ → ℕ → ℕ → List ℕ
 maps_before block_size num_blocks p =
-    if is_behind_maps block_size p then maps_of block_size num_blocks ((p - block_size) / stretch block_size) else []
+    if follows_maps block_size p then maps_of block_size num_blocks ((p - block_size) / stretch block_size) else []
 
 -- the data from byte p on, with the map blocks that come before its bytes
 unfoldable pub woven : ℕ → ℕ → ℕ → List ℕ → List ℕ

@@ -17,7 +17,7 @@ ghost use Rattle.std.specs.Iterator.{YieldsFirstRef, item_count};
 ghost use Rattle.msf_blocks.specs.BlockNumber.{blocks_for};
 ghost use Rattle.msf_blocks.specs.Directory.{bytes_of};
 ghost use Rattle.msf_blocks.specs.Layout.{IsLayout};
-ghost use Rattle.msf_streams.specs.Stream.{stream_pieces, stream_text, pieces_from};
+ghost use Rattle.msf_streams.specs.Stream.{stream_pieces, stream_contents, pieces_from};
 
 use crate::fault::StreamFault;
 use msf_blocks::Layout;
@@ -38,7 +38,7 @@ pub fn pieces<'a, A: Allocator>(
 ) -> Option<StreamPieces<'a, A>>
     requires { layout.now.superblock.num_blocks * layout.now.superblock.block_size ≤ length file.now }
     ensures value { result ≡ stream_pieces file.now layout.now s }
-    ensures text { IfSome result (λ p. stream_text file.now layout.now s ≡ Some (concat p)) }
+    ensures text { IfSome result (λ p. stream_contents file.now layout.now s ≡ Some (concat p)) }
     ensures count { IfSome result (λ p. IfSome (slice_get layout.now.streams s) (λ stream.
         length p ≡ blocks_for layout.now.superblock.block_size (bytes_of stream.size))) }
     ensures none { IsNone result ↔ (length layout.now.streams ≤ s) }
@@ -63,7 +63,7 @@ pub fn gather<A: Allocator + Copy, L: Allocator>(
     s: u32,
 ) -> Result<Vec<u8, A>, StreamFault>
     requires { layout.now.superblock.num_blocks * layout.now.superblock.block_size ≤ length file.now }
-    ensures value { IfOk result (λ v. stream_text file.now layout.now s ≡ Some v.items) }
+    ensures value { IfOk result (λ v. stream_contents file.now layout.now s ≡ Some v.items) }
     ensures found { s < length layout.now.streams → IfErr result (λ fault. fault ≡ StreamFault.Memory) }
     ensures first { IfErr result (λ fault. ((fault ≡ StreamFault.NoStream s) × (length layout.now.streams ≤ s))
         ⊎ ((fault ≡ StreamFault.Memory) × (s < length layout.now.streams))) }

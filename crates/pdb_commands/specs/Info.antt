@@ -5,7 +5,7 @@ use Rattle.std.specs.Fmt.{decimal}
 use Rattle.uuid.specs.Text.{hyphenated_text, lower}
 use Rattle.byte_fields.specs.Check.{first_failing}
 use Rattle.msf_blocks.specs.Layout.{LayoutView, HasLayout}
-use Rattle.msf_streams.specs.Stream.{stream_text}
+use Rattle.msf_streams.specs.Stream.{stream_contents}
 use Rattle.msf_streams.specs.declared.fault.StreamFault.TheVariants.{NoStream}
 use Rattle.pdb_info.specs.Header.{HeaderFields}
 use Rattle.pdb_info.specs.Names.{NamedStream}
@@ -13,7 +13,7 @@ use Rattle.pdb_info.specs.Info.{InfoView, HasInfo, info_checks}
 use Rattle.pdb_merge.specs.declared.fault.PdbFault.{PdbFault}
 use Rattle.pdb_merge.specs.declared.fault.PdbFault.TheVariants as pdb
 use Rattle.pdb_commands.specs.Streams.{HasLayoutFault}
-use Rattle.pdb_commands.specs.Text.{index_text, quoted, word_line}
+use Rattle.pdb_commands.specs.Text.{index_text, quoted, named_line}
 use Rattle.pdb_commands.specs.declared.fault.RunFault.{RunFault}
 use Rattle.pdb_commands.specs.declared.fault.RunFault.TheVariants.{Info, Pdb}
 
@@ -22,7 +22,7 @@ pub record HasInfoStream (file : List ℕ) (info : InfoView) : Type 0 where
   pub layout : LayoutView
   pub has_layout : HasLayout file layout
   pub stream : List ℕ
-  pub is_stream : stream_text file layout 1 ≡ Some stream
+  pub is_stream : stream_contents file layout 1 ≡ Some stream
   pub has_info : HasInfo stream info
 
 -- the line of the signature
@@ -36,9 +36,9 @@ guid_line guid = codes "guid " ++ hyphenated_text lower guid ++ 10 ∷ []
 -- the lines of the header
 unfoldable pub header_lines : HeaderFields → List ℕ
 header_lines header =
-    word_line (codes "version") header.version
+    named_line (codes "version") header.version
     ++ signature_line header.signature
-    ++ word_line (codes "age") header.age
+    ++ named_line (codes "age") header.age
     ++ guid_line header.guid
 
 -- the line of a named stream
@@ -47,7 +47,7 @@ name_line name = codes "name " ++ quoted name.text ++ 32 ∷ decimal name.stream
 
 -- the line of a feature code
 abbrev pub feature_line : ℕ → List ℕ
-feature_line feature = word_line (codes "feature") feature
+feature_line feature = named_line (codes "feature") feature
 
 -- `info` prints this text for the file: the header, the named streams in the order of their buckets, the feature codes
 abbrev pub ShowsInfo : List ℕ → List ℕ → Type 0
@@ -62,5 +62,5 @@ HasNoInfoStream file fault = HasLayoutFault file fault
 -- this is the first fault of the file on the way to its info stream: a fault of its layout, else that it has no stream 1, else a fault of that stream
 abbrev pub HasNoInfo : {A : Type 0} → List ℕ → RunFault A → Type 0
 HasNoInfo file (Pdb fault) = HasNoInfoStream file fault
-HasNoInfo file (Info fault) = (layout : LayoutView) × (stream : List ℕ) × HasLayout file layout × (stream_text file layout 1 ≡ Some stream) × (first_failing (info_checks stream) ≡ Some fault)
+HasNoInfo file (Info fault) = (layout : LayoutView) × (stream : List ℕ) × HasLayout file layout × (stream_contents file layout 1 ≡ Some stream) × (first_failing (info_checks stream) ≡ Some fault)
 HasNoInfo file _ = ⊥

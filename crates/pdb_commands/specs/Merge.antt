@@ -7,13 +7,13 @@ use Rattle.pdb_merge.specs.Union.{Stops}
 use Rattle.pdb_merge.specs.Merged.{Wrote}
 use Rattle.pdb_merge.specs.declared.summary.Summary.{Summary}
 use Rattle.pdb_merge.specs.declared.fault.MergeFault.TheVariants as merge
-use Rattle.pdb_commands.specs.Text.{word_line}
+use Rattle.pdb_commands.specs.Text.{named_line}
 use Rattle.pdb_commands.specs.declared.fault.RunFault.{RunFault}
 use Rattle.pdb_commands.specs.declared.fault.RunFault.TheVariants.{Merge, Memory, Write}
 
 -- the report on a written file: how many types it has, how many bytes they have together, and how long the file is
 unfoldable pub summary_lines : Summary → List ℕ
-summary_lines summary = word_line (codes "types") summary.types ++ word_line (codes "bytes") summary.bytes ++ word_line (codes "file") summary.length
+summary_lines summary = named_line (codes "types") summary.types ++ named_line (codes "bytes") summary.bytes ++ named_line (codes "file") summary.length
 
 -- a sink took the file of the types of some files
 abbrev pub WroteWhole : List (List ℕ) → SettingsView → Option (List ℕ) → Option (List ℕ) → Type 0

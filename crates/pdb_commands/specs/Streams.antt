@@ -9,7 +9,7 @@ use Rattle.msf_blocks.specs.FreeMap.{is_free}
 use Rattle.msf_blocks.specs.Layout.{LayoutView, HasLayout, layout_checks}
 use Rattle.pdb_merge.specs.declared.fault.PdbFault.{PdbFault}
 use Rattle.pdb_merge.specs.declared.fault.PdbFault.TheVariants as pdb
-use Rattle.pdb_commands.specs.Text.{word_line}
+use Rattle.pdb_commands.specs.Text.{named_line}
 use Rattle.pdb_commands.specs.declared.fault.RunFault.{RunFault}
 use Rattle.pdb_commands.specs.declared.fault.RunFault.TheVariants.{Pdb}
 
@@ -20,11 +20,11 @@ free_blocks file fields = count_by (is_free file fields) (range_with_len 0 field
 -- the lines on the container
 unfoldable pub container_lines : List ℕ → LayoutView → List ℕ
 container_lines file layout =
-    word_line (codes "block-size") layout.superblock.block_size
-    ++ word_line (codes "blocks") layout.superblock.num_blocks
-    ++ word_line (codes "free") (free_blocks file layout.superblock)
-    ++ word_line (codes "directory") layout.superblock.directory_bytes
-    ++ word_line (codes "streams") (length layout.streams)
+    named_line (codes "block-size") layout.superblock.block_size
+    ++ named_line (codes "blocks") layout.superblock.num_blocks
+    ++ named_line (codes "free") (free_blocks file layout.superblock)
+    ++ named_line (codes "directory") layout.superblock.directory_bytes
+    ++ named_line (codes "streams") (length layout.streams)
 
 -- a number after a space
 abbrev pub blank_number : ℕ → List ℕ

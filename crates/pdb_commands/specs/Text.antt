@@ -28,5 +28,5 @@ unfoldable pub quoted : List ℕ → List ℕ
 quoted text = 34 ∷ flat_map quoted_byte text ++ 34 ∷ []
 
 -- a line with a word and a number
-unfoldable pub word_line : List ℕ → ℕ → List ℕ
-word_line word number = word ++ 32 ∷ decimal number ++ 10 ∷ []
+unfoldable pub named_line : List ℕ → ℕ → List ℕ
+named_line name number = name ++ 32 ∷ decimal number ++ 10 ∷ []

@@ -6,7 +6,7 @@ ghost use Rattle.pdb_commands.specs.Run.{Answers};
 
 use crate::fault::RunFault;
 use crate::show::{Show, run};
-use crate::text::push_word;
+use crate::text::push_named;
 use byte_io::{Sink, Source};
 use pdb_merge::{Buffer, read_types};
 use std::alloc::{AllocError, Allocator};
@@ -22,9 +22,9 @@ fn push_checked<A: Allocator>(
     ensures { OnOk result (string_bytes text.new ≡ string_bytes text.old ++ checked_lines records bytes levels) }
 {
     text.push_str("accepted\n")?;
-    push_word(text, "records", records)?;
-    push_word(text, "bytes", bytes)?;
-    push_word(text, "levels", levels)?;
+    push_named(text, "records", records)?;
+    push_named(text, "bytes", bytes)?;
+    push_named(text, "levels", levels)?;
     Ok(())
 }
 

@@ -5,8 +5,8 @@ ghost use Rattle.pdb_commands.specs.Fault.{of_read, of_info, of_pdb, of_merge, o
 ghost use Rattle.pdb_commands.specs.declared.fault.RunFault.TheVariants.{Memory, Write};
 
 use crate::input::ReadFault;
-use cv_leaves::LeafFault;
 use byte_io::NotTaken;
+use cv_leaves::LeafFault;
 use pdb_info::InfoFault;
 use pdb_merge::{MergeFault, OutFault, PdbFault};
 use std::alloc::{AllocError, Allocator, Global};

@@ -3,7 +3,7 @@
 ghost use Rattle.std.specs.Prelude.{◌≡◌, ◌⊎◌, ◌++◌, map, Some, true, OnOk, IfOk, IfErr, string_bytes};
 ghost use Rattle.std.specs.List.{flat_map};
 ghost use Rattle.msf_blocks.specs.Layout.{LayoutView, HasLayout};
-ghost use Rattle.msf_streams.specs.Stream.{stream_text};
+ghost use Rattle.msf_streams.specs.Stream.{stream_contents};
 ghost use Rattle.pdb_info.specs.Name.{named};
 ghost use Rattle.pdb_commands.specs.Run.{Answers};
 ghost use Rattle.pdb_commands.specs.Info.{ShowsInfo, HasNoInfo, HasNoInfoStream, signature_line, guid_line, header_lines, name_line, feature_line};
@@ -11,7 +11,7 @@ ghost use Rattle.pdb_commands.specs.Info.{ShowsInfo, HasNoInfo, HasNoInfoStream,
 use crate::fault::RunFault;
 use crate::show::{Show, run};
 use crate::streams::read_layout;
-use crate::text::{push_index, push_quoted, push_word};
+use crate::text::{push_index, push_quoted, push_named};
 use byte_io::{Sink, Source};
 use msf_streams::gather;
 use pdb_info::{InfoHeader, Name};
@@ -50,9 +50,9 @@ fn push_guid<A: Allocator>(text: &mut String<A>, guid: Uuid) -> Result<(), Alloc
 fn push_header<A: Allocator>(text: &mut String<A>, header: &InfoHeader) -> Result<(), AllocError>
     ensures { OnOk result (string_bytes text.new ≡ string_bytes text.old ++ header_lines header.now) }
 {
-    push_word(text, "version", header.version())?;
+    push_named(text, "version", header.version())?;
     push_signature(text, header.signature())?;
-    push_word(text, "age", header.age())?;
+    push_named(text, "age", header.age())?;
     push_guid(text, header.guid())?;
     Ok(())
 }
@@ -84,14 +84,14 @@ fn push_features<A: Allocator>(text: &mut String<A>, features: &[u32]) -> Result
     ensures { OnOk result (string_bytes text.new ≡ string_bytes text.old ++ flat_map feature_line features.now) }
 {
     for feature in features {
-        push_word(text, "feature", *feature)?;
+        push_named(text, "feature", *feature)?;
     }
     Ok(())
 }
 
 /// The bytes of stream 1 of a file.
 fn info_stream<A: Allocator + Copy>(alloc: A, file: &[u8]) -> Result<Vec<u8, A>, PdbFault<A>>
-    ensures value { IfOk result (λ stream. (layout : LayoutView) × HasLayout file.now layout × (stream_text file.now layout 1 ≡ Some stream.items)) }
+    ensures value { IfOk result (λ stream. (layout : LayoutView) × HasLayout file.now layout × (stream_contents file.now layout 1 ≡ Some stream.items)) }
     ensures first { IfErr result (λ fault. HasNoInfoStream file.now fault ⊎ (fault ≡ PdbFault.Memory)) }
 {
     let layout = read_layout(alloc, file)?;

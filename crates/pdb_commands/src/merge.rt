@@ -11,7 +11,7 @@ ghost use Rattle.pdb_merge.specs.declared.fault.MergeFault.{MergeFault};
 ghost use Rattle.pdb_commands.specs.Merge.{summary_lines, IsNotMerged, WroteWhole, WroteAndReported, WroteAndBrokeOff};
 
 use crate::fault::RunFault;
-use crate::text::push_word;
+use crate::text::push_named;
 use byte_io::{Sink, put_all};
 use pdb_info::Settings;
 use pdb_merge::{Summary, merge_to};
@@ -23,9 +23,9 @@ use std::hash::BuildHasher;
 fn push_summary<A: Allocator>(text: &mut String<A>, summary: &Summary) -> Result<(), AllocError>
     ensures { OnOk result (string_bytes text.new ≡ string_bytes text.old ++ summary_lines summary.now) }
 {
-    push_word(text, "types", summary.types)?;
-    push_word(text, "bytes", summary.bytes)?;
-    push_word(text, "file", summary.length)?;
+    push_named(text, "types", summary.types)?;
+    push_named(text, "bytes", summary.bytes)?;
+    push_named(text, "file", summary.length)?;
     Ok(())
 }
 

@@ -8,14 +8,13 @@ ghost use Rattle.pdb_commands.specs.Record.{ShowsRecord, HasNoRecord, record_of,
 ghost use Rattle.pdb_commands.specs.Run.{Answers};
 
 use crate::fault::RunFault;
-use crate::records::FIRST_INDEX;
 use crate::show::{Show, run};
 use crate::text::{push_index, push_quoted};
-use cv_leaves::{check, places, ref_at, type_name};
 use byte_io::{Sink, Source};
+use cv_leaves::{check, places, ref_at, type_name};
 use pdb_merge::{Buffer, read_records};
 use std::alloc::{AllocError, Allocator};
-use tpi_records::Records;
+use tpi_records::{FIRST_INDEX, Records};
 
 /// The record that has a type index. `None` where no record has it.
 #[tactic(auto, unfolding(crate::specs::Record::record_of))]

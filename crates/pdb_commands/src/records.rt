@@ -8,13 +8,11 @@ ghost use Rattle.pdb_commands.specs.Run.{Answers};
 use crate::fault::RunFault;
 use crate::show::{Show, run};
 use crate::text::{push_index, push_kind};
-use cv_leaves::kind_of;
 use byte_io::{Sink, Source};
+use cv_leaves::kind_of;
 use pdb_merge::{Buffer, read_records};
 use std::alloc::{AllocError, Allocator};
-
-/// The type index of the first record.
-pub const FIRST_INDEX: u32 = 0x1000;
+use tpi_records::FIRST_INDEX;
 
 /// Appends the line of a record. `bytes` is the whole record, with its length field.
 #[tactic(auto, unfolding(crate::specs::Records::record_line, cv_leaves::specs::Checks::kind_of))]
@@ -42,8 +40,6 @@ fn record_lines<A: Allocator + Copy>(
     ensures { IfOk result (λ text. string_bytes text ≡ record_lines 0x1000 records.now) }
 {
     let mut text = String::new(alloc);
-    // This call tells the proof that the indices of all records are below 2^32.
-    let _ = records.len();
     let mut index = FIRST_INDEX;
     for bytes in records.iter() {
         push_record(&mut text, index, bytes)?;

@@ -11,9 +11,9 @@ ghost use Rattle.pdb_commands.specs.Streams.{ShowsStreams, HasLayoutFault, HasNo
 
 use crate::fault::RunFault;
 use crate::show::{Show, run};
-use crate::text::push_word;
+use crate::text::push_named;
 use byte_io::{Sink, Source};
-use msf_blocks::{Layout, Superblock, free_bit};
+use msf_blocks::{Layout, Superblock, blocks_for, free_bit};
 use pdb_merge::PdbFault;
 use std::alloc::{AllocError, Allocator};
 
@@ -63,11 +63,11 @@ fn push_container<A: Allocator, L: Allocator>(
     ensures { OnOk result (string_bytes text.new ≡ string_bytes text.old ++ container_lines file.now layout.now) }
 {
     let superblock = layout.superblock();
-    push_word(text, "block-size", superblock.block_size())?;
-    push_word(text, "blocks", superblock.num_blocks())?;
-    push_word(text, "free", free_blocks(file, superblock))?;
-    push_word(text, "directory", superblock.directory_bytes())?;
-    push_word(text, "streams", layout.streams())?;
+    push_named(text, "block-size", superblock.block_size())?;
+    push_named(text, "blocks", superblock.num_blocks())?;
+    push_named(text, "free", free_blocks(file, superblock))?;
+    push_named(text, "directory", superblock.directory_bytes())?;
+    push_named(text, "streams", layout.streams())?;
     Ok(())
 }
 
@@ -91,7 +91,7 @@ fn push_blocks<A: Allocator, L: Allocator>(
 }
 
 /// Appends the line of the `s`-th stream: its number, its size in bytes and its blocks.
-#[tactic(auto, using(msf_blocks::proofs::SizeLaws::some_bytes), unfolding(crate::specs::Streams::stream_line))]
+#[tactic(auto, unfolding(crate::specs::Streams::stream_line))]
 fn push_stream<A: Allocator, L: Allocator>(
     text: &mut String<A>,
     layout: &Layout<L>,
@@ -101,13 +101,11 @@ fn push_stream<A: Allocator, L: Allocator>(
     ensures { OnOk result (IfSome (slice_get layout.now.streams s) (λ stream.
         string_bytes text.new ≡ string_bytes text.old ++ stream_line s stream)) }
 {
-    // This call tells the proof that a stream has as many blocks as its bytes need.
-    let _ = layout.streams();
     let block_size = layout.superblock().block_size();
     let size = layout.size(s).unwrap_or(0);
     write!(text, "{s}")?;
     push_number(text, size)?;
-    push_blocks(text, layout, s, size.div_ceil(block_size))?;
+    push_blocks(text, layout, s, blocks_for(block_size, size))?;
     text.push_str("\n")?;
     Ok(())
 }

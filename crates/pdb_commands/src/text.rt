@@ -1,7 +1,7 @@
 //! How numbers and texts are printed.
 
 ghost use Rattle.std.specs.Prelude.{◌≡◌, ◌++◌, OnOk, string_bytes};
-ghost use Rattle.pdb_commands.specs.Text.{index_text, is_plain, kind_text, quoted, quoted_byte, word_line};
+ghost use Rattle.pdb_commands.specs.Text.{index_text, is_plain, kind_text, quoted, quoted_byte, named_line};
 
 use std::alloc::{AllocError, Allocator};
 
@@ -22,15 +22,15 @@ pub fn push_kind<A: Allocator>(text: &mut String<A>, kind: u16) -> Result<(), Al
 }
 
 /// Appends a line with a word and a number.
-#[tactic(auto, unfolding(crate::specs::Text::word_line))]
-pub fn push_word<A: Allocator>(
+#[tactic(auto, unfolding(crate::specs::Text::named_line))]
+pub fn push_named<A: Allocator>(
     text: &mut String<A>,
-    word: &str,
+    name: &str,
     number: u32,
 ) -> Result<(), AllocError>
-    ensures { OnOk result (string_bytes text.new ≡ string_bytes text.old ++ word_line word.now number) }
+    ensures { OnOk result (string_bytes text.new ≡ string_bytes text.old ++ named_line name.now number) }
 {
-    text.push_str(word)?;
+    text.push_str(name)?;
     writeln!(text, " {number}")
 }
 

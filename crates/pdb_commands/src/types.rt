@@ -14,14 +14,13 @@ ghost use Rattle.pdb_commands.specs.Text.{index_text};
 ghost use Rattle.pdb_commands.specs.Types.{ShowsTypes, HasNoTypes, AreTypeLines, HasLeafFault, type_line, reference, quoted_name, leaf_name};
 
 use crate::fault::RunFault;
-use crate::records::FIRST_INDEX;
 use crate::show::{Show, run};
 use crate::text::{push_index, push_quoted};
-use cv_leaves::{check, kind_of, leaf_text, places, ref_at, type_name};
 use byte_io::{Sink, Source};
+use cv_leaves::{check, kind_of, leaf_text, places, ref_at, type_name};
 use pdb_merge::{Buffer, read_records};
 use std::alloc::{AllocError, Allocator};
-use tpi_records::Records;
+use tpi_records::{FIRST_INDEX, Records};
 
 /// Appends the name of the leaf of a record.
 #[tactic(auto, unfolding(crate::specs::Types::leaf_name))]
@@ -125,8 +124,6 @@ fn type_lines<A: Allocator + Copy>(
     ensures first { IfErr result (λ fault. ((index : ℕ) × (inner : LeafFault) × (fault ≡ RunFault.Leaf index inner) × HasLeafFault records.now index inner) ⊎ (fault ≡ RunFault.Memory)) }
 {
     let mut text = String::new(alloc);
-    // This call tells the proof that the indices of all records are below 2^32.
-    let _ = records.len();
     let mut index = FIRST_INDEX;
     for bytes in records.iter() {
         push_type(&mut text, index, bytes)?;

@@ -57,9 +57,9 @@ pub count_same : (present : List ℕ) (bucket k : ℕ) → is_present present bu
 count_same present bucket k is counted = counted ∙ ap length (sym (buckets_same present bucket is))
 
 -- the bit of a bucket says whether it is present
-pub present_bit : (stream : List ℕ) (bucket word : ℕ) → bucket < 32 * present_words stream → word ≡ number_at 4 stream (present_offset stream + 4 * (bucket / 32))
-    → nat_eq (bit_and (word / 2 ^ (bucket % 32)) 1) 1 ≡ is_present (present_of stream) bucket
-present_bit stream bucket word lt is = rw (shr_and_one word (bucket % 32), present_word stream (bucket / 32) (omega arith), is) refl
+pub present_bit : (stream : List ℕ) (bucket nth_u32 : ℕ) → bucket < 32 * present_words stream → nth_u32 ≡ number_at 4 stream (present_offset stream + 4 * (bucket / 32))
+    → nat_eq (bit_and (nth_u32 / 2 ^ (bucket % 32)) 1) 1 ≡ is_present (present_of stream) bucket
+present_bit stream bucket nth_u32 lt is = rw (shr_and_one nth_u32 (bucket % 32), present_word stream (bucket / 32) (omega arith), is) refl
 
 -- ---- the k-th present bucket
 
@@ -114,13 +114,13 @@ unfolding count_ones
 word_count present w zero le = let none : get_or present w 0 % 2 ^ 0 ≡ 0 = omega arith in rw none refl
 word_count present w (suc m) le =
     let one : suc m ≡ m + 1 = omega arith in
-    let word : (32 * w + m) / 32 ≡ w = omega arith in
+    let nth_u32 : (32 * w + m) / 32 ≡ w = omega arith in
     let bit : (32 * w + m) % 32 ≡ m = omega arith in
     let f = λ (b : ℕ). cond {A = ℕ} (is_present present b) 1 0 in
     let more : count_by (is_present present) (range_with_len (32 * w) (m + 1)) ≡ count_by (is_present present) (range_with_len (32 * w) m) + f (32 * w + m) =
     ap (sum_by f) (range_more (32 * w) m) ∙ sum_by_push f (range_with_len (32 * w) m) (32 * w + m) in
     let both : count_by (is_present present) (range_with_len (32 * w) (m + 1)) ≡ count_ones (get_or present w 0 % 2 ^ (m + 1)) =
-    more ∙ rw (word_count present w m (omega arith), word, bit) (sym (ones_more (get_or present w 0) m)) in
+    more ∙ rw (word_count present w m (omega arith), nth_u32, bit) (sym (ones_more (get_or present w 0) m)) in
     subst (λ (j : ℕ). count_by (is_present present) (range_with_len (32 * w) j) ≡ count_ones (get_or present w 0 % 2 ^ j)) (sym one) both
 
 -- the number of present buckets in the first words is the number of ones in these words

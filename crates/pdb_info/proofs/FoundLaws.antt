@@ -6,9 +6,9 @@ use Rattle.std.proofs.lemmas.Bool.Decides.{nat_tests}
 use Rattle.std.proofs.lemmas.List.{append-nil, drop-drop, drop_at, take_at, length-append, length-drop, get_or_at, get_or_append_left, get_or-append-add}
 use Rattle.std.proofs.lemmas.List.FromFn.{fill_by_all}
 use Rattle.std.proofs.lemmas.List.Elements.{All-get_or, All-from_get_or}
-use Rattle.byte_fields.specs.Number.{number_at, four_bytes, word, words}
+use Rattle.byte_fields.specs.Number.{number_at, four_bytes, nth_u32, u32s}
 use Rattle.byte_fields.specs.Check.{first_failing}
-use Rattle.byte_fields.proofs.NumberLaws.{word-words, length-words, length-four_bytes}
+use Rattle.byte_fields.proofs.NumberLaws.{nth_u32-u32s, length-u32s, length-four_bytes}
 use Rattle.byte_fields.proofs.CheckLaws.{checks_below-all}
 use Rattle.pdb_info.specs.Header.{header_checks}
 use Rattle.pdb_info.specs.Names.{NamedStream, Pair, HasNames, HasName, pair_numbers, map_numbers, is_named, map_checks, pair_checks, pair_offset, present_count, size_offset, size_of, present_offset, present_words, present_of, deleted_offset, deleted_words, pairs_offset, buffer_of}
@@ -16,7 +16,7 @@ use Rattle.pdb_info.specs.Info.{InfoView, HasInfo, info_checks}
 use Rattle.pdb_info.specs.declared.fault.InfoFault.{InfoFault}
 use Rattle.pdb_info.proofs.BucketLaws.{buckets_counted}
 use Rattle.pdb_info.proofs.NameLaws.{one_passes}
-use Rattle.pdb_info.proofs.PartsLaws.{word_at}
+use Rattle.pdb_info.proofs.PartsLaws.{nth_u32_at}
 use Rattle.pdb_info.proofs.ValueLaws.{deleted_offset_is, pairs_offset_is, size_offset_is, buffer_is}
 use Rattle.pdb_info.proofs.InfoLaws.{pairs_answer}
 
@@ -62,31 +62,31 @@ length-pairs (pair ∷ pairs) = omega (arith, length-pairs pairs)
 -- after the header come the length of the buffer, the buffer, these numbers and the rest
 record Spells (stream buffer numbers rest : List ℕ) : Type 0 where
   count : number_at 4 stream 28 ≡ length buffer
-  behind : drop 32 stream ≡ buffer ++ (words numbers ++ rest)
-  text : drop (32 + length buffer) stream ≡ words numbers ++ rest
+  behind : drop 32 stream ≡ buffer ++ (u32s numbers ++ rest)
+  text : drop (32 + length buffer) stream ≡ u32s numbers ++ rest
   long : length stream ≡ 32 + length buffer + 4 * length numbers + length rest
 
 -- a stream with these parts has these numbers
-spells : (stream buffer numbers rest : List ℕ) → 28 ≤ length stream → length buffer < 2 ^ 32 → drop 28 stream ≡ four_bytes (length buffer) ++ buffer ++ words numbers ++ rest → Spells stream buffer numbers rest
+spells : (stream buffer numbers rest : List ℕ) → 28 ≤ length stream → length buffer < 2 ^ 32 → drop 28 stream ≡ four_bytes (length buffer) ++ buffer ++ u32s numbers ++ rest → Spells stream buffer numbers rest
 spells stream buffer numbers rest header short parts =
     let n = length buffer in
-    let tail = buffer ++ (words numbers ++ rest) in
-    let all : drop 28 stream ≡ four_bytes n ++ tail = parts ∙ append_assoc (four_bytes n ++ buffer) (words numbers) rest ∙ append_assoc (four_bytes n) buffer (words numbers ++ rest) in
-    let one : words (n ∷ []) ++ tail ≡ four_bytes n ++ tail = ap (λ (xs : List ℕ). xs ++ tail) (append-nil (four_bytes n)) in
-    let first : word (words (n ∷ []) ++ tail) 0 ≡ n = word-words (n ∷ []) tail 0 (omega arith) short in
+    let tail = buffer ++ (u32s numbers ++ rest) in
+    let all : drop 28 stream ≡ four_bytes n ++ tail = parts ∙ append_assoc (four_bytes n ++ buffer) (u32s numbers) rest ∙ append_assoc (four_bytes n) buffer (u32s numbers ++ rest) in
+    let one : u32s (n ∷ []) ++ tail ≡ four_bytes n ++ tail = ap (λ (xs : List ℕ). xs ++ tail) (append-nil (four_bytes n)) in
+    let first : nth_u32 (u32s (n ∷ []) ++ tail) 0 ≡ n = nth_u32-u32s (n ∷ []) tail 0 (omega arith) short in
     let behind : drop 32 stream ≡ tail = sym (drop-drop 4 28 stream) ∙ ap (drop 4) all ∙ drop_at (four_bytes n) tail 4 (length-four_bytes n) in
     record {
-      count = sym (word_at stream 28 0) ∙ ap (λ (xs : List ℕ). word xs 0) (all ∙ sym one) ∙ first;
+      count = sym (nth_u32_at stream 28 0) ∙ ap (λ (xs : List ℕ). nth_u32 xs 0) (all ∙ sym one) ∙ first;
       behind = behind;
-      text = sym (drop-drop n 32 stream) ∙ ap (drop n) behind ∙ drop_at buffer (words numbers ++ rest) n refl;
-      long = omega (arith, length-drop 28 stream, ap length all, length-append (four_bytes n) tail, length-four_bytes n, length-append buffer (words numbers ++ rest), length-append (words numbers) rest, length-words numbers);
+      text = sym (drop-drop n 32 stream) ∙ ap (drop n) behind ∙ drop_at buffer (u32s numbers ++ rest) n refl;
+      long = omega (arith, length-drop 28 stream, ap length all, length-append (four_bytes n) tail, length-four_bytes n, length-append buffer (u32s numbers ++ rest), length-append (u32s numbers) rest, length-u32s numbers);
     }
 
 -- the k-th number after the buffer
 number_is : (stream buffer numbers rest : List ℕ) (k : ℕ) → Spells stream buffer numbers rest → All (λ number. number < 2 ^ 32) numbers → k < length numbers → number_at 4 stream (size_offset stream + 4 * k) ≡ get_or numbers k 0
 number_is stream buffer numbers rest k h small lt =
     let o : size_offset stream ≡ 32 + length buffer = omega (arith, size_offset_is stream, h.count) in
-    sym (word_at stream (size_offset stream) k) ∙ rw o (ap (λ (xs : List ℕ). word xs k) h.text) ∙ word-words numbers rest k lt (All-get_or (λ number. number < 2 ^ 32) numbers k 0 lt small)
+    sym (nth_u32_at stream (size_offset stream) k) ∙ rw o (ap (λ (xs : List ℕ). nth_u32 xs k) h.text) ∙ nth_u32-u32s numbers rest k lt (All-get_or (λ number. number < 2 ^ 32) numbers k 0 lt small)
 
 -- ---- a stream with names
 
@@ -139,7 +139,7 @@ stands stream names features header h =
     record {
       header = header;
       buffer_len = s.count;
-      buffer_there = buffer_is stream ∙ rw (s.count, s.behind) (take_at h.buffer (words numbers ++ h.rest) (length h.buffer) refl);
+      buffer_there = buffer_is stream ∙ rw (s.count, s.behind) (take_at h.buffer (u32s numbers ++ h.rest) (length h.buffer) refl);
       size_there = rw here at size;
       present_len = present_len;
       present_there = present_is stream h.present present_len present;

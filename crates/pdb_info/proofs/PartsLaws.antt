@@ -3,8 +3,8 @@ use Rattle.std.proofs.Common.{◌≡◌, ℕ, zero, suc, ◌+◌, ◌*◌, ◌<�
 use Rattle.std.specs.List.{range_with_len, flat_map}
 use Rattle.std.proofs.lemmas.List.{map-append, drop-drop, get_or-drop, length-drop}
 use Rattle.std.proofs.lemmas.List.FromFn.{length-map-range_with_len}
-use Rattle.byte_fields.specs.Number.{number_at, word, words}
-use Rattle.byte_fields.proofs.NumberLaws.{number_at-drop, words-word}
+use Rattle.byte_fields.specs.Number.{number_at, nth_u32, u32s}
+use Rattle.byte_fields.proofs.NumberLaws.{number_at-drop, u32s-nth_u32}
 use Rattle.pdb_info.specs.Names.{pair_numbers, numbers_at, pair_at, pair_offset, size_offset, size_of, present_words, present_of, deleted_offset, deleted_words, pairs_offset}
 use Rattle.pdb_info.proofs.BucketLaws.{range_split}
 
@@ -27,21 +27,21 @@ numbers_split stream offset start m n is =
     ap (map f) (range_split 0 m n) ∙ map-append f (range_with_len 0 m) (range_with_len (0 + m) n) ∙ rw zeros (ap (λ (xs : List ℕ). numbers_at stream offset m ++ xs) (shifted stream offset start m 0 n is))
 
 -- the number at a position of the bytes from an offset on
-pub word_at : (stream : List ℕ) (offset k : ℕ) → word (drop offset stream) k ≡ number_at 4 stream (offset + 4 * k)
-unfolding word
-word_at stream offset k =
+pub nth_u32_at : (stream : List ℕ) (offset k : ℕ) → nth_u32 (drop offset stream) k ≡ number_at 4 stream (offset + 4 * k)
+unfolding nth_u32
+nth_u32_at stream offset k =
     sym (number_at-drop 4 (drop offset stream) (4 * k)) ∙ ap (λ (bytes : List ℕ). number_at 4 bytes 0) (drop-drop (4 * k) offset stream) ∙ number_at-drop 4 stream (offset + 4 * k)
 
 -- a list of numbers is the numbers of the bytes from its offset on
-words_are : (stream : List ℕ) (offset a n : ℕ) → map (λ k. number_at 4 stream (offset + 4 * k)) (range_with_len a n) ≡ map (word (drop offset stream)) (range_with_len a n)
-words_are stream offset a zero = refl
-words_are stream offset a (suc n) = rw (word_at stream offset a, words_are stream offset (a + 1) n) refl
+u32s_are : (stream : List ℕ) (offset a n : ℕ) → map (λ k. number_at 4 stream (offset + 4 * k)) (range_with_len a n) ≡ map (nth_u32 (drop offset stream)) (range_with_len a n)
+u32s_are stream offset a zero = refl
+u32s_are stream offset a (suc n) = rw (nth_u32_at stream offset a, u32s_are stream offset (a + 1) n) refl
 
 -- a list of numbers, written as bytes, is the bytes that it was read from
-pub words_at : (stream : List ℕ) (offset n : ℕ) → ((i : ℕ) → get_or stream i 0 < 256) → offset + 4 * n ≤ length stream → words (numbers_at stream offset n) ≡ take (4 * n) (drop offset stream)
-words_at stream offset n bytes long =
+pub u32s_at : (stream : List ℕ) (offset n : ℕ) → ((i : ℕ) → get_or stream i 0 < 256) → offset + 4 * n ≤ length stream → u32s (numbers_at stream offset n) ≡ take (4 * n) (drop offset stream)
+u32s_at stream offset n bytes long =
     let small : (i : ℕ) → get_or (drop offset stream) i 0 < 256 = λ i. rw (get_or-drop offset stream i 0) (bytes (offset + i)) in
-    ap words (words_are stream offset 0 n) ∙ words-word (drop offset stream) 0 n small (omega (arith, length-drop offset stream))
+    ap u32s (u32s_are stream offset 0 n) ∙ u32s-nth_u32 (drop offset stream) 0 n small (omega (arith, length-drop offset stream))
 
 -- ---- the parts of the list
 

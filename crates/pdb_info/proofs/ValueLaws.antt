@@ -6,14 +6,14 @@ use Rattle.std.proofs.lemmas.Bool.Decides.{nat_tests}
 use Rattle.std.proofs.lemmas.List.{drop-drop, take-append-drop, length-take, length-drop}
 use Rattle.std.proofs.lemmas.List.FromFn.{length-map-range_with_len, get_or-map-range_with_len}
 use Rattle.std.proofs.lemmas.List.Elements.{All-from_get_or, All-same}
-use Rattle.byte_fields.specs.Number.{number_at, four_bytes, words}
+use Rattle.byte_fields.specs.Number.{number_at, four_bytes, u32s}
 use Rattle.byte_fields.specs.Check.{first_failing, checks_below}
 use Rattle.byte_fields.proofs.NumberLaws.{number_at-small, four_bytes-number_at}
 use Rattle.pdb_info.specs.Names.{HasNames, IsMap, HasName, IsClosing, IsUnclosed, map_numbers, numbers_at, pair_at, pair_checks, pair_offset, pairs_below, names_below, size_offset, size_of, present_words, present_of, deleted_offset, deleted_words, pairs_offset, pairs_end, is_closed, features_offset, features_of, buffer_of}
 use Rattle.pdb_info.specs.declared.map.NameMap.{NameMap}
 use Rattle.pdb_info.proofs.BucketLaws.{map_counted}
 use Rattle.pdb_info.proofs.PairLaws.{pair_named}
-use Rattle.pdb_info.proofs.PartsLaws.{numbers_split, words_at, front_is, deleted_is, pairs_from}
+use Rattle.pdb_info.proofs.PartsLaws.{numbers_split, u32s_at, front_is, deleted_is, pairs_from}
 
 -- ---- the offsets of the parts
 
@@ -192,7 +192,7 @@ names_are stream m bytes is inside held =
     let fit : size_offset stream + 4 * n ≤ length stream = omega (arith, features, last) in
     let long : length (buffer_of stream) ≡ b = rw (buffer_is stream) (omega (arith, length-take b (drop 32 stream), length-drop 32 stream, o, fit)) in
     let four : four_bytes (length (buffer_of stream)) ≡ take 4 (drop 28 stream) = rw long (four_bytes-number_at stream 28 bytes (omega (arith, o, fit))) in
-    let spelled : words (all_numbers stream) ≡ take (4 * n) (drop (32 + b) stream) = ap words row ∙ words_at stream (size_offset stream) n bytes fit ∙ rw o refl in
+    let spelled : u32s (all_numbers stream) ≡ take (4 * n) (drop (32 + b) stream) = ap u32s row ∙ u32s_at stream (size_offset stream) n bytes fit ∙ rw o refl in
     record {
       buffer = buffer_of stream;
       size = size_of stream;

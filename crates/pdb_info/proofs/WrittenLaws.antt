@@ -3,8 +3,8 @@ use Rattle.std.proofs.Common.{◌≡◌, ℕ, ◌*◌, ◌<◌, ◌^◌, List, [
 use Rattle.std.specs.Prelude.{All}
 use Rattle.std.proofs.lemmas.List.{append-nil, length-append, drop_at, take_at}
 use Rattle.std.proofs.lemmas.List.Elements.{All-nil, All-cons}
-use Rattle.byte_fields.specs.Number.{number_at, word, words}
-use Rattle.byte_fields.proofs.NumberLaws.{word-words, length-words}
+use Rattle.byte_fields.specs.Number.{number_at, nth_u32, u32s}
+use Rattle.byte_fields.proofs.NumberLaws.{nth_u32-u32s, length-u32s}
 use Rattle.pdb_info.specs.Guid.{stored_guid}
 use Rattle.pdb_info.specs.Header.{HasInfoHeader}
 use Rattle.pdb_info.specs.Names.{HasNames, HasName, present_buckets}
@@ -18,40 +18,40 @@ front age = 20000404 ∷ 0 ∷ age ∷ []
 back : List ℕ
 back = 0 ∷ 0 ∷ 8 ∷ 0 ∷ 0 ∷ 0 ∷ []
 
-number_back : (age : ℕ) (rest : List ℕ) (k : ℕ) → k < 3 → get_or (front age) k 0 < 2 ^ 32 → number_at 4 (words (front age) ++ rest) (4 * k) ≡ get_or (front age) k 0
-unfolding front word
-number_back age rest k lt small = word-words (front age) rest k lt small
+number_back : (age : ℕ) (rest : List ℕ) (k : ℕ) → k < 3 → get_or (front age) k 0 < 2 ^ 32 → number_at 4 (u32s (front age) ++ rest) (4 * k) ≡ get_or (front age) k 0
+unfolding front nth_u32
+number_back age rest k lt small = nth_u32-u32s (front age) rest k lt small
 
-length-front : (age : ℕ) → length (words (front age)) ≡ 12
+length-front : (age : ℕ) → length (u32s (front age)) ≡ 12
 unfolding front
-length-front age = length-words (front age)
+length-front age = length-u32s (front age)
 
-length-back : length (words back) ≡ 24
+length-back : length (u32s back) ≡ 24
 unfolding back
-length-back = length-words back
+length-back = length-u32s back
 
-header_back : (age : ℕ) (guid : List ℕ) → length (stored_guid guid) ≡ 16 → stored_guid (stored_guid guid) ≡ guid → age < 2 ^ 32 → HasInfoHeader (words (front age) ++ (stored_guid guid ++ words back)) ((info_view age guid).header)
+header_back : (age : ℕ) (guid : List ℕ) → length (stored_guid guid) ≡ 16 → stored_guid (stored_guid guid) ≡ guid → age < 2 ^ 32 → HasInfoHeader (u32s (front age) ++ (stored_guid guid ++ u32s back)) ((info_view age guid).header)
 unfolding front back
 header_back age guid long undone short =
     let stored = stored_guid guid in
-    let rest = stored ++ words back in
+    let rest = stored ++ u32s back in
     record {
-      long = omega (arith, length-append (words (front age)) rest, length-front age, length-append stored (words back), long);
+      long = omega (arith, length-append (u32s (front age)) rest, length-front age, length-append stored (u32s back), long);
       version_is = number_back age rest 0 (omega arith) (omega arith);
       signature_is = number_back age rest 1 (omega arith) (omega arith);
       age_is = number_back age rest 2 (omega arith) short;
-      guid_is = rw (drop_at (words (front age)) rest 12 (length-front age), take_at stored (words back) 16 long) undone;
+      guid_is = rw (drop_at (u32s (front age)) rest 12 (length-front age), take_at stored (u32s back) 16 long) undone;
     }
 
 number_small : (n : ℕ) (numbers : List ℕ) → n < 2 ^ 32 → All (λ number. number < 2 ^ 32) numbers → All (λ number. number < 2 ^ 32) (n ∷ numbers)
 number_small n numbers small others = All-cons (λ number. number < 2 ^ 32) n numbers small others
 
-names_back : (age : ℕ) (stored : List ℕ) → length stored ≡ 16 → HasNames (words (front age) ++ (stored ++ words back)) [] []
+names_back : (age : ℕ) (stored : List ℕ) → length stored ≡ 16 → HasNames (u32s (front age) ++ (stored ++ u32s back)) [] []
 unfolding back present_buckets
 names_back age stored long =
-    let behind : drop 28 (words (front age) ++ (stored ++ words back)) ≡ words back =
-    ap (drop 28) (sym (append_assoc (words (front age)) stored (words back)))
-    ∙ drop_at (words (front age) ++ stored) (words back) 28 (omega (arith, length-append (words (front age)) stored, length-front age, long)) in
+    let behind : drop 28 (u32s (front age) ++ (stored ++ u32s back)) ≡ u32s back =
+    ap (drop 28) (sym (append_assoc (u32s (front age)) stored (u32s back)))
+    ∙ drop_at (u32s (front age) ++ stored) (u32s back) 28 (omega (arith, length-append (u32s (front age)) stored, length-front age, long)) in
     record {
       buffer = [];
       size = 0;
@@ -79,13 +79,13 @@ unfolding info_text front back
 has_info age guid long undone short = record { header = header_back age guid long undone short; names = names_back age (stored_guid guid) long }
 
 -- the stream that is made field by field is the written stream
-pub info_is : (age found : ℕ) (guid given stored bytes : List ℕ) → bytes ≡ words (20000404 ∷ 0 ∷ found ∷ []) ++ (stored ++ words (0 ∷ 0 ∷ 8 ∷ 0 ∷ 0 ∷ 0 ∷ [])) → stored ≡ stored_guid given → given ≡ guid → found ≡ age
+pub info_is : (age found : ℕ) (guid given stored bytes : List ℕ) → bytes ≡ u32s (20000404 ∷ 0 ∷ found ∷ []) ++ (stored ++ u32s (0 ∷ 0 ∷ 8 ∷ 0 ∷ 0 ∷ 0 ∷ [])) → stored ≡ stored_guid given → given ≡ guid → found ≡ age
     → bytes ≡ info_text age guid
 unfolding info_text
 info_is age found guid given stored bytes e is same years = e ∙ rw (is, same, years) refl
 
 -- the stream that is made field by field has the values that were written
-pub info_back : (age found : ℕ) (guid given stored bytes : List ℕ) → bytes ≡ words (20000404 ∷ 0 ∷ found ∷ []) ++ (stored ++ words (0 ∷ 0 ∷ 8 ∷ 0 ∷ 0 ∷ 0 ∷ [])) → stored ≡ stored_guid given → given ≡ guid → found ≡ age
+pub info_back : (age found : ℕ) (guid given stored bytes : List ℕ) → bytes ≡ u32s (20000404 ∷ 0 ∷ found ∷ []) ++ (stored ++ u32s (0 ∷ 0 ∷ 8 ∷ 0 ∷ 0 ∷ 0 ∷ [])) → stored ≡ stored_guid given → given ≡ guid → found ≡ age
     → length stored ≡ 16 → stored_guid stored ≡ given → found < 2 ^ 32 → HasInfo bytes (info_view age guid)
 info_back age found guid given stored bytes e is same years long undone short =
     let spelled : stored ≡ stored_guid guid = is ∙ ap stored_guid same in

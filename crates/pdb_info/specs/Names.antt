@@ -1,7 +1,7 @@
 -- The named stream map and the feature codes, which follow the header of the info stream ("The PDB Info Stream", "Named Stream Map" and "PDB Feature Codes").
 use Rattle.std.specs.Prelude.{ℕ, Bool, ◌-◌, ◌&&◌, if◌then◌else◌, ◌≡◌, ◌≢◌, ◌⊎◌, ◌+◌, ◌*◌, ◌/◌, ◌%◌, ◌^◌, ◌<◌, ◌≤◌, ◌==◌, nat_le, All, Contains, List, [], ◌∷◌, ◌++◌, length, map, take, drop, get_or, sum_by, count_ones, filter}
 use Rattle.std.specs.List.{range_with_len, flat_map, before_first, list_any}
-use Rattle.byte_fields.specs.Number.{number_at, four_bytes, words}
+use Rattle.byte_fields.specs.Number.{number_at, four_bytes, u32s}
 use Rattle.byte_fields.specs.Check.{Check}
 use Rattle.pdb_info.specs.declared.map.NameMap.{NameMap}
 use Rattle.pdb_info.specs.declared.fault.InfoFault.{InfoFault}
@@ -69,7 +69,7 @@ pub record HasNames (stream : List ℕ) (names : List NamedStream) (features : L
   pub pairs : List Pair
   pub closing : List ℕ
   pub rest : List ℕ
-  pub parts : drop 28 stream ≡ four_bytes (length buffer) ++ buffer ++ words (map_numbers size capacity present deleted pairs closing features) ++ rest
+  pub parts : drop 28 stream ≡ four_bytes (length buffer) ++ buffer ++ u32s (map_numbers size capacity present deleted pairs closing features) ++ rest
   pub short : length buffer < 2 ^ 32
   pub small : All (λ number. number < 2 ^ 32) (map_numbers size capacity present deleted pairs closing features)
   pub few : length rest < 4
@@ -161,7 +161,7 @@ pub record IsMap (stream : List ℕ) (m : NameMap) : Type 0 where
   pub size_offset_is : m.size_offset ≡ size_offset stream
   pub pairs_offset_is : m.pairs_offset ≡ pairs_offset stream
   pub size_is : m.size ≡ size_of stream
-  pub words_are : m.present_words ≡ present_words stream
+  pub u32s_are : m.present_words ≡ present_words stream
   pub present : present_offset stream + 4 * present_words stream ≤ length stream
   pub pairs : pairs_offset stream ≤ length stream
   pub counted : size_of stream ≡ present_count (present_of stream)

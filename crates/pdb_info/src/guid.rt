@@ -10,14 +10,12 @@ use uuid::Uuid;
 /// The printed form of a GUID has five parts. Each of the first three parts is stored with its
 /// lowest byte first. The last eight bytes are stored in the order in which they are printed. This
 /// never fails. ("The PDB Info Stream", "Stream Header".)
-#[tactic(auto, using(crate::proofs::GuidLaws::stored_is, crate::proofs::GuidLaws::stored_twice))]
 pub fn guid_bytes(guid: Uuid) -> [u8; 16]
     ensures value { result ≡ stored_guid guid }
     ensures undone { stored_guid result ≡ guid }
 {
-    // This call tells the proof that a GUID has 16 bytes.
-    let _ = guid.into_bytes();
-    guid.to_bytes_le()
+    // Storing a GUID and reading one exchange the same bytes.
+    guid_of(guid.into_bytes()).into_bytes()
 }
 
 /// The GUID with these stored bytes: the inverse of [`guid_bytes`].

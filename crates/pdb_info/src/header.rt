@@ -2,7 +2,7 @@
 
 ghost use Rattle.std.specs.Prelude.{◌≡◌, ◌≢◌, ◌≤◌, [], ◌∷◌, ◌++◌, length, take, drop, IsOk, IfOk, IfErr};
 ghost use Rattle.byte_fields.specs.Check.{Makes};
-ghost use Rattle.byte_fields.specs.Number.{words};
+ghost use Rattle.byte_fields.specs.Number.{u32s};
 ghost use Rattle.pdb_info.specs.Guid.{stored_guid};
 ghost use Rattle.pdb_info.specs.Header.{HeaderFields, HasInfoHeader, header_checks};
 
@@ -115,7 +115,7 @@ impl InfoHeader {
 /// GUID.
 #[tactic(auto, unfolding(byte_fields::specs::Number::four_bytes))]
 pub(crate) fn header_bytes(age: u32, stored: [u8; 16]) -> [u8; LENGTH]
-    ensures value { result ≡ words (20000404 ∷ 0 ∷ age ∷ []) ++ stored }
+    ensures value { result ≡ u32s (20000404 ∷ 0 ∷ age ∷ []) ++ stored }
     ensures long { length stored ≡ 16 }
 {
     let mut header = [0; LENGTH];

@@ -26,11 +26,11 @@ impl NameMap {
         requires below { bucket < 32 * self.now.present_words }
         ensures { result ≡ is_present (present_of stream.now) bucket }
     {
-        let word = u32_at(
+        let nth_u32 = u32_at(
             stream,
             self.size_offset + COUNTS + 4 * (bucket / 32) as usize,
         );
-        word >> (bucket % 32) & 1 == 1
+        nth_u32 >> (bucket % 32) & 1 == 1
     }
 
     /// Checks the `k`-th pair, which belongs to this bucket.

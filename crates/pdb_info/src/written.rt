@@ -1,7 +1,7 @@
 //! The info stream of a file that is written.
 
 ghost use Rattle.std.specs.Prelude.{◌≡◌, [], ◌∷◌, ◌++◌, length};
-ghost use Rattle.byte_fields.specs.Number.{words};
+ghost use Rattle.byte_fields.specs.Number.{u32s};
 ghost use Rattle.pdb_info.specs.Info.{HasInfo};
 ghost use Rattle.pdb_info.specs.Written.{info_text, info_view};
 
@@ -18,7 +18,7 @@ const BUCKETS: u32 = 8;
 
 /// Makes the stream: the header, and a map without names.
 fn stream_of(age: u32, stored: [u8; 16]) -> [u8; 52]
-    ensures value { result ≡ words (20000404 ∷ 0 ∷ age ∷ []) ++ (stored ++ words (0 ∷ 0 ∷ 8 ∷ 0 ∷ 0 ∷ 0 ∷ [])) }
+    ensures value { result ≡ u32s (20000404 ∷ 0 ∷ age ∷ []) ++ (stored ++ u32s (0 ∷ 0 ∷ 8 ∷ 0 ∷ 0 ∷ 0 ∷ [])) }
     ensures long { length stored ≡ 16 }
 {
     let mut stream = [0; 52];

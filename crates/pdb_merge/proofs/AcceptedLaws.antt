@@ -4,13 +4,13 @@ use Rattle.std.specs.Prelude.{Result, Ok, Err, IfErr}
 use Rattle.byte_fields.specs.Bytes.{AreBytes}
 use Rattle.msf_blocks.specs.Layout.{LayoutView, HasLayout}
 use Rattle.msf_blocks.proofs.FoundLaws.{layout_holds}
-use Rattle.msf_streams.specs.Stream.{stream_text}
+use Rattle.msf_streams.specs.Stream.{stream_contents}
 use Rattle.tpi_records.specs.Records.{HasRecords, IsFirstFault}
 use Rattle.tpi_records.specs.declared.fault.TpiFault.{TpiFault}
 use Rattle.tpi_records.specs.declared.fault.TpiFault.TheVariants as tpi
 use Rattle.tpi_records.proofs.StreamLaws.{one_records, no_fault}
 use Rattle.type_trees.proofs.CycleLaws.{types_sound}
-use Rattle.type_trees.specs.Checked.{IsTypeFault}
+use Rattle.type_trees.specs.Check.{IsTypeFault}
 use Rattle.type_trees.specs.declared.fault.TypeFault.{TypeFault}
 use Rattle.type_trees.specs.declared.fault.TypeFault.TheVariants as types
 use Rattle.pdb_merge.specs.Accepted.{IsAccepted, HasTypeRecords, ListsRecords, HasLongInfo, HasInfoFault, HasStreamFault, HasRecordsFault, HasPdbFault}
@@ -32,7 +32,7 @@ info_refused file layout (fault.Type inner) has refused = absurd refused
 info_refused file layout fault.Memory has refused = absurd refused
 
 -- a fault of the bytes of stream 2 is one of stream 2
-pub stream_refused : {A : Type 0} (file : List ℕ) (layout : LayoutView) (stream : List ℕ) (inner : TpiFault) (outer : PdbFault A) → stream_text file layout 2 ≡ Some stream → outer ≡ of_tpi inner
+pub stream_refused : {A : Type 0} (file : List ℕ) (layout : LayoutView) (stream : List ℕ) (inner : TpiFault) (outer : PdbFault A) → stream_contents file layout 2 ≡ Some stream → outer ≡ of_tpi inner
     → IsFirstFault stream inner ⊎ ((inner ≡ tpi.Memory) × ((records : List (List ℕ)) × HasRecords stream records)) → HasStreamFault file layout outer ⊎ (outer ≡ fault.Memory)
 stream_refused file layout stream tpi.Memory outer is made refused = inr made
 stream_refused file layout stream inner outer is made (inl first) = inl (rw made (stream, is, first))

@@ -3,8 +3,8 @@ use Rattle.std.proofs.Common.{ℕ, suc, ◌<◌, List, [], ◌∷◌, ◌++◌, 
 use Rattle.std.specs.List.{AllByRecursion, concat}
 use Rattle.std.proofs.lemmas.List.Elements.{Contains-get_or}
 use Rattle.byte_fields.specs.Bytes.{AreBytes}
-use Rattle.byte_fields.specs.Number.{words}
-use Rattle.byte_fields.proofs.BytesLaws.{bytes_append, bytes_first, bytes_drop, bytes_take, bytes_reverse, bytes_concat, bytes_each, words_are_bytes}
+use Rattle.byte_fields.specs.Number.{u32s}
+use Rattle.byte_fields.proofs.BytesLaws.{bytes_append, bytes_first, bytes_drop, bytes_take, bytes_reverse, bytes_concat, bytes_each, u32s_are_bytes}
 use Rattle.cv_leaves.proofs.FilledLaws.{filled_bytes, blanked_bytes}
 use Rattle.msf_streams.proofs.BytesLaws.{image_is_bytes, stream_is_bytes}
 use Rattle.pdb_info.specs.Guid.{stored_guid}
@@ -61,14 +61,14 @@ info_bytes settings are =
     let second = bytes_reverse (take 2 (drop 4 guid)) (bytes_take 2 (drop 4 guid) (bytes_drop 4 guid are.guid_bytes)) in
     let third = bytes_reverse (take 2 (drop 6 guid)) (bytes_take 2 (drop 6 guid) (bytes_drop 6 guid are.guid_bytes)) in
     let stored : AreBytes (stored_guid guid) = bytes_append _ (drop 8 guid) (bytes_append _ _ (bytes_append _ _ first second) third) (bytes_drop 8 guid are.guid_bytes) in
-    bytes_append (words (20000404 ∷ 0 ∷ settings.age ∷ [])) (stored_guid guid ++ words (0 ∷ 0 ∷ 8 ∷ 0 ∷ 0 ∷ 0 ∷ [])) (words_are_bytes (20000404 ∷ 0 ∷ settings.age ∷ []))
-    (bytes_append (stored_guid guid) (words (0 ∷ 0 ∷ 8 ∷ 0 ∷ 0 ∷ 0 ∷ [])) stored (words_are_bytes (0 ∷ 0 ∷ 8 ∷ 0 ∷ 0 ∷ 0 ∷ [])))
+    bytes_append (u32s (20000404 ∷ 0 ∷ settings.age ∷ [])) (stored_guid guid ++ u32s (0 ∷ 0 ∷ 8 ∷ 0 ∷ 0 ∷ 0 ∷ [])) (u32s_are_bytes (20000404 ∷ 0 ∷ settings.age ∷ []))
+    (bytes_append (stored_guid guid) (u32s (0 ∷ 0 ∷ 8 ∷ 0 ∷ 0 ∷ 0 ∷ [])) stored (u32s_are_bytes (0 ∷ 0 ∷ 8 ∷ 0 ∷ 0 ∷ 0 ∷ [])))
 
 types_bytes : (records : List (List ℕ)) → AllByRecursion AreBytes records → AreBytes (type_stream records)
 unfolding type_stream header_text
 types_bytes records each =
     let header = header_numbers (length records) (length (concat records)) in
-    bytes_append (words header) (concat records) (words_are_bytes header) (bytes_concat records each)
+    bytes_append (u32s header) (concat records) (u32s_are_bytes header) (bytes_concat records each)
 
 no_bytes : AreBytes []
 no_bytes i = omega arith

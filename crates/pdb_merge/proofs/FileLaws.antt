@@ -79,23 +79,23 @@ of_merged : (files : List (List ℕ)) (settings : SettingsView) (x : List ℕ) �
     → (merged : Merged (HasType files) settings x) → IsFileOf files settings x merged.0
 of_merged files settings x are within (records, canon, is_x) = rw is_x (is_file files settings records are within canon)
 
-pub merged_reads_back : (settings : SettingsView) → AreSettings settings → MergedReadsBack settings
+pub merged_reads_back : MergedReadsBack
 merged_reads_back settings are files x within merged = (merged.0, (of_merged files settings x are within merged).holds)
 
-pub merged_again : (settings : SettingsView) → AreSettings settings → MergedAgain settings
+pub merged_again : MergedAgain
 merged_again settings are files x within merged = let is = of_merged files settings x are within merged in (is.can, is.again)
 
-pub merged_has : (settings : SettingsView) → AreSettings settings → MergedHas settings
+pub merged_has : MergedHas
 merged_has settings are files x within (records, canon, is_x) t =
     rw is_x (file_has (HasType files) (merged_file settings records) records (is_back files settings records are within canon) t)
 
-pub merged_files_differ : (settings other : SettingsView) → AreSettings settings → AreSettings other → MergedFilesDiffer settings other
+pub merged_files_differ : MergedFilesDiffer
 merged_files_differ settings other are are_o files others x within within_o merged merged_o t =
     let s = merged_has settings are files x within merged t in
     let o = merged_has other are_o others x within_o merged_o t in
     (λ h. o.0 (s.1 h), λ h. s.0 (o.1 h))
 
-pub earlier_merge : (settings : SettingsView) → AreSettings settings → EarlierMerge settings
+pub earlier_merge : EarlierMerge
 earlier_merge settings are files others x within merged t =
     let all = types_of_first x others t in
     let both = types_of_both files others t in

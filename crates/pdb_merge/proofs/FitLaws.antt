@@ -10,23 +10,23 @@ use Rattle.pdb_info.specs.Settings.{SettingsView, AreSettings, record_limit}
 use Rattle.pdb_info.specs.Written.{info_text}
 use Rattle.pdb_info.specs.Guid.{stored_guid}
 use Rattle.tpi_records.specs.Written.{header_text, header_numbers}
-use Rattle.byte_fields.proofs.NumberLaws.{length-words}
+use Rattle.byte_fields.proofs.NumberLaws.{length-u32s}
 use Rattle.pdb_info.proofs.GuidLaws.{stored_is}
-use Rattle.byte_fields.specs.Number.{words}
+use Rattle.byte_fields.specs.Number.{u32s}
 use Rattle.pdb_merge.specs.Merged.{type_stream, merged_sizes, merged_texts}
 
 -- the info stream has 52 bytes
 pub length-info : (age : ℕ) (guid : List ℕ) → length guid ≡ 16 → length (info_text age guid) ≡ 52
 unfolding info_text
 length-info age guid long =
-    let front : List ℕ = words (20000404 ∷ 0 ∷ age ∷ []) in
-    let back : List ℕ = words (0 ∷ 0 ∷ 8 ∷ 0 ∷ 0 ∷ 0 ∷ []) in
+    let front : List ℕ = u32s (20000404 ∷ 0 ∷ age ∷ []) in
+    let back : List ℕ = u32s (0 ∷ 0 ∷ 8 ∷ 0 ∷ 0 ∷ 0 ∷ []) in
     let stored : length (stored_guid guid) ≡ 16 = ap length (stored_is guid long) in
-    omega (arith, length-append front (stored_guid guid ++ back), length-append (stored_guid guid) back, stored, length-words (20000404 ∷ 0 ∷ age ∷ []), length-words (0 ∷ 0 ∷ 8 ∷ 0 ∷ 0 ∷ 0 ∷ []))
+    omega (arith, length-append front (stored_guid guid ++ back), length-append (stored_guid guid) back, stored, length-u32s (20000404 ∷ 0 ∷ age ∷ []), length-u32s (0 ∷ 0 ∷ 8 ∷ 0 ∷ 0 ∷ 0 ∷ []))
 
 length-header : (count bytes : ℕ) → length (header_text count bytes) ≡ 56
 unfolding header_text
-length-header count bytes = length-words (header_numbers count bytes)
+length-header count bytes = length-u32s (header_numbers count bytes)
 
 pub length-stream : (records : List (List ℕ)) → length (type_stream records) ≡ 56 + length (concat records)
 unfolding type_stream

@@ -6,7 +6,7 @@ use Rattle.msf_blocks.specs.Layout.{LayoutView, HasLayout, layout_checks}
 use Rattle.msf_blocks.specs.declared.fault.MsfFault.{MsfFault}
 use Rattle.msf_blocks.specs.declared.fault.MsfFault.TheVariants as msf
 use Rattle.msf_blocks.proofs.FoundLaws.{layout_holds}
-use Rattle.msf_blocks.proofs.WantLaws.{layout_wants_none}
+use Rattle.msf_blocks.proofs.MemoryLaws.{layout_wants_none}
 use Rattle.pdb_merge.specs.Fault.{of_msf}
 use Rattle.pdb_merge.specs.declared.fault.PdbFault.{PdbFault}
 use Rattle.pdb_merge.specs.declared.fault.PdbFault.TheVariants.{Memory}

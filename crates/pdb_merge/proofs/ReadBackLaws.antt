@@ -16,7 +16,7 @@ use Rattle.type_trees.specs.Tree.{Tree, IsType, nothing}
 use Rattle.type_trees.specs.Canon.{text, texts, weight, Canonical}
 use Rattle.type_trees.specs.Finish.{IsCanonOf}
 use Rattle.pdb_merge.specs.Accepted.{IsAccepted}
-use Rattle.type_trees.specs.Checked.{AreTypes}
+use Rattle.type_trees.specs.Check.{AreTypes}
 use Rattle.type_trees.specs.Tree.{Stands, tree}
 use Rattle.type_trees.proofs.ReadLaws.{canonical_reads_back}
 use Rattle.type_trees.proofs.WeightLaws.{weight_of_texts, weight_grows}

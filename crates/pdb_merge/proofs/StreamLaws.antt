@@ -5,7 +5,7 @@ use Rattle.std.proofs.lemmas.Option.{slice_get_cases}
 use Rattle.std.proofs.lemmas.List.FromFn.{length-map-range_with_len}
 use Rattle.msf_blocks.specs.Directory.{Listed, bytes_of}
 use Rattle.msf_blocks.specs.Layout.{LayoutView}
-use Rattle.msf_streams.specs.Stream.{stream_text, text_of, gathered}
+use Rattle.msf_streams.specs.Stream.{stream_contents, text_of, gathered}
 use Rattle.pdb_merge.specs.Accepted.{HasLongInfo, HasShortInfo}
 
 length-text : (file : List ℕ) (block_size : ℕ) (stream : Listed) → length (text_of file block_size stream) ≡ bytes_of stream.size
@@ -38,7 +38,7 @@ not_listed found streams s is none = elim (slice_get_cases streams s).1 [
 ]
 
 -- a stream that has a text is listed
-pub is_listed : (file : List ℕ) (layout : LayoutView) (s : ℕ) (text : List ℕ) → stream_text file layout s ≡ Some text → s < length layout.streams
+pub is_listed : (file : List ℕ) (layout : LayoutView) (s : ℕ) (text : List ℕ) → stream_contents file layout s ≡ Some text → s < length layout.streams
 is_listed file layout s text is = elim (slice_get_cases layout.streams s).1 [
   | inl (stream, lt, e, at) ↦ lt
   | inr (le, e) ↦ let none = rw e at is in absurd cc

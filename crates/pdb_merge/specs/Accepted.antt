@@ -4,25 +4,25 @@ use Rattle.msf_streams.specs.declared.fault.StreamFault.TheVariants.{NoStream}
 use Rattle.byte_fields.specs.Bytes.{AreBytes}
 use Rattle.byte_fields.specs.Check.{first_failing}
 use Rattle.msf_blocks.specs.Layout.{LayoutView, HasLayout, layout_checks}
-use Rattle.msf_streams.specs.Stream.{stream_text}
+use Rattle.msf_streams.specs.Stream.{stream_contents}
 use Rattle.pdb_info.specs.declared.fault.InfoFault.TheVariants.{InfoShort}
 use Rattle.tpi_records.specs.Records.{HasRecords, IsFirstFault}
-use Rattle.type_trees.specs.Checked.{AreTypes, HasTypeFault}
+use Rattle.type_trees.specs.Check.{AreTypes, HasTypeFault}
 use Rattle.pdb_merge.specs.declared.fault.PdbFault.{PdbFault}
 use Rattle.pdb_merge.specs.declared.fault.PdbFault.TheVariants as fault
 
 -- there is a stream 1, and it has at least 28 bytes
 abbrev pub HasLongInfo : List ℕ → LayoutView → Type 0
-HasLongInfo file layout = (info : List ℕ) × (stream_text file layout 1 ≡ Some info) × (28 ≤ length info)
+HasLongInfo file layout = (info : List ℕ) × (stream_contents file layout 1 ≡ Some info) × (28 ≤ length info)
 
 -- there is a stream 1, and it has fewer than 28 bytes
 abbrev pub HasShortInfo : List ℕ → LayoutView → Type 0
-HasShortInfo file layout = (info : List ℕ) × (stream_text file layout 1 ≡ Some info) × (length info < 28)
+HasShortInfo file layout = (info : List ℕ) × (stream_contents file layout 1 ≡ Some info) × (length info < 28)
 
 -- a file with this layout has these type records; they are those of its stream 2
 pub record ListsRecords (file : List ℕ) (layout : LayoutView) (records : List (List ℕ)) : Type 0 where
   pub stream : List ℕ
-  pub is_stream : stream_text file layout 2 ≡ Some stream
+  pub is_stream : stream_contents file layout 2 ≡ Some stream
   pub has_records : HasRecords stream records
 
 -- the file has a layout, and these type records
@@ -47,7 +47,7 @@ HasInfoFault file layout _ = ⊥
 -- this is the first fault of stream 2: it is missing, or its bytes have this fault
 abbrev pub HasStreamFault : {A : Type 0} → List ℕ → LayoutView → PdbFault A → Type 0
 HasStreamFault file layout (fault.Stream inner) = (length layout.streams ≤ 2) × (inner ≡ NoStream 2)
-HasStreamFault file layout (fault.Tpi inner) = (stream : List ℕ) × (stream_text file layout 2 ≡ Some stream) × IsFirstFault stream inner
+HasStreamFault file layout (fault.Tpi inner) = (stream : List ℕ) × (stream_contents file layout 2 ≡ Some stream) × IsFirstFault stream inner
 HasStreamFault file layout _ = ⊥
 
 -- this is the first fault of the file on the way to its type records: a fault of its layout, else of stream 2

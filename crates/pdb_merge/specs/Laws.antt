@@ -1,6 +1,6 @@
 -- What holds of accepted files, and of the files that are written for their types.
 use Rattle.std.specs.Prelude.{ℕ, ◌≡◌, ◌≢◌, ◌⊎◌, ◌↔◌, List, [], ◌∷◌, ◌++◌}
-use Rattle.pdb_info.specs.Settings.{SettingsView, record_limit}
+use Rattle.pdb_info.specs.Settings.{SettingsView, AreSettings, record_limit}
 use Rattle.type_trees.specs.Tree.{Tree}
 use Rattle.pdb_merge.specs.Accepted.{IsAccepted}
 use Rattle.pdb_merge.specs.Union.{FileHas, HasTypeBelow, HasType, SameFiles, SameTypes, Weighs, Within, CanMerge, Stops}
@@ -12,36 +12,36 @@ use Rattle.pdb_merge.specs.declared.fault.MergeFault.TheVariants as merge
 abbrev pub OneListEach : Type 0
 OneListEach = (file : List ℕ) (some others : List (List ℕ)) → IsAccepted file some → IsAccepted file others → some ≡ others
 
--- ---- files that are written with these settings
+-- ---- files that are written with any settings
 
 -- a file that is written for the types of files is accepted, and has just these types
-abbrev pub MergedReadsBack : SettingsView → Type 0
-MergedReadsBack settings =
-    (files : List (List ℕ)) (x : List ℕ) → Within (HasType files) (record_limit settings) → Merged (HasType files) settings x
+abbrev pub MergedReadsBack : Type 0
+MergedReadsBack =
+    (settings : SettingsView) → AreSettings settings → (files : List (List ℕ)) (x : List ℕ) → Within (HasType files) (record_limit settings) → Merged (HasType files) settings x
     → (records : List (List ℕ)) × HoldsJust (HasType files) x records
 
 -- a file that is written for files has the types of these files
-abbrev pub MergedHas : SettingsView → Type 0
-MergedHas settings =
-    (files : List (List ℕ)) (x : List ℕ) → Within (HasType files) (record_limit settings) → Merged (HasType files) settings x
+abbrev pub MergedHas : Type 0
+MergedHas =
+    (settings : SettingsView) → AreSettings settings → (files : List (List ℕ)) (x : List ℕ) → Within (HasType files) (record_limit settings) → Merged (HasType files) settings x
     → (t : Tree) → FileHas x t ↔ HasType files t
 
 -- two lists of files have the same types if the same file is written for both, whatever the settings are
-abbrev pub MergedFilesDiffer : SettingsView → SettingsView → Type 0
-MergedFilesDiffer settings other =
-    (files others : List (List ℕ)) (x : List ℕ) → Within (HasType files) (record_limit settings) → Within (HasType others) (record_limit other)
+abbrev pub MergedFilesDiffer : Type 0
+MergedFilesDiffer =
+    (settings other : SettingsView) → AreSettings settings → AreSettings other → (files others : List (List ℕ)) (x : List ℕ) → Within (HasType files) (record_limit settings) → Within (HasType others) (record_limit other)
     → Merged (HasType files) settings x → Merged (HasType others) other x → SameTypes files others
 
 -- a file that is written for files can be merged alone, and this gives the same file again
-abbrev pub MergedAgain : SettingsView → Type 0
-MergedAgain settings =
-    (files : List (List ℕ)) (x : List ℕ) → Within (HasType files) (record_limit settings) → Merged (HasType files) settings x
+abbrev pub MergedAgain : Type 0
+MergedAgain =
+    (settings : SettingsView) → AreSettings settings → (files : List (List ℕ)) (x : List ℕ) → Within (HasType files) (record_limit settings) → Merged (HasType files) settings x
     → CanMerge (x ∷ []) (record_limit settings) × Merged (HasType (x ∷ [])) settings x
 
 -- the first files of a list may be replaced by the file that is written for them: the types stay the same
-abbrev pub EarlierMerge : SettingsView → Type 0
-EarlierMerge settings =
-    (files others : List (List ℕ)) (x : List ℕ) → Within (HasType files) (record_limit settings) → Merged (HasType files) settings x
+abbrev pub EarlierMerge : Type 0
+EarlierMerge =
+    (settings : SettingsView) → AreSettings settings → (files others : List (List ℕ)) (x : List ℕ) → Within (HasType files) (record_limit settings) → Merged (HasType files) settings x
     → SameTypes (x ∷ others) (files ++ others)
 
 -- the same file is written for all lists of files with the same types, whatever the limits are

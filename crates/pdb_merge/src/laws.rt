@@ -1,11 +1,10 @@
 //! What holds of accepted files, and of the files that are written for their types.
 //!
-//! Each function here does nothing: its contract is the law. A law on files that are written with
-//! some settings takes these settings.
+//! Each function here does nothing: its contract is the law. A law on written files holds for all
+//! settings.
 
 ghost use Rattle.pdb_merge.specs.Laws.{OneListEach, MergedReadsBack, MergedHas, MergedFilesDiffer, MergedAgain, EarlierMerge, OneMergedFile, TypesOfFirst, TypesOfBoth, AnyOrder, RefusedInAnyOrder, OneWeight};
 
-use pdb_info::Settings;
 use std::alloc::Allocator;
 
 /// A file is accepted with only one list of records.
@@ -14,42 +13,30 @@ pub fn one_list_each()
 {}
 
 /// A file that is written for the types of files is accepted, and has just these types.
-pub fn merged_reads_back(settings: &Settings)
-    ensures { MergedReadsBack settings.now }
-{
-    // This call tells the proof what holds of all settings.
-    let _ = settings.guid();
-}
+pub fn merged_reads_back()
+    ensures { MergedReadsBack }
+{}
 
 /// A file that is written for files has the types of these files.
-pub fn merged_has(settings: &Settings)
-    ensures { MergedHas settings.now }
-{
-    let _ = settings.guid();
-}
+pub fn merged_has()
+    ensures { MergedHas }
+{}
 
 /// Two lists of files have the same types if the same file is written for both.
-pub fn merged_files_differ(settings: &Settings, other: &Settings)
-    ensures { MergedFilesDiffer settings.now other.now }
-{
-    let _ = settings.guid();
-    let _ = other.guid();
-}
+pub fn merged_files_differ()
+    ensures { MergedFilesDiffer }
+{}
 
 /// A file that is written for files can be merged alone, and this gives the same file again.
-pub fn merged_again(settings: &Settings)
-    ensures { MergedAgain settings.now }
-{
-    let _ = settings.guid();
-}
+pub fn merged_again()
+    ensures { MergedAgain }
+{}
 
 /// The first files of a list may be replaced by the file that is written for them. The types stay
 /// the same.
-pub fn earlier_merge(settings: &Settings)
-    ensures { EarlierMerge settings.now }
-{
-    let _ = settings.guid();
-}
+pub fn earlier_merge()
+    ensures { EarlierMerge }
+{}
 
 /// The same file is written for all lists of files with the same types.
 pub fn one_merged_file()

@@ -4,7 +4,7 @@ ghost use Rattle.std.specs.Prelude.{◌≡◌, ◌≢◌, ◌⊎◌, ◌≤◌, 
 ghost use Rattle.std.specs.List.{concat};
 ghost use Rattle.msf_streams.specs.Image.{texts_of};
 ghost use Rattle.msf_streams.specs.Woven.{AppendsPart};
-ghost use Rattle.pdb_info.specs.Settings.{record_limit};
+ghost use Rattle.pdb_info.specs.Settings.{AreSettings, record_limit};
 ghost use Rattle.pdb_merge.specs.Merged.{merged_file, WroteFile, Wrote, WrotePart};
 ghost use Rattle.pdb_merge.specs.Union.{SameFiles, CanMerge, Stops};
 ghost use Rattle.pdb_merge.specs.declared.fault.MergeFault.{MergeFault};
@@ -40,22 +40,20 @@ fn write_canon<W: Sink, A: Allocator + Copy>(
     out: &mut W,
 ) -> Result<Summary, OutFault<A>>
     requires { length (concat canon.now) ≤ record_limit settings.now }
+    ensures settings { AreSettings settings.now }
     ensures value { IfOk result (WroteFile canon.now settings.now (W.taken out.old) (W.taken out.new)) }
     ensures fault { IfErr result (λ fault. (fault ≡ OutFault.Memory) ⊎ (fault ≡ OutFault.Write)) }
     ensures write { IfErr result (λ fault. fault ≡ OutFault.Write → (W.is_broken out.new ≡ true)
         × AppendsPart (W.taken out.old) (W.taken out.new) (merged_file settings.now canon.now)) }
     ensures untouched { IfErr result (λ fault. fault ≢ OutFault.Write → out.new ≡ out.old) }
 {
-    // This call tells the proof what holds of all settings.
-    let _ = settings.guid();
+    let bytes = canon.bytes_len();
+    let length = merged_len(settings, bytes);
     if let Err(fault) = write_merged(alloc, canon, settings, out) {
         return Err(out_fault(fault));
     }
-    let count = canon.len();
-    let bytes = canon.bytes_len();
-    let length = merged_len(settings, bytes);
     Ok(Summary {
-        types: count as u32,
+        types: canon.len() as u32,
         bytes,
         length,
     })
@@ -87,8 +85,6 @@ pub fn merge_to<W: Sink, S: BuildHasher + Drop, A: Allocator + Copy>(
         × WrotePart (texts_of files.now) settings.now (W.taken out.old) (W.taken out.new)) }
     ensures untouched { IfErr result (λ fault. fault ≢ OutFault.Write → out.new ≡ out.old) }
 {
-    // This call tells the proof what holds of all settings.
-    let _ = settings.guid();
     let canon = merge_files(alloc, files, settings, hasher)?;
     write_canon(alloc, &canon, settings, out)
 }

@@ -6,7 +6,7 @@ ghost use Rattle.std.specs.Io.KnownBytes.{Appends};
 ghost use Rattle.msf_streams.specs.Image.{Fits, Writable, image, image_length};
 ghost use Rattle.msf_streams.specs.Woven.{AppendsPart};
 ghost use Rattle.msf_blocks.specs.BlockNumber.{IsBlockSize};
-ghost use Rattle.pdb_info.specs.Settings.{record_limit};
+ghost use Rattle.pdb_info.specs.Settings.{AreSettings, record_limit};
 ghost use Rattle.tpi_records.specs.Written.{header_text};
 ghost use Rattle.pdb_merge.specs.Merged.{parts_texts, merged_sizes, merged_texts, merged_file};
 
@@ -101,7 +101,8 @@ pub fn write_merged<W: Sink, A: Allocator + Copy>(
 #[tactic(auto, using(pdb_info::proofs::SettingsLaws::records_fit))]
 pub fn merged_len(settings: &Settings, bytes: u32) -> u32
     requires { bytes ≤ record_limit settings.now }
-    ensures { result ≡ image_length settings.now.block_size (merged_sizes bytes) }
+    ensures value { result ≡ image_length settings.now.block_size (merged_sizes bytes) }
+    ensures settings { AreSettings settings.now }
 {
     let Some(length) = file_len(settings.block_size(), bytes) else {
         return 0;

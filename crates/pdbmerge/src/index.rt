@@ -1,15 +1,15 @@
 //! A type index as an argument of the command line.
 
 ghost use Rattle.std.specs.Prelude.{IfSome, IfNone, ℕ};
-ghost use Rattle.pdbmerge.specs.Index.{IsIndexWord};
+ghost use Rattle.pdbmerge.specs.Index.{IsIndexArgument};
 
 /// The type index that a word is: `0x` and 1 to 8 hexadecimal digits of either case, and nothing
 /// else. `None` for any other word. This does not allocate.
-pub fn read_index(word: &str) -> Option<u32>
-    ensures value { IfSome result (IsIndexWord word.now) }
-    ensures none { IfNone result ((value : ℕ) → IsIndexWord word.now value → ⊥) }
+pub fn read_index(argument: &str) -> Option<u32>
+    ensures value { IfSome result (IsIndexArgument argument.now) }
+    ensures none { IfNone result ((value : ℕ) → IsIndexArgument argument.now value → ⊥) }
 {
-    let digits = word.strip_prefix("0x")?;
+    let digits = argument.strip_prefix("0x")?;
     // `from_str_radix` accepts a sign before a number, but a type index has no sign.
     if digits.len() > 8 || digits.starts_with('+') {
         return None;

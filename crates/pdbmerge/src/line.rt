@@ -43,7 +43,7 @@ const STREAMS: &str = "Shows the container: its blocks, and each stream with its
 /// The exit statuses, at the end of each help text.
 const STATUSES: &str =
     "Exit status: 0 done; 1 refused, with one line on standard error that begins \
-    with 'pdbmerge: '\nand the fault's number and name; 2 the words are wrong.";
+    with 'pdbmerge: '\nand the fault's number and name; 2 the arguments are wrong.";
 
 /// The limit of `merge` where its arguments give none, in bytes.
 const LIMIT: u32 = 1_073_741_824;
@@ -95,7 +95,7 @@ pub enum LineFault {
     /// The arguments are refused, or they ask for help. The error has the text to print.
     Refused(clap::Error),
     /// An argument has no value that the command can use.
-    Word,
+    Argument,
     /// Out of memory.
     Memory,
 }
@@ -135,7 +135,7 @@ impl LineFault {
     {
         match self {
             LineFault::Refused(error) => { if error.use_stderr() { 2 } else { 0 } }
-            LineFault::Word => 2,
+            LineFault::Argument => 2,
             LineFault::Memory => 1,
         }
     }
@@ -227,93 +227,93 @@ fn program<'a>(alloc: Global) -> Result<Command<'a>, AllocError> {
 }
 
 /// A copy of the argument that has a name.
-fn word_of(alloc: Global, words: &ArgMatches<'_>, name: &str) -> Result<String, LineFault> {
-    match words.get_str(name) {
-        Some(word) => Ok(String::from_str(alloc, word)?),
-        None => Err(LineFault::Word),
+fn argument_of(alloc: Global, arguments: &ArgMatches<'_>, name: &str) -> Result<String, LineFault> {
+    match arguments.get_str(name) {
+        Some(argument) => Ok(String::from_str(alloc, argument)?),
+        None => Err(LineFault::Argument),
     }
 }
 
 /// The file that a command names.
-fn file_of(alloc: Global, words: &ArgMatches<'_>) -> Result<String, LineFault> {
-    word_of(alloc, words, "FILE")
+fn file_of(alloc: Global, arguments: &ArgMatches<'_>) -> Result<String, LineFault> {
+    argument_of(alloc, arguments, "FILE")
 }
 
 /// The type index that a command names.
-fn index_of(words: &ArgMatches<'_>) -> Result<u32, LineFault> {
-    words
+fn index_of(arguments: &ArgMatches<'_>) -> Result<u32, LineFault> {
+    arguments
         .get_str("INDEX")
         .and_then(read_index)
-        .ok_or(LineFault::Word)
+        .ok_or(LineFault::Argument)
 }
 
 /// The number in the argument that has a name.
-fn number_of(words: &ArgMatches<'_>, name: &str) -> Result<u32, LineFault> {
-    let word = words.get_str(name).ok_or(LineFault::Word)?;
-    word.parse().map_err(|_| LineFault::Word)
+fn number_of(arguments: &ArgMatches<'_>, name: &str) -> Result<u32, LineFault> {
+    let argument = arguments.get_str(name).ok_or(LineFault::Argument)?;
+    argument.parse().map_err(|_| LineFault::Argument)
 }
 
 /// The number in the argument that has a name, or `default` where there is no such argument.
-fn number_or(words: &ArgMatches<'_>, name: &str, default: u32) -> Result<u32, LineFault> {
-    if words.contains_id(name) {
-        number_of(words, name)
+fn number_or(arguments: &ArgMatches<'_>, name: &str, default: u32) -> Result<u32, LineFault> {
+    if arguments.contains_id(name) {
+        number_of(arguments, name)
     } else {
         Ok(default)
     }
 }
 
 /// The settings of the file that is written.
-fn settings_of(words: &ArgMatches<'_>) -> Result<Settings, LineFault> {
-    let guid = words.get_str("guid").ok_or(LineFault::Word)?;
-    let guid = Uuid::parse_str(guid).map_err(|_| LineFault::Word)?;
-    let age = number_of(words, "age")?;
-    let limit = number_or(words, "limit", LIMIT)?;
-    let block_size = number_or(words, "block-size", BLOCK_SIZE)?;
-    Settings::new(guid, age, limit, block_size).ok_or(LineFault::Word)
+fn settings_of(arguments: &ArgMatches<'_>) -> Result<Settings, LineFault> {
+    let guid = arguments.get_str("guid").ok_or(LineFault::Argument)?;
+    let guid = Uuid::parse_str(guid).map_err(|_| LineFault::Argument)?;
+    let age = number_of(arguments, "age")?;
+    let limit = number_or(arguments, "limit", LIMIT)?;
+    let block_size = number_or(arguments, "block-size", BLOCK_SIZE)?;
+    Settings::new(guid, age, limit, block_size).ok_or(LineFault::Argument)
 }
 
 /// The files that are merged.
-fn inputs_of(alloc: Global, words: &ArgMatches<'_>) -> Result<Vec<String>, LineFault> {
+fn inputs_of(alloc: Global, arguments: &ArgMatches<'_>) -> Result<Vec<String>, LineFault> {
     let mut inputs = Vec::new(alloc);
-    for input in words.get_strs("IN").ok_or(LineFault::Word)? {
+    for input in arguments.get_strs("IN").ok_or(LineFault::Argument)? {
         inputs.push(String::from_str(alloc, input)?)?;
     }
     Ok(inputs)
 }
 
 /// Reads the arguments of a command line, which come without the program's name.
-pub fn read_line(alloc: Global, words: &[String]) -> Result<Line, LineFault>
-    ensures usage { words.now ≡ [] → result ≡ Ok Line.Usage }
+pub fn read_line(alloc: Global, arguments: &[String]) -> Result<Line, LineFault>
+    ensures usage { arguments.now ≡ [] → result ≡ Ok Line.Usage }
 {
-    if words.is_empty() {
+    if arguments.is_empty() {
         return Ok(Line::Usage);
     }
-    let matches = program(alloc)?.try_get_matches_from(words)?;
+    let matches = program(alloc)?.try_get_matches_from(arguments)?;
     match matches.subcommand() {
-        Some(("records", words)) => Ok(Line::Records {
-            file: file_of(alloc, words)?,
+        Some(("records", arguments)) => Ok(Line::Records {
+            file: file_of(alloc, arguments)?,
         }),
-        Some(("record", words)) => Ok(Line::Record {
-            file: file_of(alloc, words)?,
-            index: index_of(words)?,
+        Some(("record", arguments)) => Ok(Line::Record {
+            file: file_of(alloc, arguments)?,
+            index: index_of(arguments)?,
         }),
-        Some(("types", words)) => Ok(Line::Types {
-            file: file_of(alloc, words)?,
+        Some(("types", arguments)) => Ok(Line::Types {
+            file: file_of(alloc, arguments)?,
         }),
-        Some(("check", words)) => Ok(Line::Check {
-            file: file_of(alloc, words)?,
+        Some(("check", arguments)) => Ok(Line::Check {
+            file: file_of(alloc, arguments)?,
         }),
-        Some(("streams", words)) => Ok(Line::Streams {
-            file: file_of(alloc, words)?,
+        Some(("streams", arguments)) => Ok(Line::Streams {
+            file: file_of(alloc, arguments)?,
         }),
-        Some(("info", words)) => Ok(Line::Info {
-            file: file_of(alloc, words)?,
+        Some(("info", arguments)) => Ok(Line::Info {
+            file: file_of(alloc, arguments)?,
         }),
-        Some(("merge", words)) => Ok(Line::Merge {
-            settings: settings_of(words)?,
-            out: word_of(alloc, words, "OUT")?,
-            inputs: inputs_of(alloc, words)?,
+        Some(("merge", arguments)) => Ok(Line::Merge {
+            settings: settings_of(arguments)?,
+            out: argument_of(alloc, arguments, "OUT")?,
+            inputs: inputs_of(alloc, arguments)?,
         }),
-        _ => Err(LineFault::Word),
+        _ => Err(LineFault::Argument),
     }
 }

@@ -15,8 +15,8 @@ mod index;
 mod line;
 mod output;
 
-use line::{Line, LineFault, USAGE, read_line};
 use byte_io::{In, Out, put_all};
+use line::{Line, LineFault, USAGE, read_line};
 use output::NewFile;
 use pdb_commands::{
     ReadFault, RunFault, read_all, run_check, run_info, run_merge, run_record, run_records,
@@ -78,12 +78,12 @@ impl From<RunFault> for ProgramFault {
 }
 
 /// The arguments of the command line, without the program's name.
-fn words<R: Env + AllocGlobal>(rt: &R) -> Result<Vec<String>, LineFault> {
+fn arguments<R: Env + AllocGlobal>(rt: &R) -> Result<Vec<String>, LineFault> {
     match env::args(rt) {
         Ok(args) => Ok(args.skip(1).collect(rt.alloc())?),
         Err(error) if error.kind() == ErrorKind::OutOfMemory => Err(LineFault::Memory),
         // An argument is not UTF-8.
-        Err(_) => Err(LineFault::Word),
+        Err(_) => Err(LineFault::Argument),
     }
 }
 
@@ -216,7 +216,7 @@ fn run<R: Files + Print + AllocGlobal + RandomSource>(
 fn explain<R: Print + Eprint>(rt: &R, fault: &LineFault) -> io::Result<()> {
     match fault {
         LineFault::Refused(error) => error.print(rt),
-        LineFault::Word => eprintln!(rt; "pdbmerge: wrong word"),
+        LineFault::Argument => eprintln!(rt; "pdbmerge: wrong argument"),
         LineFault::Memory => eprintln!(rt; "pdbmerge: 33 Memory"),
     }
 }
@@ -229,7 +229,7 @@ fn refuse<R: Eprint>(rt: &R, fault: &ProgramFault) -> ExitCode {
 }
 
 fn main(rt: HostRuntime) -> ExitCode {
-    let line = match words(&rt).and_then(|words| read_line(rt.alloc(), &words)) {
+    let line = match arguments(&rt).and_then(|arguments| read_line(rt.alloc(), &arguments)) {
         Ok(line) => line,
         Err(fault) => {
             return match explain(&rt, &fault) {

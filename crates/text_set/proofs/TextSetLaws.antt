@@ -71,6 +71,13 @@ placed_kept h texts after hashes hashes_after text hash placed distinct are is l
   | inr more ↦ (rw more.0 (distinct_pushed texts text distinct long more.2), rw (more.0, more.1) (hashes_pushed h texts hashes text hash are is))
 ]
 
+-- there are few texts when a text is placed
+pub placed_few : (texts after : List (List ℕ)) (hashes hashes_after : List ℕ) (text : List ℕ) (hash : ℕ) → Placed texts after hashes hashes_after text hash → length texts + 1 < 2 ^ 31 → length after < 2 ^ 31
+placed_few texts after hashes hashes_after text hash placed few = elim placed [
+  | inl same ↦ rw same.0 (omega (arith, few))
+  | inr more ↦ rw more.0 (omega (arith, few, length-append texts (text ∷ [])))
+]
+
 -- the set holds the text that was placed
 pub placed_holds : (texts after : List (List ℕ)) (hashes hashes_after : List ℕ) (text : List ℕ) (hash : ℕ) → Placed texts after hashes hashes_after text hash → Holds texts after text
 placed_holds texts after hashes hashes_after text hash placed = elim placed [ inl same ↦ inl same.0 | inr more ↦ inr (more.0, more.2) ]

@@ -116,6 +116,7 @@ impl<S: BuildHasher, A: Allocator> TextSet<S, A> {
         ensures at { IfOk result (λ k. (k < length self.new) × (get_or self.new k [] ≡ text.now)) }
         ensures holds { IfOk result (λ _. Holds self.old self.new text.now) }
         ensures err { IfErr result (λ _. self.new ≡ self.old) }
+        ensures small { length self.new < 2 ^ 31 }
     {
         if let Some(position) = self.predicted(after, text) {
             return Ok(position);

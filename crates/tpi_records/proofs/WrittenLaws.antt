@@ -2,18 +2,18 @@
 use Rattle.std.proofs.Common.{◌≡◌, ℕ, ◌+◌, ◌*◌, ◌<◌, ◌^◌, List, ◌++◌, length, get_or, arith}
 use Rattle.std.specs.List.{concat}
 use Rattle.std.proofs.lemmas.List.{length-append, drop_at}
-use Rattle.byte_fields.specs.Number.{number_at, word}
-use Rattle.byte_fields.proofs.NumberLaws.{word-words, length-words}
+use Rattle.byte_fields.specs.Number.{number_at, nth_u32}
+use Rattle.byte_fields.proofs.NumberLaws.{nth_u32-u32s, length-u32s}
 use Rattle.tpi_records.specs.Written.{header_numbers, header_text, HeadsRecords}
 
 -- each number of the header reads back
 number_back : (count bytes : ℕ) (rest : List ℕ) (k : ℕ) → k < 14 → get_or (header_numbers count bytes) k 0 < 2 ^ 32 → number_at 4 (header_text count bytes ++ rest) (4 * k) ≡ get_or (header_numbers count bytes) k 0
-unfolding header_text word
-number_back count bytes rest k lt small = word-words (header_numbers count bytes) rest k lt small
+unfolding header_text nth_u32
+number_back count bytes rest k lt small = nth_u32-u32s (header_numbers count bytes) rest k lt small
 
 length-header : (count bytes : ℕ) → length (header_text count bytes) ≡ 56
 unfolding header_text
-length-header count bytes = length-words (header_numbers count bytes)
+length-header count bytes = length-u32s (header_numbers count bytes)
 
 -- the records after the header are those that it announces
 pub heads_records : (count bytes : ℕ) (header : List ℕ) → header ≡ header_text count bytes → 0x1000 + count < 2 ^ 32 → bytes < 2 ^ 32 → HeadsRecords header count bytes

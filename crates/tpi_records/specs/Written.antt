@@ -1,7 +1,7 @@
 -- The header of a TPI stream that is written ("The PDB TPI and IPI Streams", "Stream Header").
 use Rattle.std.specs.Prelude.{ℕ, ◌≡◌, ◌+◌, List, [], ◌∷◌, ◌++◌, length}
 use Rattle.std.specs.List.{concat, AllByRecursion}
-use Rattle.byte_fields.specs.Number.{words}
+use Rattle.byte_fields.specs.Number.{u32s}
 use Rattle.tpi_records.specs.Records.{IsRecord, HasRecords}
 
 -- the numbers of the header: the version, the header's length, the first type index, the type index after the last record, the length of the records in bytes;
@@ -12,7 +12,7 @@ header_numbers count bytes =
 
 -- the header of a stream with `count` records, which have `bytes` bytes together
 unfoldable pub header_text : ℕ → ℕ → List ℕ
-header_text count bytes = words (header_numbers count bytes)
+header_text count bytes = u32s (header_numbers count bytes)
 
 -- a stream that begins with this header and continues with `count` records of `bytes` bytes together has these records
 abbrev pub HeadsRecords : List ℕ → ℕ → ℕ → Type 0

@@ -168,6 +168,7 @@ impl<'a, A: Allocator> Records<'a, A> {
         ensures each { AllByRecursion IsRecord self.now }
         // So the type index of each record fits in a u32.
         ensures few { result < 2 ^ 30 }
+        ensures short { length (concat self.now) < 2 ^ 32 }
     {
         self.starts.len()
     }
@@ -202,7 +203,9 @@ impl<'a, A: Allocator> Records<'a, A> {
     ///
     /// This does not allocate.
     pub fn iter(&self) -> Iter<'a>
-        ensures { result ≡ self.now }
+        ensures value { result ≡ self.now }
+        ensures each { AllByRecursion IsRecord result }
+        ensures few { length result < 2 ^ 30 }
     {
         Iter::over(self.bytes)
     }

@@ -18,7 +18,7 @@ use Rattle.type_trees.specs.Named.{graph_of}
 use Rattle.type_trees.specs.Canon.{weight}
 use Rattle.byte_fields.specs.Bytes.{AreBytes}
 use Rattle.type_trees.specs.Table.{IsTable, IsUnion, AreNumbered, EachNamed, renumber, renumbered}
-use Rattle.type_trees.specs.Checked.{AreTypes}
+use Rattle.type_trees.specs.Check.{AreTypes}
 use Rattle.type_trees.specs.Merge.{Adds}
 use Rattle.type_trees.specs.declared.fault.JoinFault.TheVariants as JoinFault
 use Rattle.text_set.proofs.TextSetLaws.{four_each}

@@ -7,7 +7,7 @@ use Rattle.topological_order.proofs.OrderLaws.{names_inside, ranked_uncaught}
 use Rattle.topological_order.proofs.CycleLaws as graph
 use Rattle.type_trees.specs.Named.{graph_of}
 use Rattle.type_trees.specs.Laws.{OneCycle, CyclesHaveNoRank}
-use Rattle.type_trees.specs.Checked.{AreTypes, HasTypeFault, IsCycleFault}
+use Rattle.type_trees.specs.Check.{AreTypes, HasTypeFault, IsCycleFault}
 use Rattle.type_trees.specs.declared.fault.RecordFault.TheVariants as inner
 use Rattle.type_trees.specs.declared.fault.TypeFault.{TypeFault}
 use Rattle.type_trees.specs.declared.fault.TypeFault.TheVariants as fault

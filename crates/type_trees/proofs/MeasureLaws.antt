@@ -9,7 +9,7 @@ use Rattle.topological_order.proofs.WalkLaws.{none_in}
 use Rattle.cv_leaves.specs.References.{references}
 use Rattle.type_trees.specs.Tree.{Tree, tree, Stands}
 use Rattle.type_trees.specs.Named.{graph_of}
-use Rattle.type_trees.specs.Checked.{AreTypes, NamesThere}
+use Rattle.type_trees.specs.Check.{AreTypes, NamesThere}
 use Rattle.type_trees.specs.Depth.{depth, depth_above, AreDepths, AreMeasured, AreBelow, HasLevels}
 use Rattle.type_trees.proofs.TreeLaws.{tree_there}
 use Rattle.type_trees.proofs.NamedLaws.{many_nodes}

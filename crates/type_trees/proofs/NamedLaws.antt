@@ -14,7 +14,7 @@ use Rattle.topological_order.proofs.OrderLaws.{in_cons, in_head, in_tail, names_
 use Rattle.cv_leaves.specs.References.{reference_at, references}
 use Rattle.type_trees.specs.Tree.{IsRanked, NamesLower}
 use Rattle.type_trees.specs.Named.{positions_in, named_by, graph_of}
-use Rattle.type_trees.specs.Checked.{NamesThere, AllNameThere}
+use Rattle.type_trees.specs.Check.{NamesThere, AllNameThere}
 use Rattle.type_trees.proofs.TreeLaws.{at_position}
 
 -- ---- The positions that references name

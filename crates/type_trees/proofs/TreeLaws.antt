@@ -8,7 +8,7 @@ use Rattle.cv_leaves.specs.References.{references, blanked}
 use Rattle.type_trees.specs.Tree.{Tree, Branches, tree, no_branch, simple, branch, count, trees_in, IsClosed, AreClosed, Stands, AreBranches, IsType, IsRanked, NamesLower}
 use Rattle.type_trees.specs.Laws.{OneTreeEach, BranchesAreTypes}
 use Rattle.type_trees.specs.Table.{AreGood, StandingIsClosed}
-use Rattle.type_trees.specs.Checked.{AreTypes}
+use Rattle.type_trees.specs.Check.{AreTypes}
 use Rattle.cv_leaves.proofs.FilledLaws.{reference_each, blanked_checked, blanked_framed, blanked_places, blanked_stays}
 use Rattle.tpi_records.specs.Records.{IsRecord}
 

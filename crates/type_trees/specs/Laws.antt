@@ -4,7 +4,7 @@ use Rattle.std.specs.List.{AllByRecursion, AllPairs, Contains, concat}
 use Rattle.type_trees.specs.Tree.{Tree, nothing, branches_of, trees_in, IsClosed, Stands, IsType, IsRanked}
 use Rattle.type_trees.specs.Canon.{text, texts, weight, HoldsBranches, Canonical}
 use Rattle.type_trees.specs.Table.{AreGood}
-use Rattle.type_trees.specs.Checked.{AreTypes, IsCycle}
+use Rattle.type_trees.specs.Check.{AreTypes, IsCycle}
 
 -- there is exactly one tree at each position of records that make types, and it is closed
 abbrev pub OneTreeEach : Type 0

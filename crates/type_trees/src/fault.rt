@@ -2,7 +2,7 @@
 
 ghost use Rattle.std.specs.Prelude.{◌≡◌};
 ghost use Rattle.type_trees.specs.declared.fault.TypeFault.TheVariants.{Memory};
-ghost use Rattle.type_trees.specs.Checked.{IsOfRecord};
+ghost use Rattle.type_trees.specs.Check.{IsOfRecord};
 ghost use Rattle.type_trees.specs.declared.fault.JoinFault.TheVariants as join;
 
 use cv_leaves::LeafFault;

@@ -1,16 +1,15 @@
 //! The graph of records: which records each record names.
 
-ghost use Rattle.std.specs.Prelude.{◌≡◌, IfOk, OnOk};
+ghost use Rattle.std.specs.Prelude.{◌≡◌, ◌<◌, ◌^◌, length, IfOk, OnOk};
 ghost use Rattle.std.specs.List.{AllByRecursion};
 ghost use Rattle.tpi_records.specs.Records.{IsRecord};
 ghost use Rattle.cv_leaves.specs.Place.{IsChecked};
 ghost use Rattle.type_trees.specs.Named.{named_by, graph_of};
 
-use crate::reference::FIRST_INDEX;
 use cv_leaves::{places, ref_at};
 use std::alloc::{AllocError, Allocator};
 use topological_order::Graph;
-use tpi_records::Records;
+use tpi_records::{FIRST_INDEX, Records};
 
 /// Replaces the contents of the list with the positions of the records that a record names.
 fn list_named<A: Allocator>(named: &mut Vec<u32, A>, bytes: &[u8]) -> Result<(), AllocError>
@@ -33,10 +32,9 @@ pub fn graph_of<A: Allocator + Copy>(
     records: &Records<'_, A>,
 ) -> Result<Graph<A>, AllocError>
     requires { AllByRecursion IsChecked records.now }
-    ensures { IfOk result (λ graph. graph ≡ graph_of records.now) }
+    ensures value { IfOk result (λ graph. graph ≡ graph_of records.now) }
+    ensures few { IfOk result (λ _. length records.now < 2 ^ 30) }
 {
-    // This call tells the proof that all records have fewer than 2^32 bytes.
-    let _ = records.bytes_len();
     let mut graph = Graph::with_capacity(alloc, records.len())?;
     let mut named = Vec::new(alloc);
     for bytes in records.iter() {

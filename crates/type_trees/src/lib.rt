@@ -20,7 +20,7 @@
 //!   by their positions in the list. Equal sets have equal canonical lists.
 //!
 //! What is proved: records are accepted exactly where they make types (`AreTypes` of
-//! `specs/Checked`: each record is whole and has places, and some rank makes each record higher
+//! `specs/Check`: each record is whole and has places, and some rank makes each record higher
 //! than those that it names), unless this runs out of memory. A refusal names the first check that
 //! fails, and for a cycle exactly the records that lead into one (`IsCycle`). Each record that is
 //! lent is whole and has places. Each depth is that of the tree at that position. A table and a
@@ -34,13 +34,13 @@
 
 mod canon;
 mod canon_records;
+mod check;
 mod depth;
 mod fault;
 mod finish;
 mod graph;
 pub mod laws;
 mod order;
-mod reference;
 mod renumber;
 mod table;
 mod types;

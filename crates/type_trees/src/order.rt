@@ -9,15 +9,14 @@ ghost use Rattle.topological_order.specs.Order.{IsOrder};
 ghost use Rattle.type_trees.specs.Tree.{IsRanked};
 ghost use Rattle.type_trees.specs.Named.{graph_of};
 ghost use Rattle.type_trees.specs.Order.{order_list};
-ghost use Rattle.type_trees.specs.Checked.{AllNameThere, IsCycleFault};
+ghost use Rattle.type_trees.specs.Check.{AllNameThere, IsCycleFault};
 
 use crate::fault::TypeFault;
 use crate::graph::graph_of;
-use crate::reference::FIRST_INDEX;
 use std::alloc::{Allocator, Global};
 use std::marker::Model;
 use topological_order::{OrderFault, topological_order};
-use tpi_records::Records;
+use tpi_records::{FIRST_INDEX, Records};
 
 /// The bytes of the record at a position. The record is whole: it begins with its length field.
 pub fn record_at<'a, A: Allocator>(records: &Records<'a, A>, position: usize) -> &'a [u8]
@@ -86,8 +85,6 @@ pub fn arrange<A: Allocator + Copy>(
     if lower {
         return Ok(Order::AsTheyStand);
     }
-    // This call tells the proof that there are fewer than 2^30 records.
-    let _ = records.len();
     let graph = graph_of(alloc, records)?;
     match topological_order(alloc, &graph) {
         Ok(order) => Ok(Order::Listed(order)),

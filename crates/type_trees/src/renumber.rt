@@ -6,8 +6,8 @@ ghost use Rattle.cv_leaves.specs.Place.{IsChecked};
 ghost use Rattle.cv_leaves.specs.References.{references};
 ghost use Rattle.type_trees.specs.Table.{renumber_one, renumbered, AreNumbered};
 
-use crate::reference::FIRST_INDEX;
 use cv_leaves::{places, ref_at, set_ref};
+use tpi_records::FIRST_INDEX;
 
 /// The new type index for a reference. A simple one stays as it is.
 #[tactic(auto, unfolding(crate::specs::Table::renumber_one))]

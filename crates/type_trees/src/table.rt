@@ -48,19 +48,14 @@ fn add_record<S: BuildHasher, A: Allocator>(
     ensures at { IfOk result (λ k. (k < length texts.new) × (get_or texts.new k [] ≡ renumbered (λ p. get_or positions.now p 0) bytes.now)) }
     ensures holds { IfOk result (λ _. Holds texts.old texts.new (renumbered (λ p. get_or positions.now p 0) bytes.now)) }
     ensures bytes { IfOk result (λ _. AreBytes (renumbered (λ p. get_or positions.now p 0) bytes.now)) }
-    ensures small { length texts.new < 2 ^ 31 }
+    ensures small { IfOk result (λ _. length texts.new < 2 ^ 31) }
     ensures err { IfErr result (λ _. texts.new ≡ texts.old) }
 {
     copy.clear();
-    let copied = copy.extend_from_slice(bytes);
-    // This call tells the proof that there are few texts.
-    let _ = texts.len();
-    copied?;
+    copy.extend_from_slice(bytes)?;
     renumber(bytes, positions, copy);
     are_bytes(copy);
-    let position = texts.intern(copy, last);
-    let _ = texts.len();
-    position
+    texts.intern(copy, last)
 }
 
 /// Puts all types into the set. If this runs out of memory, some of them stay there.
@@ -76,8 +71,6 @@ fn add_all<S: BuildHasher, A: Allocator + Copy>(
 {
     let mut positions = vec![in alloc; 0u32; types.len()]?;
     let mut copy = Vec::new(alloc);
-    // This call tells the proof that all types have fewer than 2^32 bytes.
-    let _ = types.bytes_len();
     let mut last = 0;
     for position in types.in_order() {
         let bytes = record_at(types.records(), position);
@@ -138,7 +131,6 @@ impl<S: BuildHasher, A: Allocator + Copy> Table<S, A> {
         ensures large { IfErr result (λ fault. (bytes : ℕ) → fault ≡ JoinFault.TooLarge bytes → (limit < bytes) × ((l : List Tree) × IsUnion l self.old types.now × (weight l ≡ bytes))) }
     {
         let before = self.texts.len();
-        let _ = self.texts.bytes();
         let added = add_all(alloc, &mut self.texts, types);
         let bytes = self.texts.bytes().len() as u64;
         if let Err(fault) = added {

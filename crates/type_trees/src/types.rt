@@ -9,12 +9,12 @@ ghost use Rattle.topological_order.specs.Order.{IsOrder};
 ghost use Rattle.type_trees.specs.Tree.{Tree, Stands, IsRanked};
 ghost use Rattle.type_trees.specs.Named.{graph_of};
 ghost use Rattle.type_trees.specs.Depth.{depth, HasLevels};
-ghost use Rattle.type_trees.specs.Checked.{AreTypes, checks_of, IsTypeFault};
+ghost use Rattle.type_trees.specs.Check.{AreTypes, checks_of, IsTypeFault};
 
+use crate::check::check_record;
 use crate::depth::measure;
 use crate::fault::{RecordFault, TypeFault};
 use crate::order::{InOrder, Order, arrange};
-use crate::reference::check_record;
 use std::alloc::{Allocator, Global};
 use std::marker::Model;
 use tpi_records::Records;
@@ -36,7 +36,7 @@ impl<'a, A: Allocator> Model for Types<'a, A> {
     ghost use Rattle.std.specs.Prelude.{List, ℕ, ◌≡◌, length};
     ghost use Rattle.topological_order.specs.Order.{IsOrder};
     ghost use Rattle.type_trees.specs.Named.{graph_of};
-    ghost use Rattle.type_trees.specs.Checked.{AreTypes};
+    ghost use Rattle.type_trees.specs.Check.{AreTypes};
     ghost use Rattle.type_trees.specs.Order.{order_list};
     ghost use Rattle.type_trees.specs.Depth.{AreDepths, HasLevels};
 
@@ -107,6 +107,7 @@ impl<'a, A: Allocator> Types<'a, A> {
         ensures types { AreTypes self.now }
         // The type index of each fits in a u32.
         ensures few { result < 2 ^ 30 }
+        ensures short { length (concat self.now) < 2 ^ 32 }
     {
         self.records.len()
     }

@@ -12,11 +12,11 @@ const BRACED: &str = "{00112233-4455-6677-8899-AABBCCDDEEFF}";
 
 /// What arguments mean: the file of `records`, the word `usage`, or the exit status of a fault.
 fn meaning(alloc: Global, texts: &[&str]) -> Result<String, Fail> {
-    let mut words = Vec::new(alloc);
+    let mut arguments = Vec::new(alloc);
     for text in texts {
-        words.push(String::from_str(alloc, text)?)?;
+        arguments.push(String::from_str(alloc, text)?)?;
     }
-    match read_line(alloc, &words) {
+    match read_line(alloc, &arguments) {
         Ok(Line::Usage) => Ok(String::from_str(alloc, "usage")?),
         Ok(Line::Records { file }) => Ok(file),
         Ok(Line::Record { file, .. }) => Ok(file),
@@ -137,7 +137,7 @@ fn lines(rt: HostRuntime) -> Result<(), Fail> {
 
 #[test]
 fn indices(rt: HostRuntime) {
-    for (word, index) in [
+    for (argument, index) in [
         ("0x0", Some(0u32)),
         ("0x1000", Some(0x1000)),
         ("0xaBcDeF", Some(0xABCDEF)),
@@ -149,6 +149,6 @@ fn indices(rt: HostRuntime) {
         ("0X1000", None),
         ("1000", None),
     ] {
-        assert_eq!(rt; read_index(word), index);
+        assert_eq!(rt; read_index(argument), index);
     }
 }

@@ -7,7 +7,7 @@ pub returns : goal.returns
 unfolding container_lines
 returns g c =
     let superblock = c.superblock-superblock.ensures in
-    five_parts (string_bytes c.args.text.now) (string_bytes c.push_word.new.text) (string_bytes c.push_word-2.new.text) (string_bytes c.push_word-3.new.text) (string_bytes c.push_word-4.new.text)
-    (string_bytes c.push_word-5.new.text) _ _ _ _ _
-    (rw (c.block_size.ensures.value, superblock) at c.in_ok-push_word.ensures) (rw (c.num_blocks.ensures, superblock) at c.in_ok-push_word-2.ensures) (rw (c.free_blocks.ensures, superblock) at c.in_ok-push_word-3.ensures)
-    (rw (c.directory_bytes.ensures.value, superblock) at c.in_ok-push_word-4.ensures) (rw c.streams.ensures.value at c.in_ok-push_word-5.ensures)
+    five_parts (string_bytes c.args.text.now) (string_bytes c.push_named.new.text) (string_bytes c.push_named-2.new.text) (string_bytes c.push_named-3.new.text) (string_bytes c.push_named-4.new.text)
+    (string_bytes c.push_named-5.new.text) _ _ _ _ _
+    (rw (c.block_size.ensures.value, superblock) at c.in_ok-push_named.ensures) (rw (c.num_blocks.ensures, superblock) at c.in_ok-push_named-2.ensures) (rw (c.free_blocks.ensures, superblock) at c.in_ok-push_named-3.ensures)
+    (rw (c.directory_bytes.ensures.value, superblock) at c.in_ok-push_named-4.ensures) (rw c.streams.ensures.value at c.in_ok-push_named-5.ensures)

@@ -2,6 +2,4 @@ use Rattle.pdb_merge.proofs.FileLaws.{merged_files_differ}
 use Rattle.pdb_merge.proofs.laws.merged_files_differ.Goals as goal
 
 pub returns : goal.returns
-returns c =
-    merged_files_differ c.args.settings.now c.args.other.now c.guid.ensures.settings
-    c.guid-2.ensures.settings
+returns c = merged_files_differ

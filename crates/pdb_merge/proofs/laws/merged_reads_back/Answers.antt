@@ -2,4 +2,4 @@ use Rattle.pdb_merge.proofs.FileLaws.{merged_reads_back}
 use Rattle.pdb_merge.proofs.laws.merged_reads_back.Goals as goal
 
 pub returns : goal.returns
-returns c = merged_reads_back c.args.settings.now c.guid.ensures.settings
+returns c = merged_reads_back

@@ -21,12 +21,12 @@ write_canon-requires g c =
 pub returns-clause-value : goal.returns-clause-value
 returns-clause-value g c =
     wrote (texts_of c.args.files.now) c.args.settings.now c.in_ok-canon.canon (g.W.Sink.taken c.args.out.now) (g.W.Sink.taken c.write_canon.new.out) c.write_canon.result
-    c.guid.ensures.settings c.in_ok-canon.ensures.can.within c.in_ok-canon.ensures.value c.write_canon.ensures.value
+    c.write_canon.ensures.settings c.in_ok-canon.ensures.can.within c.in_ok-canon.ensures.value c.write_canon.ensures.value
 
 pub returns-clause-write : goal.returns-clause-write
 returns-clause-write g c =
     wrote_part (texts_of c.args.files.now) c.args.settings.now c.in_ok-canon.canon (g.W.Sink.taken c.args.out.now) (g.W.Sink.taken c.write_canon.new.out) (g.W.Sink.is_broken c.write_canon.new.out ≡ true) _ c.write_canon.result
-    c.guid.ensures.settings c.in_ok-canon.ensures.can.within c.in_ok-canon.ensures.value c.write_canon.ensures.write
+    c.write_canon.ensures.settings c.in_ok-canon.ensures.can.within c.in_ok-canon.ensures.value c.write_canon.ensures.write
 
 pub returns-in_err-canon-clause-any_order : goal.returns-in_err-canon-clause-any_order
 returns-in_err-canon-clause-any_order g c =

@@ -5,8 +5,8 @@ use Rattle.pdbmerge.proofs.index.read_index.Goals as goal
 
 pub returns-clause-none : goal.returns-clause-none
 returns-clause-none c =
-    let word = c.args.word.now in
+    let argument = c.args.argument.now in
     let digits = c.in_ok-digits.digits.now in
     let stripped = c.in_ok-digits.ensures.cases in
-    let is : word ≡ codes "0x" ++ digits = stripped.1.1 ∙ ap (λ (x : List ℕ). 48 ∷ 120 ∷ x) (sym stripped.2) in
-    rw c.ok.ensures.value (no_index word digits c.from_str_radix.result is c.from_str_radix.ensures.value c.if-digits-gt8.false)
+    let is : argument ≡ codes "0x" ++ digits = stripped.1.1 ∙ ap (λ (x : List ℕ). 48 ∷ 120 ∷ x) (sym stripped.2) in
+    rw c.ok.ensures.value (no_index argument digits c.from_str_radix.result is c.from_str_radix.ensures.value c.if-digits-gt8.false)

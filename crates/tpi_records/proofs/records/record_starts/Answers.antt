@@ -16,11 +16,11 @@ loop-start-preserved g c =
     let so_far = c.loop-start.invariant in
     let starts = c.loop-start.starts.items in
     let begins = Begins-push bytes starts start whole ok.field ok.value so_far.begins in
-    let words = length-take whole (drop start bytes) in
+    let u32s = length-take whole (drop start bytes) in
     rw c.in_ok-push.ensures.items
     (record {
       inside = omega (arith, ok.inside);
-      few = omega (arith, so_far.few, ok.value.long, words, length_push starts start);
+      few = omega (arith, so_far.few, ok.value.long, u32s, length_push starts start);
       numbered = omega (arith, so_far.numbered, length_push starts start);
       fit = All-push (λ at. at + number_at 2 bytes at + 2 ≤ length bytes) starts start so_far.fit (omega (arith, ok.field, ok.inside));
       begins = begins;

@@ -17,7 +17,7 @@ push-requires-clause-short g c =
     let next = next_record all k c.loop-bytes.bytes-iterator c.next.new.self c.in-Some.bytes.now so_far.left split in
     let is : c.deref.result.now ≡ named_by (get_or all k []) = c.deref.ensures.value ∙ c.in_ok-list_named.ensures ∙ ap named_by next.0 in
     let short = still_short all (length (concat c.loop-bytes.graph)) c.deref.result.now k next.1 (at_position IsChecked all k c.requires next.1) is so_far.short in
-    omega (arith, short, c.bytes_len.ensures, c.bytes_len.type_inv)
+    omega (arith, short, c.len.ensures.short)
 
 pub loop-bytes-preserved : goal.loop-bytes-preserved
 loop-bytes-preserved g c =
@@ -38,7 +38,7 @@ loop-bytes-preserved g c =
       short = rw (many, pushed, concat_push c.loop-bytes.graph row) short;
     }
 
-pub returns : goal.returns
-returns g c =
+pub returns-clause-value : goal.returns-clause-value
+returns-clause-value g c =
     let all = all_records c.args.records.now (length c.loop-bytes.graph) c.loop-bytes.bytes-iterator c.loop-bytes.invariant.left (c.in-None.ensures.steps).0 c.loop-bytes.invariant.inside in
     c.loop-bytes.invariant.rows ∙ ap (map named_by) (take_all (length c.loop-bytes.graph) c.args.records.now (omega (arith, all)))

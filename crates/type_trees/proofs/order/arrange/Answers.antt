@@ -10,9 +10,9 @@ pub returns-then-lower-clause-value : goal.returns-then-lower-clause-value
 returns-then-lower-clause-value g c = let h = c.if-lower.true in stand_in_order c.args.records.now (c.requires.lower h)
 
 pub topological_order-requires : goal.topological_order-requires
-topological_order-requires g c = rw c.in_ok-graph.ensures (nodes_inside c.args.records.now c.requires.there)
+topological_order-requires g c = rw c.in_ok-graph.ensures.value (nodes_inside c.args.records.now c.requires.there)
 
 pub to_indices-requires : goal.to_indices-requires
 to_indices-requires g c =
-    let cycle : IsCycleSet (graph_of c.args.records.now) c.in-Err-Cycle.nodes.items = rw (c.in-Err-Cycle.field-0-is, c.in_ok-graph.ensures) at c.in-Err-Cycle.ensures.fault in
-    rw c.deref_mut.ensures.value (cycle_inside c.args.records.now c.in-Err-Cycle.nodes.items cycle (omega (arith, c.len.ensures.value, c.len.ensures.few)))
+    let cycle : IsCycleSet (graph_of c.args.records.now) c.in-Err-Cycle.nodes.items = rw (c.in-Err-Cycle.field-0-is, c.in_ok-graph.ensures.value) at c.in-Err-Cycle.ensures.fault in
+    rw c.deref_mut.ensures.value (cycle_inside c.args.records.now c.in-Err-Cycle.nodes.items cycle (omega (arith, c.in_ok-graph.ensures.few)))

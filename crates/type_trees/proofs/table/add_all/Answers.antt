@@ -6,7 +6,7 @@ pub loop-position-init : goal.loop-position-init
 loop-position-init g c =
     let zeros : c.in_ok-positions.positions.items ≡ replicate c.len.result 0 = search rules in
     rw c.into_iter-position-iterator.ensures.into_iter_gives
-    (adding_starts c.args.types.now c.in_order-position-items.result c.args.texts.now c.len.result c.in_ok-positions.positions.items c.requires.table c.requires.short (omega (arith, c.bytes_len.ensures, c.bytes_len.type_inv)) c.in_order-position-items.ensures.order c.len.ensures.value zeros)
+    (adding_starts c.args.types.now c.in_order-position-items.result c.args.texts.now c.len.result c.in_ok-positions.positions.items c.requires.table c.requires.short c.len.ensures.short c.in_order-position-items.ensures.order c.len.ensures.value zeros)
 
 pub record_at-bytes-requires : goal.record_at-bytes-requires
 record_at-bytes-requires g c =

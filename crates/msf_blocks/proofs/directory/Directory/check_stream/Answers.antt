@@ -1,5 +1,5 @@
 use Rattle.std.proofs.Common.{arith, ap, ◌+◌}
-use Rattle.byte_fields.specs.Number.{word}
+use Rattle.byte_fields.specs.Number.{nth_u32}
 use Rattle.byte_fields.proofs.CheckLaws.{checks_below-more, checks_below-stop, check_fails, check_holds}
 use Rattle.msf_blocks.specs.BlockNumber.{is_ordinary}
 use Rattle.msf_blocks.specs.Directory.{stream_checks, stream_block_check, stream_blocks, list_start}
@@ -13,8 +13,8 @@ returns-then-not-is_ordinary c =
     let text = c.args.self.now.text in
     let stream = c.args.stream in
     let at = c.loop-at.at in
-    checks_below-stop (stream_block_check fields text stream) at (stream_blocks fields.block_size text stream) (StreamBlock stream at c.word-n.result) c.loop-at.invariant
-    (check_fails (is_ordinary fields.num_blocks (word text (list_start fields.block_size text stream + at))) _ _ (grind arith) (ap (StreamBlock stream at) (grind arith)))
+    checks_below-stop (stream_block_check fields text stream) at (stream_blocks fields.block_size text stream) (StreamBlock stream at c.number-n.result) c.loop-at.invariant
+    (check_fails (is_ordinary fields.num_blocks (nth_u32 text (list_start fields.block_size text stream + at))) _ _ (grind arith) (ap (StreamBlock stream at) (grind arith)))
     (omega (arith, c.requires.count, c.loop-at-test.true))
 
 pub loop-at-preserved : goal.loop-at-preserved
@@ -24,4 +24,4 @@ loop-at-preserved c =
     let text = c.args.self.now.text in
     let at = c.loop-at.at in
     checks_below-more (stream_block_check fields text c.args.stream) at c.loop-at.invariant
-    (check_holds (is_ordinary fields.num_blocks (word text (list_start fields.block_size text c.args.stream + at))) _ (grind arith))
+    (check_holds (is_ordinary fields.num_blocks (nth_u32 text (list_start fields.block_size text c.args.stream + at))) _ (grind arith))

@@ -18,7 +18,7 @@ returns-clause-value c = record {
   fit = record {
     block_size_fits = (size_decides _).0 (grind (arith, common_steps));
     free_map_block_fits = grind (arith, common_steps);
-    directory_words = grind (arith, common_steps);
+    directory_multiple = grind (arith, common_steps);
     directory_fits = grind (arith, common_steps);
     block_map_fits = (grind (arith, common_steps), grind (arith, common_steps));
   };

@@ -2,9 +2,9 @@
 use Rattle.std.proofs.Common.{◌≡◌, Bool, true, false, cond, ℕ, zero, suc, List, [], ◌∷◌, ◌++◌, Option, Some, refl}
 use Rattle.byte_fields.specs.Check.{Check, first_failing, checks_below}
 use Rattle.msf_blocks.specs.Superblock.{Fields, fields_of, superblock_checks}
-use Rattle.msf_blocks.specs.Directory.{directory_text, directory_blocks, directory_block_check, directory_block_checks, length_checks, stream_blocks, stream_block_check, stream_checks}
+use Rattle.msf_blocks.specs.Directory.{directory_contents, directory_blocks, directory_block_check, directory_block_checks, length_checks, stream_blocks, stream_block_check, stream_checks}
 use Rattle.msf_blocks.specs.Layout.{layout_checks}
-use Rattle.byte_fields.specs.Number.{word}
+use Rattle.byte_fields.specs.Number.{nth_u32}
 use Rattle.msf_blocks.specs.declared.fault.MsfFault.{MsfFault}
 use Rattle.msf_blocks.specs.declared.fault.MsfFault.TheVariants.{Memory}
 
@@ -63,13 +63,13 @@ pub layout_wants_none : (file : List ℕ) → first_failing (layout_checks file)
 unfolding layout_checks
 layout_wants_none file is =
     let fields = fields_of file in
-    let text = directory_text file fields in
-    let lists = checks_below (word text 0) (stream_checks fields text) in
+    let text = directory_contents file fields in
+    let lists = checks_below (nth_u32 text 0) (stream_checks fields text) in
     let lengths = length_checks fields.block_size text in
     let blocks = directory_block_checks file fields in
     never (fails_other (superblock_checks file ++ (blocks ++ (lengths ++ lists))) Memory
     (others_append (superblock_checks file) (blocks ++ (lengths ++ lists)) (superblock_others file)
-    (others_append blocks (lengths ++ lists) (block_others file fields) (others_append lengths lists (length_others fields.block_size text) (others_below (word text 0) (stream_checks fields text) (λ t. stream_others fields text t))))) is)
+    (others_append blocks (lengths ++ lists) (block_others file fields) (others_append lengths lists (length_others fields.block_size text) (others_below (nth_u32 text 0) (stream_checks fields text) (λ t. stream_others fields text t))))) is)
   where
     never : true ≡ false → ⊥
     never e = absurd cc
