@@ -1,10 +1,9 @@
 //! Images: their lengths, their bytes, and writers that are out of memory or have too little room.
 
-use linked_list_allocator::LocalHeap;
 use msf_blocks::{Out, Sink};
 use msf_streams::{WriteFault, image_len, write_image, write_parts};
 use pdb_info::{Settings, guid_of, info_bytes};
-use samples::{Narrow, put};
+use samples::{Narrow, put, refusals};
 use std::alloc::{Allocator, Global};
 use std::test::Fail;
 use tpi_records::tpi_header_bytes;
@@ -314,22 +313,13 @@ fn a_narrow_sink_that_breaks_has_the_first_bytes(rt: HostRuntime) -> Result<(), 
 
 #[test]
 fn growth_is_refused_before_anything_is_written(rt: HostRuntime) -> Result<(), Fail> {
-    let mut refused = 0u32;
-    let mut written = 0u32;
-    for size in 0..40usize {
-        let heap = LocalHeap::new(rt.alloc(), 128 * size)?;
-        let (out, fault) = write_narrow(&heap, rt.alloc(), LENGTH, LENGTH)?;
-        if fault.is_none() {
-            assert_eq!(rt; out.taken.len(), LENGTH);
-            written = written.saturating_add(1);
-        } else {
-            assert_eq!(rt; fault, Some(WriteFault::Memory));
-            assert!(rt; out.taken.is_empty());
-            refused = refused.saturating_add(1);
-        }
-    }
-    assert!(rt; refused > 0);
-    assert!(rt; written > 0);
+    refusals(rt.alloc(), 128, 40, |heap| {
+        let (out, fault) = write_narrow(heap, rt.alloc(), LENGTH, LENGTH)?;
+        let len = if fault.is_none() { LENGTH } else { 0 };
+        assert!(rt; matches!(fault, None | Some(WriteFault::Memory)));
+        assert_eq!(rt; out.taken.len(), len);
+        Ok(fault.is_some())
+    })?;
     Ok(())
 }
 

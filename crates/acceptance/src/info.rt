@@ -1,7 +1,7 @@
 //! What no clause says: that a call succeeds, the texts of the faults, and out of memory.
 
-use linked_list_allocator::LocalHeap;
 use pdb_info::{Info, InfoFault, InfoHeader, Name, Settings, guid_bytes, guid_of, info_bytes};
+use samples::refusals;
 use std::alloc::Allocator;
 use std::test::Fail;
 use uuid::Uuid;
@@ -203,20 +203,11 @@ fn a_bit_more_than_size_says(rt: HostRuntime) {
 
 #[test]
 fn growth_is_refused(rt: HostRuntime) -> Result<(), Fail> {
-    let mut refused = 0u32;
-    let mut read = 0u32;
-    for size in 0..24usize {
-        let heap = LocalHeap::new(rt.alloc(), 8 * size)?;
-        match fault_of(&heap, &STREAM) {
-            None => read = read.saturating_add(1),
-            Some(fault) => {
-                assert_eq!(rt; fault, InfoFault::Memory);
-                refused = refused.saturating_add(1);
-            }
-        }
-    }
-    assert!(rt; refused > 0);
-    assert!(rt; read > 0);
+    refusals(rt.alloc(), 8, 24, |heap| {
+        let fault = fault_of(heap, &STREAM);
+        assert!(rt; matches!(fault, None | Some(InfoFault::Memory)));
+        Ok(fault.is_some())
+    })?;
     Ok(())
 }
 

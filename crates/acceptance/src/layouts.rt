@@ -1,8 +1,7 @@
 //! The layout of the sample, and out of memory.
 
-use linked_list_allocator::LocalHeap;
 use msf_blocks::{In, Layout, MsfFault, Out, Sink, Source, put_all};
-use samples::{put, sample};
+use samples::{put, refusals, sample};
 use std::alloc::Allocator;
 use std::test::Fail;
 
@@ -59,15 +58,11 @@ fn other_block_sizes(rt: HostRuntime) -> Result<(), Fail> {
 #[test]
 fn layouts_on_small_heaps(rt: HostRuntime) -> Result<(), Fail> {
     let file = sample(rt.alloc())?;
-    let mut refused = 0u32;
-    for size in 0..64usize {
-        let heap = LocalHeap::new(rt.alloc(), 16 * size)?;
-        if let Some(fault) = fault_of(&heap, &file) {
-            assert_eq!(rt; fault, MsfFault::Memory);
-            refused = refused.saturating_add(1);
-        }
-    }
-    assert!(rt; 0 < refused && refused < 64);
+    refusals(rt.alloc(), 16, 64, |heap| {
+        let fault = fault_of(heap, &file);
+        assert!(rt; matches!(fault, None | Some(MsfFault::Memory)));
+        Ok(fault.is_some())
+    })?;
     Ok(())
 }
 

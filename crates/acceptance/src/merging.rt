@@ -11,7 +11,7 @@ use msf_blocks::MsfFault;
 use msf_streams::StreamFault;
 use pdb_info::InfoFault;
 use pdb_merge::{Buffer, MergeFault, PdbFault, read_types};
-use samples::{put, sample};
+use samples::{put, refusals, sample};
 use std::alloc::{Allocator, Global};
 use std::test::Fail;
 use tpi_records::TpiFault;
@@ -142,21 +142,18 @@ fn each_fault_has_its_text(rt: HostRuntime) -> Result<(), Fail> {
 #[test]
 fn growth_is_refused(rt: HostRuntime) -> Result<(), Fail> {
     let file = sample(rt.alloc())?;
-    let mut refused = 0u32;
-    for size in 0..64usize {
-        let heap = LocalHeap::new(rt.alloc(), 16 * size)?;
-        let mut buffer = Buffer::new(&heap);
-        let found = read(&heap, &file, &mut buffer);
+    refusals(rt.alloc(), 16, 64, |heap| {
+        let mut buffer = Buffer::new(heap);
+        let found = read(heap, &file, &mut buffer);
         if matches!(found, Err(PdbFault::Memory)) {
-            refused = refused.saturating_add(1);
-        } else {
-            assert_eq!(rt; found.ok(), Some((2, 24, 1)));
-            // The old bytes are dropped first, so the heap has room for the same bytes again.
-            let again = read(&heap, &file, &mut buffer);
-            assert_eq!(rt; again.ok(), Some((2, 24, 1)));
+            return Ok(true);
         }
-    }
-    assert!(rt; 0 < refused && refused < 64);
+        assert_eq!(rt; found.ok(), Some((2, 24, 1)));
+        // The old bytes are dropped first, so the heap has room for the same bytes again.
+        let again = read(heap, &file, &mut buffer);
+        assert_eq!(rt; again.ok(), Some((2, 24, 1)));
+        Ok(false)
+    })?;
     Ok(())
 }
 

@@ -1,6 +1,6 @@
 //! What no clause says: the texts of the faults, that a call succeeds, and out of memory.
 
-use linked_list_allocator::LocalHeap;
+use samples::refusals;
 use std::alloc::Allocator;
 use std::test::Fail;
 use tpi_records::{Records, TpiFault, TpiHeader, tpi_header_bytes};
@@ -96,20 +96,11 @@ fn growth_is_refused(rt: HostRuntime) -> Result<(), Fail> {
     for position in 0..64usize {
         stream[56 + 4 * position] = 2;
     }
-    let mut refused = 0u32;
-    let mut read = 0u32;
-    for size in 0..24usize {
-        let heap = LocalHeap::new(rt.alloc(), 16 * size)?;
-        match fault_of(&heap, &stream) {
-            None => read = read.saturating_add(1),
-            Some(fault) => {
-                assert_eq!(rt; fault, TpiFault::Memory);
-                refused = refused.saturating_add(1);
-            }
-        }
-    }
-    assert!(rt; refused > 0);
-    assert!(rt; read > 0);
+    refusals(rt.alloc(), 16, 24, |heap| {
+        let fault = fault_of(heap, &stream);
+        assert!(rt; matches!(fault, None | Some(TpiFault::Memory)));
+        Ok(fault.is_some())
+    })?;
     Ok(())
 }
 

@@ -2,9 +2,9 @@
 
 ghost use Rattle.std.specs.Prelude.{◌+◌, ◌≤◌, length};
 
-use linked_list_allocator::LocalHeap;
 use msf_blocks::Layout;
 use msf_streams::{StreamFault, gather, pieces};
+use samples::refusals;
 use std::test::Fail;
 
 /// The size of a block, in bytes.
@@ -107,22 +107,20 @@ fn a_text_is_gathered_whole(rt: HostRuntime) -> Result<(), Fail> {
 fn growth_is_refused(rt: HostRuntime) -> Result<(), Fail> {
     let file = container();
     let layout = Layout::read(rt.alloc(), &file)?;
-    let mut refused = 0u32;
-    let mut gathered = 0u32;
-    for size in 0..20usize {
-        let heap = LocalHeap::new(rt.alloc(), 256 * size)?;
-        match gather(&heap, &file, &layout, 0) {
+    refusals(
+        rt.alloc(),
+        256,
+        20,
+        |heap| match gather(heap, &file, &layout, 0) {
             Ok(text) => {
                 assert_eq!(rt; text.len(), 4097);
-                gathered = gathered.saturating_add(1);
+                Ok(false)
             }
             Err(fault) => {
                 assert_eq!(rt; fault, StreamFault::Memory);
-                refused = refused.saturating_add(1);
+                Ok(true)
             }
-        }
-    }
-    assert!(rt; refused > 0);
-    assert!(rt; gathered > 0);
+        },
+    )?;
     Ok(())
 }

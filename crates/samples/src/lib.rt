@@ -9,10 +9,12 @@
 
 mod dripping;
 mod file;
+mod growth;
 mod images;
 mod narrow;
 
 pub use dripping::Dripping;
 pub use file::{LENGTH, put, sample};
+pub use growth::refusals;
 pub use images::{container, pdb};
 pub use narrow::Narrow;

@@ -1,10 +1,9 @@
 //! What `merge` writes and reports, its faults, a report that cannot be written, and out of memory.
 
-use linked_list_allocator::LocalHeap;
 use msf_blocks::Out;
 use pdb_commands::{RunFault, run_merge};
 use pdb_info::{Settings, guid_of};
-use samples::{put, sample};
+use samples::{put, refusals, sample};
 use std::alloc::{Allocator, Global};
 use std::hash::{BuildHasherDefault, FoldHasher};
 use std::test::Fail;
@@ -117,22 +116,20 @@ fn merges_on_small_heaps(rt: HostRuntime) -> Result<(), Fail> {
     // The first record names the second, so the types have to be put in order.
     let mut forward = sample(rt.alloc())?;
     put(&mut forward, 3132, b"\x01\x10");
-    let mut refused = 0u32;
-    let mut unreported = 0u32;
-    for size in 0..1024usize {
-        let heap = LocalHeap::new(rt.alloc(), 16 * size)?;
-        let (answer, file, report) = ran(&heap, rt.alloc(), &[&forward], 24)?;
+    let mut unreported = 0usize;
+    let refused = refusals(rt.alloc(), 16, 1024, |heap| {
+        let (answer, file, report) = ran(heap, rt.alloc(), &[&forward], 24)?;
         if answer.is_ok() {
             assert!(rt; file.len() == LENGTH && report.as_slice() == REPORT.as_bytes());
-            continue;
+            return Ok(false);
         }
-        assert!(rt; matches!(answer, Err(RunFault::Memory)));
-        assert!(rt; report.is_empty() && (file.is_empty() || file.len() == LENGTH));
-        refused = refused.saturating_add(1);
+        assert!(rt; matches!(answer, Err(RunFault::Memory)) && report.is_empty());
+        assert!(rt; file.is_empty() || file.len() == LENGTH);
         if !file.is_empty() {
             unreported = unreported.saturating_add(1);
         }
-    }
-    assert!(rt; 8 < refused && refused < 1024 && unreported < refused);
+        Ok(true)
+    })?;
+    assert!(rt; 8 < refused && unreported < refused);
     Ok(())
 }

@@ -1,10 +1,9 @@
 //! Records that name later ones, and cycles.
 
 use super::merging::{LIMIT, M, P, Q0, Q1, Q2, Q3, file_of, hasher, merged, settings};
-use linked_list_allocator::LocalHeap;
 use msf_blocks::Out;
 use pdb_merge::{Buffer, merge_files, merge_to, read_types};
-use samples::pdb;
+use samples::{pdb, refusals};
 use std::alloc::{Allocator, Global};
 use std::test::Fail;
 
@@ -91,28 +90,17 @@ fn a_forward_chain_merges_as_the_chain_turned_round(rt: HostRuntime) -> Result<(
     Ok(())
 }
 
-/// Reads a file with heaps of increasing size. Returns how often it was out of memory. Each other
-/// answer is `want`.
-fn refusals(alloc: Global, file: &[u8], want: &str) -> Result<u32, Fail> {
-    let mut refused = 0u32;
-    for size in 0..64usize {
-        let heap = LocalHeap::new(alloc, 16 * size)?;
-        let found = said(&heap, alloc, file)?;
-        if found.as_str() == "33 Memory" {
-            refused = refused.saturating_add(1);
-        } else if found.as_str() != want {
-            return Err(found.into());
-        }
-    }
-    Ok(refused)
-}
-
 #[test]
 fn growth_is_refused_in_turn(rt: HostRuntime) -> Result<(), Fail> {
     for (records, want) in ROWS {
         let file = file_of(rt.alloc(), records)?;
-        let refused = refusals(rt.alloc(), &file, want)?;
-        assert!(rt; 4 < refused && refused < 64);
+        let refused = refusals(rt.alloc(), 16, 64, |heap| {
+            let found = said(heap, rt.alloc(), &file)?;
+            let refused = found.as_str() == "33 Memory";
+            assert!(rt; refused || found.as_str() == want);
+            Ok(refused)
+        })?;
+        assert!(rt; 4 < refused);
     }
     Ok(())
 }
@@ -141,16 +129,13 @@ fn merges_are_refused_growth_in_turn(rt: HostRuntime) -> Result<(), Fail> {
     let pointer = file_of(rt.alloc(), &[P])?;
     for (records, want) in MERGES {
         let file = file_of(rt.alloc(), records)?;
-        let mut refused = 0u32;
-        for size in 0..256usize {
-            let heap = LocalHeap::new(rt.alloc(), 32 * size)?;
-            let found = said_of_two(&heap, rt.alloc(), &pointer, &file)?;
-            assert!(rt; found.as_str() == "33 Memory" || found.as_str() == want);
-            if found.as_str() == "33 Memory" {
-                refused = refused.saturating_add(1);
-            }
-        }
-        assert!(rt; 8 < refused && refused < 256);
+        let refused = refusals(rt.alloc(), 32, 256, |heap| {
+            let found = said_of_two(heap, rt.alloc(), &pointer, &file)?;
+            let refused = found.as_str() == "33 Memory";
+            assert!(rt; refused || found.as_str() == want);
+            Ok(refused)
+        })?;
+        assert!(rt; 8 < refused);
     }
     Ok(())
 }
@@ -159,20 +144,21 @@ fn merges_are_refused_growth_in_turn(rt: HostRuntime) -> Result<(), Fail> {
 fn a_merge_of_a_chain_is_refused_growth_in_turn(rt: HostRuntime) -> Result<(), Fail> {
     let forward = pdb(rt.alloc(), 10_000, &chain(rt.alloc(), 9_999, true)?)?;
     let turned = pdb(rt.alloc(), 10_000, &chain(rt.alloc(), 9_999, false)?)?;
-    let mut refused = 0u32;
-    for size in 0..48usize {
-        let heap = LocalHeap::new(rt.alloc(), 131_072 * size)?;
+    let refused = refusals(rt.alloc(), 131_072, 48, |heap| {
         let mut file = Vec::new(rt.alloc());
         let mut out = Out::new(&mut file);
-        match merge_to(&heap, &[&forward], &settings(LIMIT)?, &mut out, hasher()) {
-            Ok(_) => assert!(rt; file == turned),
+        match merge_to(heap, &[&forward], &settings(LIMIT)?, &mut out, hasher()) {
+            Ok(_) => {
+                assert!(rt; file == turned);
+                Ok(false)
+            }
             Err(fault) => {
                 let text = fault.to_string(rt.alloc())?;
                 assert!(rt; text.as_str() == "33 Memory" && file.is_empty());
-                refused = refused.saturating_add(1);
+                Ok(true)
             }
         }
-    }
-    assert!(rt; 4 < refused && refused < 48);
+    })?;
+    assert!(rt; 4 < refused);
     Ok(())
 }

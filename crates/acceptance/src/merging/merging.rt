@@ -9,7 +9,7 @@ use pdb_merge::{
     AddFault, Buffer, Merge, MergeFault, OutFault, PdbFault, Summary, merge_files, merge_to,
     write_merged,
 };
-use samples::{Narrow, pdb, sample};
+use samples::{Narrow, pdb, refusals, sample};
 use std::alloc::{Allocator, Global};
 use std::hash::{BuildHasherDefault, FoldHasher};
 use std::test::Fail;
@@ -303,18 +303,22 @@ fn lists_are_refused_growth_in_turn(rt: HostRuntime) -> Result<(), Fail> {
     let second = file_of(rt.alloc(), &[P, M])?;
     let files = [first.as_slice(), second.as_slice()];
     let want = joined(rt.alloc(), &[M, V, P, Q0, Q1])?;
-    let mut refused = 0u32;
-    for size in 0..512usize {
-        let heap = LocalHeap::new(rt.alloc(), 16 * size)?;
-        match listed(&heap, &files, 60)? {
-            Ok(canon) => assert_eq!(rt; canon.bytes(), want.as_slice()),
-            Err(fault) => {
-                refused = refused.saturating_add(1);
-                assert!(rt; matches!(fault, MergeFault::Memory));
+    let refused = refusals(
+        rt.alloc(),
+        16,
+        512,
+        |heap| match listed(heap, &files, 60)? {
+            Ok(canon) => {
+                assert_eq!(rt; canon.bytes(), want.as_slice());
+                Ok(false)
             }
-        }
-    }
-    assert!(rt; 8 < refused && refused < 512);
+            Err(fault) => {
+                assert!(rt; matches!(fault, MergeFault::Memory));
+                Ok(true)
+            }
+        },
+    )?;
+    assert!(rt; 8 < refused);
     Ok(())
 }
 
@@ -322,21 +326,22 @@ fn lists_are_refused_growth_in_turn(rt: HostRuntime) -> Result<(), Fail> {
 fn merges_are_refused_growth_in_turn(rt: HostRuntime) -> Result<(), Fail> {
     let sample = sample(rt.alloc())?;
     let want = file_of(rt.alloc(), &[M, P])?;
-    let mut refused = 0u32;
-    for size in 0..512usize {
-        let heap = LocalHeap::new(rt.alloc(), 32 * size)?;
+    let refused = refusals(rt.alloc(), 32, 512, |heap| {
         let mut file = Vec::new(rt.alloc());
         let mut out = Out::new(&mut file);
-        match merge_to(&heap, &[&sample, &want], &settings(24)?, &mut out, hasher()) {
-            Ok(summary) => assert!(rt; summary.types == 2 && file == want),
-            Err(OutFault::Memory | OutFault::Merge(MergeFault::Memory)) => {
-                refused = refused.saturating_add(1);
-                assert!(rt; file.is_empty());
+        match merge_to(heap, &[&sample, &want], &settings(24)?, &mut out, hasher()) {
+            Ok(summary) => {
+                assert!(rt; summary.types == 2 && file == want);
+                Ok(false)
             }
-            Err(fault) => return Err(fault.to_string(rt.alloc())?.into()),
+            Err(OutFault::Memory | OutFault::Merge(MergeFault::Memory)) => {
+                assert!(rt; file.is_empty());
+                Ok(true)
+            }
+            Err(fault) => Err(fault.to_string(rt.alloc())?.into()),
         }
-    }
-    assert!(rt; 8 < refused && refused < 512);
+    })?;
+    assert!(rt; 8 < refused);
     Ok(())
 }
 

@@ -2,7 +2,7 @@
 
 use super::joining::folding;
 use super::{MODIFIER, UNKNOWN, checked, pointer, stream_of};
-use linked_list_allocator::LocalHeap;
+use samples::refusals;
 use std::alloc::{Allocator, Global};
 use std::test::Fail;
 use tpi_records::Records;
@@ -228,16 +228,12 @@ fn memory_for_the_order_is_refused(rt: HostRuntime) -> Result<(), Fail> {
     ];
     for (named, want) in ROWS {
         let stream = pointers(rt.alloc(), named)?;
-        let mut refused = false;
-        let mut answered = false;
-        for words in 0..64usize {
-            let heap = LocalHeap::new(rt.alloc(), 8 * words)?;
-            let text = said(&heap, rt.alloc(), &stream)?;
-            assert!(rt; text.as_str() == "33 Memory" || text.as_str() == want);
-            refused = refused || text.as_str() == "33 Memory";
-            answered = answered || text.as_str() == want;
-        }
-        assert!(rt; refused && answered, "{want}");
+        refusals(rt.alloc(), 8, 64, |heap| {
+            let text = said(heap, rt.alloc(), &stream)?;
+            let refused = text.as_str() == "33 Memory";
+            assert!(rt; refused || text.as_str() == want);
+            Ok(refused)
+        })?;
     }
     Ok(())
 }
