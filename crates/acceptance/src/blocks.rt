@@ -1,7 +1,7 @@
 //! Numbers of blocks, and the free block maps.
 
 use msf_blocks::{MsfFault, Superblock, free_bit, is_block_size, is_map_block, nth_block};
-use samples::{put, sample};
+use samples::{offset, put, sample};
 use std::test::Fail;
 
 #[test]
@@ -41,12 +41,12 @@ fn bits_of_the_free_block_maps(rt: HostRuntime) -> Result<(), Fail> {
     let mut file = sample(rt.alloc())?;
     assert_eq!(rt; bit(&file, 6), Ok(Some(false)));
     assert_eq!(rt; bit(&file, 7), Ok(None));
-    put(&mut file, 512, b"\x40");
+    put(&mut file, offset::FREE_MAP, b"\x40");
     assert_eq!(rt; bit(&file, 6), Ok(Some(true)));
     assert_eq!(rt; bit(&file, 5), Ok(Some(false)));
     // There are two blocks, and the second is the block map. Map 2 is not in the file.
-    put(&mut file, 36, b"\x02\0\0\0\x02\0\0\0");
-    put(&mut file, 52, b"\x01");
+    put(&mut file, offset::FREE_MAP_BLOCK, b"\x02\0\0\0\x02\0\0\0");
+    put(&mut file, offset::BLOCK_MAP_ADDR, b"\x01");
     assert_eq!(rt; bit(&file, 0), Ok(None));
     Ok(())
 }

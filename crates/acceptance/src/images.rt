@@ -2,8 +2,8 @@
 
 use msf_blocks::{Out, Sink};
 use msf_streams::{WriteFault, image_len, write_image, write_parts};
-use pdb_info::{Settings, guid_of, info_bytes};
-use samples::{Narrow, put, refusals};
+use pdb_info::{Settings, info_bytes};
+use samples::{LIMIT, Narrow, put, refusals, settings};
 use std::alloc::{Allocator, Global};
 use std::test::Fail;
 use tpi_records::tpi_header_bytes;
@@ -52,19 +52,10 @@ fn expected(alloc: Global) -> Result<Vec<u8>, Fail> {
     Ok(file)
 }
 
-/// Settings with blocks of this size.
-fn settings_of(block_size: u32) -> Result<Settings, Fail> {
-    let guid = guid_of([
-        0x33, 0x22, 0x11, 0x00, 0x55, 0x44, 0x77, 0x66, 0x88, 0x99, 0xAA, 0xBB, 0xCC, 0xDD, 0xEE,
-        0xFF,
-    ]);
-    Ok(Settings::new(guid, 1, 1_073_741_824, block_size).ok_or("no settings")?)
-}
-
 /// The length of the image with an info stream and a stream 2 of `types` bytes, in blocks of this
 /// size.
 fn len_of(block_size: u32, types: u32) -> Result<Option<u32>, Fail> {
-    let settings = settings_of(block_size)?;
+    let settings = settings(LIMIT, block_size)?;
     Ok(image_len(&[0, 52, types, 0, 0], settings.block_size()))
 }
 
@@ -87,7 +78,7 @@ fn write_narrow<A: Allocator + Copy>(
     step: usize,
     room: usize,
 ) -> Result<(Narrow, Option<WriteFault>), Fail> {
-    let settings = settings_of(4096)?;
+    let settings = settings(LIMIT, 4096)?;
     let mut out = Narrow::new(global, step, room);
     let info = info_bytes(&settings);
     let types = tpi_header_bytes(0, 0);
@@ -129,14 +120,14 @@ fn lengths_of_images(rt: HostRuntime) -> Result<(), Fail> {
             "{types} at {block_size}"
         );
     }
-    let settings = settings_of(4096)?;
+    let settings = settings(LIMIT, 4096)?;
     assert_eq!(rt; image_len(&[1_073_741_824; 5], settings.block_size()), None);
     Ok(())
 }
 
 /// The image with an info stream and this stream 2, in blocks of this size.
 fn image_of(alloc: Global, block_size: u32, types: &[u8]) -> Result<Vec<u8>, Fail> {
-    let settings = settings_of(block_size)?;
+    let settings = settings(LIMIT, block_size)?;
     let info = info_bytes(&settings);
     let mut file = Vec::new(alloc);
     write_two(alloc, &settings, &info, types, &mut Out::new(&mut file))?;
@@ -174,7 +165,7 @@ fn maps_of_small_blocks(rt: HostRuntime) -> Result<(), Fail> {
 #[test]
 fn a_directory_that_one_block_cannot_list(rt: HostRuntime) -> Result<(), Fail> {
     let types = vec![in rt.alloc(); 0u8; 8_385_025]?;
-    let settings = settings_of(512)?;
+    let settings = settings(LIMIT, 512)?;
     let mut file = Vec::new(rt.alloc());
     let mut out = Out::new(&mut file);
     let answer = write_two(
@@ -219,7 +210,7 @@ fn numbered(alloc: Global, len: usize) -> Result<Vec<u8>, Fail> {
 
 /// The image with an info stream, and a stream 2 in three parts.
 fn in_three(alloc: Global, first: &[u8], second: &[u8], third: &[u8]) -> Result<Vec<u8>, Fail> {
-    let settings = settings_of(4096)?;
+    let settings = settings(LIMIT, 4096)?;
     let info = info_bytes(&settings);
     let mut file = Vec::new(alloc);
     let mut out = Out::new(&mut file);
@@ -251,7 +242,7 @@ fn write_listed<'a>(
     types: &'a [&'a [u8]],
     out: &mut Out<&mut Vec<u8>>,
 ) -> Result<(), Fail> {
-    let settings = settings_of(block_size)?;
+    let settings = settings(LIMIT, block_size)?;
     let streams = [none, info, types, none, none];
     Ok(write_parts(alloc, settings.block_size(), &streams, out)?)
 }
@@ -264,7 +255,7 @@ fn parts_of_one_byte(rt: HostRuntime) -> Result<(), Fail> {
         parts.push(byte)?;
         parts.push(&[])?;
     }
-    let info = info_bytes(&settings_of(4096)?);
+    let info = info_bytes(&settings(LIMIT, 4096)?);
     let mut file = Vec::new(rt.alloc());
     let mut out = Out::new(&mut file);
     write_listed(rt.alloc(), 4096, &[], &[&info], &parts, &mut out)?;
@@ -328,7 +319,13 @@ fn long_image(alloc: Global) -> Result<Vec<u8>, Fail> {
     let types = vec![in alloc; 0xABu8; 16_744_449]?;
     let mut file = Vec::with_capacity(alloc, 16_793_600)?;
     let mut out = Out::new(&mut file);
-    write_two(alloc, &settings_of(4096)?, &[0xCD; 52], &types, &mut out)?;
+    write_two(
+        alloc,
+        &settings(LIMIT, 4096)?,
+        &[0xCD; 52],
+        &types,
+        &mut out,
+    )?;
     drop(out);
     Ok(file)
 }

@@ -1,7 +1,7 @@
 //! The layout of the sample, and out of memory.
 
 use msf_blocks::{In, Layout, MsfFault, Out, Sink, Source, put_all};
-use samples::{put, refusals, sample};
+use samples::{offset, put, refusals, sample};
 use std::alloc::Allocator;
 use std::test::Fail;
 
@@ -49,7 +49,7 @@ fn other_block_sizes(rt: HostRuntime) -> Result<(), Fail> {
         (0, MsfFault::BlockSize(0)),
     ] {
         let mut file = sample(rt.alloc())?;
-        put(&mut file, 32, &block_size.to_le_bytes());
+        put(&mut file, offset::BLOCK_SIZE, &block_size.to_le_bytes());
         assert_eq!(rt; fault_of(rt.alloc(), &file), Some(want));
     }
     Ok(())

@@ -11,7 +11,7 @@ use msf_blocks::MsfFault;
 use msf_streams::StreamFault;
 use pdb_info::InfoFault;
 use pdb_merge::{Buffer, MergeFault, PdbFault, read_types};
-use samples::{put, refusals, sample};
+use samples::{offset, put, refusals, sample};
 use std::alloc::{Allocator, Global};
 use std::test::Fail;
 use tpi_records::TpiFault;
@@ -42,37 +42,45 @@ const ROWS: [Row; 13] = [
     (0, b"m", Err(PdbFault::Msf(MsfFault::Magic))),
     // one stream, two streams, and two streams where the last is short
     (
-        2048,
+        offset::DIRECTORY,
         b"\x01",
         Err(PdbFault::Stream(StreamFault::NoStream(1))),
     ),
     (
-        2048,
+        offset::DIRECTORY,
         b"\x02\0\0\0\0\0\0\0\x34\0\0\0\x05",
         Err(PdbFault::Stream(StreamFault::NoStream(2))),
     ),
     (
-        2048,
+        offset::DIRECTORY,
         b"\x02\0\0\0\0\0\0\0\x1b\0\0\0\x05",
         Err(PdbFault::Info(InfoFault::InfoShort)),
     ),
     // the info stream is short, nil, just long enough, or has a faulty named stream map
-    (2056, b"\x1b", Err(PdbFault::Info(InfoFault::InfoShort))),
     (
-        2056,
+        offset::INFO_SIZE,
+        b"\x1b",
+        Err(PdbFault::Info(InfoFault::InfoShort)),
+    ),
+    (
+        offset::INFO_SIZE,
         b"\xff\xff\xff\xff",
         Err(PdbFault::Info(InfoFault::InfoShort)),
     ),
-    (2056, b"\x1c", Ok((2, 24, 1))),
-    (2588, b"\xff\xff\xff\xff", Ok((2, 24, 1))),
+    (offset::INFO_SIZE, b"\x1c", Ok((2, 24, 1))),
+    (offset::NAMED_STREAMS, b"\xff\xff\xff\xff", Ok((2, 24, 1))),
     // the TPI stream is short, or has no records
-    (2060, b"\x37", Err(PdbFault::Tpi(TpiFault::Short))),
-    (3084, b"\0\x10\0\0\0\0\0\0", Ok((0, 0, 0))),
+    (
+        offset::TYPES_SIZE,
+        b"\x37",
+        Err(PdbFault::Tpi(TpiFault::Short)),
+    ),
+    (offset::TYPE_END, b"\0\x10\0\0\0\0\0\0", Ok((0, 0, 0))),
     // the first record names the second
-    (3132, b"\x01\x10", Ok((2, 24, 2))),
+    (offset::FIRST_REFERENCE, b"\x01\x10", Ok((2, 24, 2))),
     // the first record names one after the last
     (
-        3132,
+        offset::FIRST_REFERENCE,
         b"\x02\x10",
         Err(PdbFault::Type(TypeFault::Ref {
             index: 0x1000,

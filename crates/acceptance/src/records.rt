@@ -1,18 +1,9 @@
 //! What no clause says: the texts of the faults, that a call succeeds, and out of memory.
 
-use samples::refusals;
+use samples::{CONST, TO_INT, put, refusals, stream_with};
 use std::alloc::Allocator;
 use std::test::Fail;
 use tpi_records::{Records, TpiFault, TpiHeader, tpi_header_bytes};
-
-/// A header and two records: a pointer to int, and an int with modifiers.
-const STREAM: [u8; 80] = [
-    0x0B, 0xCA, 0x31, 0x01, 0x38, 0x00, 0x00, 0x00, 0x00, 0x10, 0x00, 0x00, 0x02, 0x10, 0x00, 0x00,
-    0x18, 0x00, 0x00, 0x00, 0xFF, 0xFF, 0xFF, 0xFF, 0x04, 0x00, 0x00, 0x00, 0xFF, 0xFF, 0x03, 0x00,
-    0, 0, 0, 0, 0, 0, 0, 0, 0, 0, 0, 0, 0, 0, 0, 0, 0, 0, 0, 0, 0, 0, 0, 0, //
-    0x0A, 0x00, 0x02, 0x10, 0x74, 0x00, 0x00, 0x00, 0x0C, 0x00, 0x01, 0x00, //
-    0x0A, 0x00, 0x01, 0x10, 0x74, 0x00, 0x00, 0x00, 0x01, 0x00, 0xF2, 0xF1,
-];
 
 #[test]
 fn each_fault_has_its_text(rt: HostRuntime) -> Result<(), Fail> {
@@ -51,17 +42,18 @@ fn each_fault_has_its_text(rt: HostRuntime) -> Result<(), Fail> {
 
 #[test]
 fn a_stream_of_two_records(rt: HostRuntime) -> Result<(), Fail> {
-    let header = TpiHeader::read(&STREAM)?;
+    let stream = stream_with(rt.alloc(), &[TO_INT, CONST])?;
+    let header = TpiHeader::read(&stream)?;
     assert_eq!(rt; (header.count(), header.record_bytes()), (2, 24));
-    let records = Records::read(rt.alloc(), &STREAM)?;
+    let records = Records::read(rt.alloc(), &stream)?;
     assert_eq!(rt; records.len(), 2);
     assert!(rt; !records.is_empty());
-    assert_eq!(rt; records.get(0), Some(&STREAM[56..68]));
-    assert_eq!(rt; records.get(1), Some(&STREAM[68..80]));
+    assert_eq!(rt; records.get(0), Some(TO_INT));
+    assert_eq!(rt; records.get(1), Some(CONST));
     assert_eq!(rt; records.get(2), None);
     let mut left = records.iter();
-    assert_eq!(rt; left.next(), Some(&STREAM[56..68]));
-    assert_eq!(rt; left.next(), Some(&STREAM[68..80]));
+    assert_eq!(rt; left.next(), Some(TO_INT));
+    assert_eq!(rt; left.next(), Some(CONST));
     assert_eq!(rt; left.next(), None);
     Ok(())
 }
@@ -72,30 +64,21 @@ fn fault_of<A: Allocator + Copy>(alloc: A, stream: &[u8]) -> Option<TpiFault> {
 }
 
 #[test]
-fn an_end_that_is_too_large(rt: HostRuntime) {
-    let mut stream = STREAM;
-    stream[12] = 0xFF;
-    stream[13] = 0xFF;
-    stream[14] = 0xFF;
-    stream[15] = 0xFF;
+fn an_end_that_is_too_large(rt: HostRuntime) -> Result<(), Fail> {
+    let mut stream = stream_with(rt.alloc(), &[TO_INT, CONST])?;
+    put(&mut stream, 12, &[0xFF; 4]);
     let fault = TpiFault::RecordCount {
         said: 4294963199,
         found: 2,
     };
     assert_eq!(rt; fault_of(rt.alloc(), &stream), Some(fault));
+    Ok(())
 }
 
 #[test]
 fn growth_is_refused(rt: HostRuntime) -> Result<(), Fail> {
     // 64 records of four bytes each need a table of 256 bytes.
-    let mut stream = [0u8; 312];
-    stream[..56].copy_from_slice(&STREAM[..56]);
-    stream[12] = 0x40;
-    stream[16] = 0;
-    stream[17] = 1;
-    for position in 0..64usize {
-        stream[56 + 4 * position] = 2;
-    }
+    let stream = stream_with(rt.alloc(), &[b"\x02\0\0\0".as_slice(); 64])?;
     refusals(rt.alloc(), 16, 24, |heap| {
         let fault = fault_of(heap, &stream);
         assert!(rt; matches!(fault, None | Some(TpiFault::Memory)));
@@ -105,6 +88,8 @@ fn growth_is_refused(rt: HostRuntime) -> Result<(), Fail> {
 }
 
 #[test]
-fn the_header_of_two_records(rt: HostRuntime) {
-    assert_eq!(rt; tpi_header_bytes(2, 24).as_slice(), &STREAM[..56]);
+fn the_header_of_two_records(rt: HostRuntime) -> Result<(), Fail> {
+    let stream = stream_with(rt.alloc(), &[TO_INT, CONST])?;
+    assert_eq!(rt; stream.get(..56), Some(tpi_header_bytes(2, 24).as_slice()));
+    Ok(())
 }

@@ -3,37 +3,12 @@
 ghost use Rattle.std.specs.Prelude.{◌≤◌, length};
 
 use linked_list_allocator::LocalHeap;
+use samples::{Constant, folding};
 use std::alloc::Allocator;
-use std::hash::{BuildHasher, BuildHasherDefault, FoldHasher, Hasher};
+use std::hash::BuildHasher;
 use std::process::Abort;
 use std::test::Fail;
 use text_set::TextSet;
-
-/// A hasher that returns the same number for every text.
-#[derive(Clone, Copy)]
-struct Collides;
-
-impl Hasher for Collides {
-    ghost write = { λ h _. h };
-
-    ghost finish = { λ _. 7 };
-
-    fn finish(&self) -> u64 {
-        7
-    }
-
-    fn write(&mut self, _bytes: &[u8]) {}
-}
-
-impl BuildHasher for Collides {
-    type Hasher = Collides;
-
-    ghost build_hasher = { λ s. s };
-
-    fn build_hasher(&self) -> Collides {
-        *self
-    }
-}
 
 /// Interns a text after the one at `after`. Returns its position, or `None` when out of memory.
 fn intern<S: BuildHasher, A: Allocator>(
@@ -65,7 +40,7 @@ fn intern_each<S: BuildHasher, A: Allocator>(
 
 #[test]
 fn each_text_stands_once(rt: HostRuntime) -> Result<(), Fail> {
-    let mut texts = TextSet::with_hasher(rt.alloc(), BuildHasherDefault::<FoldHasher>::new());
+    let mut texts = TextSet::with_hasher(rt.alloc(), folding());
     assert!(rt; texts.is_empty());
     // the text, the position of the text before it, and its own position
     for (text, after, position) in [
@@ -98,7 +73,7 @@ fn each_text_stands_once(rt: HostRuntime) -> Result<(), Fail> {
 
 #[test]
 fn texts_with_one_hash(rt: HostRuntime) -> Result<(), Fail> {
-    let mut texts = TextSet::with_hasher(rt.alloc(), Collides);
+    let mut texts = TextSet::with_hasher(rt.alloc(), Constant);
     for (text, position) in [
         (b"four".as_slice(), 0usize),
         (b"more", 1),
@@ -127,7 +102,7 @@ fn a_refused_text_changes_nothing(rt: HostRuntime) -> Result<(), Fail> {
         let heap = LocalHeap::new(rt.alloc(), 4096 + 16 * size)?;
         // takes up the space that the texts get later
         let filler: Vec<u8, &LocalHeap> = Vec::with_capacity(&heap, 4000)?;
-        let mut texts = TextSet::with_hasher(&heap, Collides);
+        let mut texts = TextSet::with_hasher(&heap, Constant);
         let interned = intern_each(&rt, &mut texts, &TEXTS);
         assert_eq!(rt; texts.len(), interned);
         if interned < TEXTS.len() {

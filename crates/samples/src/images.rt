@@ -1,11 +1,11 @@
 //! Files with streams that a test gives.
 
+use crate::records::{stream_of, stream_with};
 use msf_blocks::Out;
 use msf_streams::{WriteFault, write_image};
 use pdb_info::{Settings, guid_of, info_bytes};
 use std::alloc::Global;
 use std::test::Fail;
-use tpi_records::tpi_header_bytes;
 
 /// Writes a file with these streams 1 and 2.
 #[tactic(auto, using(msf_blocks::proofs::SizeLaws::size_4096))]
@@ -25,26 +25,35 @@ fn write_two<'a>(
 }
 
 /// A file in blocks of 4,096 bytes, with these streams 1 and 2 and three empty ones.
-pub fn container(alloc: Global, info: &[u8], types: &[u8]) -> Result<Vec<u8>, WriteFault> {
+fn container(alloc: Global, info: &[u8], types: &[u8]) -> Result<Vec<u8>, WriteFault> {
     let mut file = Vec::new(alloc);
     write_two(alloc, info, types, &mut file)?;
     Ok(file)
 }
 
 /// The GUID 00112233-4455-6677-8899-aabbccddeeff, as it is stored.
-const GUID: [u8; 16] = [
+pub const GUID: [u8; 16] = [
     0x33, 0x22, 0x11, 0x00, 0x55, 0x44, 0x77, 0x66, 0x88, 0x99, 0xAA, 0xBB, 0xCC, 0xDD, 0xEE, 0xFF,
 ];
 
-/// A file with this GUID and the age 1. The header of its stream 2 gives `count` as the number of
+/// The highest limit of the bytes of the types in a file.
+pub const LIMIT: u32 = 1_073_741_824;
+
+/// Settings with that GUID and the age 1, for a file with at most `limit` bytes of types in blocks of
+/// this size.
+pub fn settings(limit: u32, block_size: u32) -> Result<Settings, Fail> {
+    Ok(Settings::new(guid_of(GUID), 1, limit, block_size).ok_or("no settings")?)
+}
+
+/// A file with that GUID and the age 1. The header of its stream 2 gives `count` as the number of
 /// records, and `records` are the bytes after it.
-pub fn pdb(alloc: Global, count: usize, records: &[u8]) -> Result<Vec<u8>, Fail> {
-    if count > 20_000 || records.len() > 10_000_000 {
-        return Err("too many records for a test".into());
-    }
-    let settings = Settings::new(guid_of(GUID), 1, 0, 4096).ok_or("no settings")?;
-    let mut types = Vec::new(alloc);
-    types.extend_from_slice(&tpi_header_bytes(count as u32, records.len() as u32))?;
-    types.extend_from_slice(records)?;
-    Ok(container(alloc, &info_bytes(&settings), &types)?)
+pub fn pdb(alloc: Global, count: u32, records: &[u8]) -> Result<Vec<u8>, Fail> {
+    let info = info_bytes(&settings(0, 4096)?);
+    Ok(container(alloc, &info, &stream_of(alloc, count, records)?)?)
+}
+
+/// A file with that GUID, the age 1 and these records.
+pub fn pdb_with(alloc: Global, records: &[&[u8]]) -> Result<Vec<u8>, Fail> {
+    let info = info_bytes(&settings(0, 4096)?);
+    Ok(container(alloc, &info, &stream_with(alloc, records)?)?)
 }

@@ -1,8 +1,12 @@
-//! What tests use: files, a sink and a source.
+//! What tests use: files, records, heaps, a sink, a source and hashers.
 //!
-//! - [`sample()`] is the file that is shipped, byte by byte; [`put`] changes bytes of a file.
-//! - [`container`] and [`pdb`] write files with streams and records that the test gives.
+//! - [`sample()`] is the file that is shipped, byte by byte; [`put`] changes bytes of a file, and
+//!   [`offset`] has the places of its parts.
+//! - [`CONST`], [`pointer`] and the like are type records. [`stream_with`] and [`stream_of`] give a
+//!   stream of records, and [`pdb_with`] and [`pdb`] write a file with it.
+//! - [`refusals`] makes a try on heaps of increasing size.
 //! - [`Narrow`] is a sink with little room. [`Dripping`] is a source that gives one byte a call.
+//! - [`folding`] is a good hasher. For [`Constant`] all texts have one hash.
 //!
 //! Shipped crates use this one only in their tests.
 #![tactic(auto)]
@@ -10,11 +14,20 @@
 mod dripping;
 mod file;
 mod growth;
+mod hashers;
 mod images;
 mod narrow;
+mod records;
 
 pub use dripping::Dripping;
-pub use file::{LENGTH, put, sample};
+pub use file::{LENGTH, offset, put, sample};
 pub use growth::refusals;
-pub use images::{container, pdb};
+pub use hashers::{Constant, folding};
+pub use images::{GUID, LIMIT, pdb, pdb_with, settings};
 pub use narrow::Narrow;
+pub use records::{
+    CONST, DECLARATION, DEFINITION, INT, LIST, LIST_BEFORE_FIRST, LIST_BEFORE_SECOND,
+    MEMBER_OF_FIRST, MEMBER_OF_SECOND, MEMBERS, METHODS, NO_MEMBER, TO_FIFTH, TO_FIRST, TO_FOURTH,
+    TO_INT, TO_SECOND, TO_SIXTH, TO_THIRD, UNKNOWN, VOLATILE, bytes_of, pointer, procedure,
+    stream_of, stream_with,
+};

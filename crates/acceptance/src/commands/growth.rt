@@ -3,7 +3,7 @@
 use super::shown::SAMPLE;
 use msf_blocks::{In, Out};
 use pdb_commands::{ReadFault, RunFault, read_all, run_check, run_records};
-use samples::{Dripping, put, refusals, sample};
+use samples::{Dripping, offset, put, refusals, sample};
 use std::test::Fail;
 
 #[test]
@@ -53,7 +53,7 @@ fn records_on_small_heaps(rt: HostRuntime) -> Result<(), Fail> {
 fn cycles_on_small_heaps(rt: HostRuntime) -> Result<(), Fail> {
     let mut file = sample(rt.alloc())?;
     // The first record names itself.
-    put(&mut file, 3132, b"\0\x10");
+    put(&mut file, offset::FIRST_REFERENCE, b"\0\x10");
     refusals(rt.alloc(), 64, 128, |heap| {
         let mut text = Vec::new(rt.alloc());
         let mut input = In::new(file.as_slice());

@@ -2,10 +2,8 @@
 
 use msf_blocks::Out;
 use pdb_commands::{RunFault, run_merge};
-use pdb_info::{Settings, guid_of};
-use samples::{put, refusals, sample};
+use samples::{folding, offset, put, refusals, sample, settings};
 use std::alloc::{Allocator, Global};
-use std::hash::{BuildHasherDefault, FoldHasher};
 use std::test::Fail;
 
 /// The report on the file with the types of the sample.
@@ -24,8 +22,7 @@ fn ran<A: Allocator + Copy>(
     files: &[&[u8]],
     limit: u32,
 ) -> Result<Answer<A>, Fail> {
-    let settings = Settings::new(guid_of([7; 16]), 1, limit, 4096).ok_or("no settings")?;
-    let hasher: BuildHasherDefault<FoldHasher> = BuildHasherDefault::new();
+    let settings = settings(limit, 4096)?;
     let mut file = Vec::new(global);
     let mut report = Vec::new(global);
     let answer = run_merge(
@@ -34,7 +31,7 @@ fn ran<A: Allocator + Copy>(
         &settings,
         &mut Out::new(&mut file),
         &mut Out::new(&mut report),
-        hasher,
+        folding(),
     );
     Ok((answer, file, report))
 }
@@ -46,8 +43,9 @@ fn the_report(rt: HostRuntime) -> Result<(), Fail> {
     assert_eq!(rt; answer, Ok(()));
     assert_eq!(rt; file.len(), LENGTH);
     assert_eq!(rt; report.as_slice(), REPORT.as_bytes());
-    let (answer, _, report) = ran(rt.alloc(), rt.alloc(), &[], 0)?;
+    let (answer, file, report) = ran(rt.alloc(), rt.alloc(), &[], 0)?;
     assert_eq!(rt; answer, Ok(()));
+    assert_eq!(rt; file.len(), LENGTH);
     assert_eq!(rt;
         report.as_slice(),
         b"types 0\nbytes 0\nfile 28672\n".as_slice()
@@ -81,7 +79,7 @@ fn faults_name_their_file(rt: HostRuntime) -> Result<(), Fail> {
     assert_eq!(rt; text.as_str(), "file 0: 2 Magic");
     // The first record names itself.
     let mut cycle = samples::sample(rt.alloc())?;
-    put(&mut cycle, 3132, b"\0\x10");
+    put(&mut cycle, offset::FIRST_REFERENCE, b"\0\x10");
     let text = fault_of(rt.alloc(), &sample, &cycle, 24)?;
     assert_eq!(rt; text.as_str(), "file 1: 34 Cycle 0x1000");
     Ok(())
@@ -90,9 +88,10 @@ fn faults_name_their_file(rt: HostRuntime) -> Result<(), Fail> {
 #[test]
 fn a_report_that_is_not_taken(rt: HostRuntime) -> Result<(), Fail> {
     let sample = sample(rt.alloc())?;
-    let settings = Settings::new(guid_of([7; 16]), 1, 24, 4096).ok_or("no settings")?;
-    let hasher: BuildHasherDefault<FoldHasher> = BuildHasherDefault::new();
-    let (_, want, _) = ran(rt.alloc(), rt.alloc(), &[&sample], 24)?;
+    let settings = settings(24, 4096)?;
+    let (answer, want, report) = ran(rt.alloc(), rt.alloc(), &[&sample], 24)?;
+    assert_eq!(rt; answer, Ok(()));
+    assert_eq!(rt; report.as_slice(), REPORT.as_bytes());
     for room in 0..REPORT.len() {
         let mut file = Vec::new(rt.alloc());
         let mut report = [0u8; 32];
@@ -102,7 +101,7 @@ fn a_report_that_is_not_taken(rt: HostRuntime) -> Result<(), Fail> {
             &settings,
             &mut Out::new(&mut file),
             &mut Out::new(&mut report[..room]),
-            hasher,
+            folding(),
         );
         assert_eq!(rt; answer, Err(RunFault::Write));
         assert!(rt; file == want);
@@ -115,21 +114,18 @@ fn a_report_that_is_not_taken(rt: HostRuntime) -> Result<(), Fail> {
 fn merges_on_small_heaps(rt: HostRuntime) -> Result<(), Fail> {
     // The first record names the second, so the types have to be put in order.
     let mut forward = sample(rt.alloc())?;
-    put(&mut forward, 3132, b"\x01\x10");
-    let mut unreported = 0usize;
+    put(&mut forward, offset::FIRST_REFERENCE, b"\x01\x10");
     let refused = refusals(rt.alloc(), 16, 1024, |heap| {
         let (answer, file, report) = ran(heap, rt.alloc(), &[&forward], 24)?;
         if answer.is_ok() {
             assert!(rt; file.len() == LENGTH && report.as_slice() == REPORT.as_bytes());
             return Ok(false);
         }
-        assert!(rt; matches!(answer, Err(RunFault::Memory)) && report.is_empty());
-        assert!(rt; file.is_empty() || file.len() == LENGTH);
-        if !file.is_empty() {
-            unreported = unreported.saturating_add(1);
-        }
+        assert!(rt; matches!(answer, Err(RunFault::Memory)));
+        // The merge needs more memory than the report, so no file stands without its report.
+        assert!(rt; file.is_empty() && report.is_empty());
         Ok(true)
     })?;
-    assert!(rt; 8 < refused && unreported < refused);
+    assert!(rt; 8 < refused);
     Ok(())
 }

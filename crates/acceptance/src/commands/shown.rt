@@ -1,27 +1,36 @@
 //! What the commands print of the sample, of changed samples, and of bytes that are no file.
 
 use msf_blocks::{In, Out};
-use pdb_commands::{run_check, run_info, run_record, run_records, run_streams, run_types};
-use samples::{LENGTH, pdb, put, sample};
+use pdb_commands::{
+    RunFault, run_check, run_info, run_record, run_records, run_streams, run_types,
+};
+use samples::{
+    CONST, DECLARATION, DEFINITION, LENGTH, MEMBER_OF_FIRST, MEMBERS, METHODS, NO_MEMBER, TO_FIRST,
+    TO_INT, TO_SECOND, UNKNOWN, offset, pdb_with, put, sample,
+};
 use std::alloc::Global;
 use std::test::Fail;
 
 /// What is printed of the sample.
 pub const SAMPLE: &str = "0x1000 0x1002 12\n0x1001 0x1001 12\n";
 
+/// What a run says: the text that it wrote, or the text of its fault. It is a failure if a run with
+/// a fault wrote something.
+fn said(alloc: Global, ran: Result<(), RunFault>, text: Vec<u8>) -> Result<String, Fail> {
+    match ran {
+        Ok(()) => Ok(String::from_utf8(text)?),
+        Err(fault) if text.is_empty() => Ok(fault.to_string(alloc)?),
+        Err(_) => Err("something was written before the fault".into()),
+    }
+}
+
 /// What is printed of a file, or the fault.
 pub fn shown(alloc: Global, file: &[u8]) -> Result<String, Fail> {
     let mut text = Vec::new(alloc);
-    match run_records(
-        alloc,
-        &mut In::new(file),
-        u32::MAX,
-        &mut Out::new(&mut text),
-    ) {
-        Ok(()) => {}
-        Err(fault) => return Ok(fault.to_string(alloc)?),
-    }
-    Ok(String::from_utf8(text)?)
+    let mut out = Out::new(&mut text);
+    let ran = run_records(alloc, &mut In::new(file), u32::MAX, &mut out);
+    drop(out);
+    said(alloc, ran, text)
 }
 
 #[test]
@@ -50,56 +59,116 @@ fn cut_and_extended_files(rt: HostRuntime) -> Result<(), Fail> {
 type Row = (usize, &'static [u8], &'static str);
 
 const SUPERBLOCK: [Row; 9] = [
-    (32, b"\xff\x0f\0\0", "3 BlockSize 4095"),
-    (36, b"\x03\0\0\0", "4 FreeMapBlock 3"),
-    (40, b"\x08\0\0\0", "5 FileSize need 4096 have 3584"),
-    (44, b"\x06\0\0\0", "6 DirectorySize 6"),
-    (44, b"\x04\0\x01\0", "6 DirectorySize 65540"),
-    (52, b"\x07\0\0\0", "7 BlockMapAddr 7"),
-    (52, b"\0\0\0\0", "7 BlockMapAddr 0"),
-    (44, b"\0\0\0\0", "9 DirectoryShort need 4 have 0"),
-    (44, b"\x1c\0\0\0", "9 DirectoryShort need 32 have 28"),
+    (offset::BLOCK_SIZE, b"\xff\x0f\0\0", "3 BlockSize 4095"),
+    (offset::FREE_MAP_BLOCK, b"\x03\0\0\0", "4 FreeMapBlock 3"),
+    (
+        offset::NUM_BLOCKS,
+        b"\x08\0\0\0",
+        "5 FileSize need 4096 have 3584",
+    ),
+    (offset::DIRECTORY_BYTES, b"\x06\0\0\0", "6 DirectorySize 6"),
+    (
+        offset::DIRECTORY_BYTES,
+        b"\x04\0\x01\0",
+        "6 DirectorySize 65540",
+    ),
+    (offset::BLOCK_MAP_ADDR, b"\x07\0\0\0", "7 BlockMapAddr 7"),
+    (offset::BLOCK_MAP_ADDR, b"\0\0\0\0", "7 BlockMapAddr 0"),
+    (
+        offset::DIRECTORY_BYTES,
+        b"\0\0\0\0",
+        "9 DirectoryShort need 4 have 0",
+    ),
+    (
+        offset::DIRECTORY_BYTES,
+        b"\x1c\0\0\0",
+        "9 DirectoryShort need 32 have 28",
+    ),
 ];
 
 const DIRECTORY: [Row; 8] = [
-    (2048, b"\x01\0\0\0", "11 NoStream 2"),
-    (2060, b"\x37\0\0\0", "16 TpiShort"),
+    (offset::DIRECTORY, b"\x01\0\0\0", "11 NoStream 2"),
+    (offset::TYPES_SIZE, b"\x37\0\0\0", "16 TpiShort"),
     (
-        2060,
+        offset::TYPES_SIZE,
         b"\xff\xff\xff\xff\0\0\0\0\0\0\0\0\x05\0\0\0\0\0\0\0",
         "16 TpiShort",
     ),
-    (2076, b"\x07\0\0\0", "10 StreamBlock stream 2 at 0 n 7"),
-    (1536, b"\0\0\0\0", "8 DirectoryBlock at 0 n 0"),
     (
-        2048,
+        offset::STREAM_BLOCKS + 4,
+        b"\x07\0\0\0",
+        "10 StreamBlock stream 2 at 0 n 7",
+    ),
+    (offset::BLOCK_MAP, b"\0\0\0\0", "8 DirectoryBlock at 0 n 0"),
+    (
+        offset::DIRECTORY,
         b"\xff\xff\xff\xff",
         "9 DirectoryShort need 17179869184 have 32",
     ),
     (
-        2068,
+        offset::EMPTY_SIZES + 4,
         b"\xfe\xff\xff\xff",
         "9 DirectoryShort need 33554464 have 32",
     ),
-    (2072, b"\0\0\0\0", "10 StreamBlock stream 1 at 0 n 0"),
+    (
+        offset::STREAM_BLOCKS,
+        b"\0\0\0\0",
+        "10 StreamBlock stream 1 at 0 n 0",
+    ),
 ];
 
 const TPI: [Row; 14] = [
-    (3072, b"\x0c\xca\x31\x01", "17 TpiVersion 20040204"),
-    (3076, b"\x39\0\0\0", "18 TpiHeaderSize 57"),
-    (3080, b"\x01\x10\0\0", "19 TpiBegin 0x1001"),
-    (3084, b"\xff\x0f\0\0", "20 TpiEnd 0xfff"),
-    (3088, b"\x19\0\0\0", "21 TpiBytes need 25 have 24"),
-    (3088, b"\x14\0\0\0", "22 RecordShort index 0x1001"),
-    (3088, b"\x0e\0\0\0", "22 RecordShort index 0x1001"),
-    (3088, b"\x0d\0\0\0", "22 RecordShort index 0x1001"),
-    (3088, b"\x0c\0\0\0", "24 RecordCount said 2 found 1"),
-    (3128, b"\0\0", "23 RecordLen index 0x1000 len 0"),
-    (3128, b"\x01\0", "23 RecordLen index 0x1000 len 1"),
-    (3128, b"\x03\0", "23 RecordLen index 0x1000 len 3"),
-    (3084, b"\x03\x10\0\0", "24 RecordCount said 3 found 2"),
+    (offset::TYPES, b"\x0c\xca\x31\x01", "17 TpiVersion 20040204"),
+    (offset::TYPES + 4, b"\x39\0\0\0", "18 TpiHeaderSize 57"),
+    (offset::TYPES + 8, b"\x01\x10\0\0", "19 TpiBegin 0x1001"),
+    (offset::TYPE_END, b"\xff\x0f\0\0", "20 TpiEnd 0xfff"),
     (
-        3084,
+        offset::RECORD_BYTES,
+        b"\x19\0\0\0",
+        "21 TpiBytes need 25 have 24",
+    ),
+    (
+        offset::RECORD_BYTES,
+        b"\x14\0\0\0",
+        "22 RecordShort index 0x1001",
+    ),
+    (
+        offset::RECORD_BYTES,
+        b"\x0e\0\0\0",
+        "22 RecordShort index 0x1001",
+    ),
+    (
+        offset::RECORD_BYTES,
+        b"\x0d\0\0\0",
+        "22 RecordShort index 0x1001",
+    ),
+    (
+        offset::RECORD_BYTES,
+        b"\x0c\0\0\0",
+        "24 RecordCount said 2 found 1",
+    ),
+    (
+        offset::FIRST_RECORD,
+        b"\0\0",
+        "23 RecordLen index 0x1000 len 0",
+    ),
+    (
+        offset::FIRST_RECORD,
+        b"\x01\0",
+        "23 RecordLen index 0x1000 len 1",
+    ),
+    (
+        offset::FIRST_RECORD,
+        b"\x03\0",
+        "23 RecordLen index 0x1000 len 3",
+    ),
+    (
+        offset::TYPE_END,
+        b"\x03\x10\0\0",
+        "24 RecordCount said 3 found 2",
+    ),
+    (
+        offset::TYPE_END,
         b"\xff\xff\xff\xff",
         "24 RecordCount said 4294963199 found 2",
     ),
@@ -126,7 +195,7 @@ fn changed_samples(rt: HostRuntime) -> Result<(), Fail> {
 #[test]
 fn a_stream_without_records(rt: HostRuntime) -> Result<(), Fail> {
     let mut file = sample(rt.alloc())?;
-    put(&mut file, 3084, b"\0\x10\0\0\0\0\0\0");
+    put(&mut file, offset::TYPE_END, b"\0\x10\0\0\0\0\0\0");
     let text = shown(rt.alloc(), &file)?;
     assert_eq!(rt; text.as_str(), "");
     Ok(())
@@ -135,16 +204,10 @@ fn a_stream_without_records(rt: HostRuntime) -> Result<(), Fail> {
 /// What `streams` prints of a file, or the fault.
 fn streams_of(alloc: Global, file: &[u8]) -> Result<String, Fail> {
     let mut text = Vec::new(alloc);
-    match run_streams(
-        alloc,
-        &mut In::new(file),
-        u32::MAX,
-        &mut Out::new(&mut text),
-    ) {
-        Ok(()) => {}
-        Err(fault) => return Ok(fault.to_string(alloc)?),
-    }
-    Ok(String::from_utf8(text)?)
+    let mut out = Out::new(&mut text);
+    let ran = run_streams(alloc, &mut In::new(file), u32::MAX, &mut out);
+    drop(out);
+    said(alloc, ran, text)
 }
 
 #[test]
@@ -157,14 +220,14 @@ fn streams_of_the_sample(rt: HostRuntime) -> Result<(), Fail> {
         Some("0 0\n1 52 5\n2 80 6\n3 0\n4 0\n")
     );
     // Block 6 is free in map 1, but not in map 2.
-    put(&mut file, 512, b"\x40");
+    put(&mut file, offset::FREE_MAP, b"\x40");
     let text = streams_of(rt.alloc(), &file)?;
     assert!(rt; text.as_str().contains("\nfree 1\n"));
-    put(&mut file, 36, b"\x02");
+    put(&mut file, offset::FREE_MAP_BLOCK, b"\x02");
     let text = streams_of(rt.alloc(), &file)?;
     assert!(rt; text.as_str().contains("\nfree 0\n"));
     // A nil stream has no bytes.
-    put(&mut file, 2064, b"\xff\xff\xff\xff");
+    put(&mut file, offset::EMPTY_SIZES, b"\xff\xff\xff\xff");
     let text = streams_of(rt.alloc(), &file)?;
     assert!(rt; text.as_str().ends_with("\n3 0\n4 0\n"));
     Ok(())
@@ -173,16 +236,10 @@ fn streams_of_the_sample(rt: HostRuntime) -> Result<(), Fail> {
 /// What `info` prints of a file, or the fault.
 fn info_of(alloc: Global, file: &[u8]) -> Result<String, Fail> {
     let mut text = Vec::new(alloc);
-    match run_info(
-        alloc,
-        &mut In::new(file),
-        u32::MAX,
-        &mut Out::new(&mut text),
-    ) {
-        Ok(()) => {}
-        Err(fault) => return Ok(fault.to_string(alloc)?),
-    }
-    Ok(String::from_utf8(text)?)
+    let mut out = Out::new(&mut text);
+    let ran = run_info(alloc, &mut In::new(file), u32::MAX, &mut out);
+    drop(out);
+    said(alloc, ran, text)
 }
 
 /// The first four lines of the sample's info stream.
@@ -197,9 +254,9 @@ const MAP: &[u8] = b"\x07\0\0\0/names\0\x01\0\0\0\x08\0\0\0\x01\0\0\0\x10\0\0\0\
 /// other bytes from an offset on.
 fn info_with(alloc: Global, len: u8, at: usize, bytes: &[u8]) -> Result<String, Fail> {
     let mut file = sample(alloc)?;
-    put(&mut file, 2056, &[len]);
-    put(&mut file, 2588, MAP);
-    put(&mut file, 2560usize.saturating_add(at), bytes);
+    put(&mut file, offset::INFO_SIZE, &[len]);
+    put(&mut file, offset::NAMED_STREAMS, MAP);
+    put(&mut file, offset::INFO.saturating_add(at), bytes);
     info_of(alloc, &file)
 }
 
@@ -208,10 +265,10 @@ fn info_of_samples(rt: HostRuntime) -> Result<(), Fail> {
     let mut file = sample(rt.alloc())?;
     let text = info_of(rt.alloc(), &file)?;
     assert_eq!(rt; text.as_str(), HEADER);
-    put(&mut file, 2056, b"\x1b");
+    put(&mut file, offset::INFO_SIZE, b"\x1b");
     let text = info_of(rt.alloc(), &file)?;
     assert_eq!(rt; text.as_str(), "12 InfoShort");
-    put(&mut file, 2048, b"\x01");
+    put(&mut file, offset::DIRECTORY, b"\x01");
     let text = info_of(rt.alloc(), &file)?;
     assert_eq!(rt; text.as_str(), "11 NoStream 1");
     Ok(())
@@ -254,17 +311,10 @@ fn info_with_names(rt: HostRuntime) -> Result<(), Fail> {
 /// What `record` prints of a file, or the fault.
 fn record_of(alloc: Global, file: &[u8], index: u32) -> Result<String, Fail> {
     let mut text = Vec::new(alloc);
-    match run_record(
-        alloc,
-        &mut In::new(file),
-        u32::MAX,
-        index,
-        &mut Out::new(&mut text),
-    ) {
-        Ok(()) => {}
-        Err(fault) => return Ok(fault.to_string(alloc)?),
-    }
-    Ok(String::from_utf8(text)?)
+    let mut out = Out::new(&mut text);
+    let ran = run_record(alloc, &mut In::new(file), u32::MAX, index, &mut out);
+    drop(out);
+    said(alloc, ran, text)
 }
 
 #[test]
@@ -282,55 +332,52 @@ fn records_of_the_sample(rt: HostRuntime) -> Result<(), Fail> {
     Ok(())
 }
 
-/// The length and the bytes of a type record, and what `record` prints of it.
-type Shown = (u8, &'static [u8], &'static str);
+/// The bytes of a type record, and what is printed of it.
+type Shown = (&'static [u8], &'static str);
 
 const LEAVES: [Shown; 7] = [
     // a pointer to a member, and a pointer to no member whose bytes look the same
     (
-        20,
-        b"\x12\0\x02\x10\x74\0\0\0\x4c\x80\0\0\0\x10\0\0\x01\0\xf2\xf1",
+        MEMBER_OF_FIRST,
         "12000210740000004c800000001000000100f2f1\n0 0x74\n8 0x1000\n",
     ),
     (
-        20,
-        b"\x12\0\x02\x10\x74\0\0\0\x0c\x80\0\0\0\x10\0\0\x01\0\xf2\xf1",
+        NO_MEMBER,
         "12000210740000000c800000001000000100f2f1\n0 0x74\n",
     ),
     // a method list whose first entry introduces a virtual function, and one that is cut short
     (
-        24,
-        b"\x16\0\x06\x12\x13\0\0\0\x74\0\0\0\0\0\0\0\x03\0\0\0\x74\0\0\0",
+        &METHODS,
         "160006121300000074000000000000000300000074000000\n4 0x74\n16 0x74\n",
     ),
     (
-        20,
         b"\x12\0\x06\x12\x13\0\0\0\x74\0\0\0\0\0\0\0\x03\0\0\0",
         "index 0x1000: 26 Body 16",
     ),
     // a structure with its name
     (
-        24,
-        b"\x16\0\x05\x15\0\0\0\0\0\0\0\0\0\0\0\0\0\0\0\0\x01\0S\0",
+        DEFINITION,
         "160005150000000000000000000000000000000001005300\n4 0x0\n8 0x0\n12 0x0\nname \"S\"\n",
     ),
-    (8, b"\x06\0\x01\x12\0\0\0\0", "0600011200000000\n"),
-    (4, b"\x02\0\x0a\x15", "index 0x1000: 25 Leaf 0x150a"),
+    (b"\x06\0\x01\x12\0\0\0\0", "0600011200000000\n"),
+    (UNKNOWN, "index 0x1000: 25 Leaf 0x150a"),
 ];
 
 /// The sample with these bytes as its one type record.
-fn sample_with(alloc: Global, len: u8, bytes: &[u8]) -> Result<Vec<u8>, Fail> {
+fn sample_with(alloc: Global, bytes: &[u8]) -> Result<Vec<u8>, Fail> {
     let mut file = sample(alloc)?;
-    put(&mut file, 2060, &[len.saturating_add(56)]);
-    put(&mut file, 3084, &[1, 0x10, 0, 0, len]);
-    put(&mut file, 3128, bytes);
+    let len = u8::try_from(bytes.len())?;
+    put(&mut file, offset::TYPES_SIZE, &[len.saturating_add(56)]);
+    put(&mut file, offset::TYPE_END, &[1, 0x10, 0, 0]);
+    put(&mut file, offset::RECORD_BYTES, &[len]);
+    put(&mut file, offset::FIRST_RECORD, bytes);
     Ok(file)
 }
 
 #[test]
 fn records_of_several_leaves(rt: HostRuntime) -> Result<(), Fail> {
-    for (len, bytes, want) in LEAVES {
-        let file = sample_with(rt.alloc(), len, bytes)?;
+    for (bytes, want) in LEAVES {
+        let file = sample_with(rt.alloc(), bytes)?;
         let text = record_of(rt.alloc(), &file, 0x1000)?;
         assert_eq!(rt; text.as_str(), want);
     }
@@ -340,16 +387,10 @@ fn records_of_several_leaves(rt: HostRuntime) -> Result<(), Fail> {
 /// What `types` prints of a file, or the fault.
 fn types_of(alloc: Global, file: &[u8]) -> Result<String, Fail> {
     let mut text = Vec::new(alloc);
-    match run_types(
-        alloc,
-        &mut In::new(file),
-        u32::MAX,
-        &mut Out::new(&mut text),
-    ) {
-        Ok(()) => {}
-        Err(fault) => return Ok(fault.to_string(alloc)?),
-    }
-    Ok(String::from_utf8(text)?)
+    let mut out = Out::new(&mut text);
+    let ran = run_types(alloc, &mut In::new(file), u32::MAX, &mut out);
+    drop(out);
+    said(alloc, ran, text)
 }
 
 #[test]
@@ -361,14 +402,14 @@ fn types_of_the_sample(rt: HostRuntime) -> Result<(), Fail> {
         "0x1000 LF_POINTER 12 0x74\n0x1001 LF_MODIFIER 12 0x74\n"
     );
     // the second record has a kind that is not in the table
-    put(&mut file, 3142, b"\x0a\x15");
+    put(&mut file, offset::SECOND_RECORD + 2, b"\x0a\x15");
     let text = types_of(rt.alloc(), &file)?;
     assert_eq!(rt; text.as_str(), "index 0x1001: 25 Leaf 0x150a");
     // no records
-    put(&mut file, 3084, b"\0\x10\0\0\0\0\0\0");
+    put(&mut file, offset::TYPE_END, b"\0\x10\0\0\0\0\0\0");
     let text = types_of(rt.alloc(), &file)?;
     assert_eq!(rt; text.as_str(), "");
-    put(&mut file, 2048, b"\x01");
+    put(&mut file, offset::DIRECTORY, b"\x01");
     let text = types_of(rt.alloc(), &file)?;
     assert_eq!(rt; text.as_str(), "11 NoStream 2");
     Ok(())
@@ -376,45 +417,27 @@ fn types_of_the_sample(rt: HostRuntime) -> Result<(), Fail> {
 
 const TYPES: [Shown; 6] = [
     // a structure with its name
-    (
-        24,
-        b"\x16\0\x05\x15\0\0\x80\0\0\0\0\0\0\0\0\0\0\0\0\0\0\0S\0",
-        "0x1000 LF_STRUCTURE 24 0x0 0x0 0x0 \"S\"\n",
-    ),
+    (DECLARATION, "0x1000 LF_STRUCTURE 24 0x0 0x0 0x0 \"S\"\n"),
     // an empty name
     (
-        24,
         b"\x16\0\x05\x15\0\0\x80\0\0\0\0\0\0\0\0\0\0\0\0\0\0\0\0\0",
         "0x1000 LF_STRUCTURE 24 0x0 0x0 0x0 \"\"\n",
     ),
     // no types that it names, and no name
-    (8, b"\x06\0\x01\x12\0\0\0\0", "0x1000 LF_ARGLIST 8\n"),
+    (b"\x06\0\x01\x12\0\0\0\0", "0x1000 LF_ARGLIST 8\n"),
     // a field list with a member of each kind
     (
-        148,
-        b"\x92\0\x03\x12\
-          \x00\x14\x03\0\x74\0\0\0\0\0\xf2\xf1\
-          \x01\x14\x03\0\x74\0\0\0\x74\0\0\0\0\0\x04\0\
-          \x02\x14\x03\0\x74\0\0\0\x74\0\0\0\0\0\x04\0\
-          \x04\x14\0\0\x74\0\0\0\
-          \x09\x14\0\0\x74\0\0\0\
-          \x02\x15\x03\0\0\0\x41\0\
-          \x0d\x15\x03\0\x74\0\0\0\0\0\x42\0\
-          \x0e\x15\x03\0\x74\0\0\0\x43\0\xf2\xf1\
-          \x0f\x15\x02\0\x74\0\0\0\x44\0\xf2\xf1\
-          \x10\x15\0\0\x74\0\0\0\x45\0\xf2\xf1\
-          \x11\x15\x13\0\x74\0\0\0\0\0\0\0\x46\0\xf2\xf1\
-          \x1a\x15\x03\0\x74\0\0\0\0\0\xf2\xf1",
+        &MEMBERS,
         "0x1000 LF_FIELDLIST 148 0x74 0x74 0x74 0x74 0x74 0x74 0x74 0x74 0x74 0x74 0x74 0x74 0x74\n",
     ),
-    (4, b"\x02\0\x0a\x15", "index 0x1000: 25 Leaf 0x150a"),
-    (8, b"\x06\0\x01\x12\x01\0\0\0", "index 0x1000: 26 Body 4"),
+    (UNKNOWN, "index 0x1000: 25 Leaf 0x150a"),
+    (b"\x06\0\x01\x12\x01\0\0\0", "index 0x1000: 26 Body 4"),
 ];
 
 #[test]
 fn types_of_several_leaves(rt: HostRuntime) -> Result<(), Fail> {
-    for (len, bytes, want) in TYPES {
-        let file = sample_with(rt.alloc(), len, bytes)?;
+    for (bytes, want) in TYPES {
+        let file = sample_with(rt.alloc(), bytes)?;
         let text = types_of(rt.alloc(), &file)?;
         assert_eq!(rt; text.as_str(), want);
     }
@@ -424,50 +447,64 @@ fn types_of_several_leaves(rt: HostRuntime) -> Result<(), Fail> {
 /// What `check` prints of a file, or the fault.
 fn checked(alloc: Global, file: &[u8]) -> Result<String, Fail> {
     let mut text = Vec::new(alloc);
-    match run_check(
-        alloc,
-        &mut In::new(file),
-        u32::MAX,
-        &mut Out::new(&mut text),
-    ) {
-        Ok(()) => {}
-        Err(fault) => return Ok(fault.to_string(alloc)?),
-    }
-    Ok(String::from_utf8(text)?)
+    let mut out = Out::new(&mut text);
+    let ran = run_check(alloc, &mut In::new(file), u32::MAX, &mut out);
+    drop(out);
+    said(alloc, ran, text)
 }
 
 /// What `check` prints of changed samples.
 const CHECKED: [Row; 14] = [
     (0, b"", "accepted\nrecords 2\nbytes 24\nlevels 1\n"),
     (0, b"m", "2 Magic"),
-    (2048, b"\x01", "11 NoStream 1"),
-    (2048, b"\x02\0\0\0\0\0\0\0\x1b\0\0\0\x05", "12 InfoShort"),
-    (2048, b"\x02\0\0\0\0\0\0\0\x34\0\0\0\x05", "11 NoStream 2"),
-    (2056, b"\x1b", "12 InfoShort"),
-    (3088, b"\x14\0\0\0", "22 RecordShort index 0x1001"),
-    (3142, b"\x0a\x15", "index 0x1001: 25 Leaf 0x150a"),
+    (offset::DIRECTORY, b"\x01", "11 NoStream 1"),
+    (
+        offset::DIRECTORY,
+        b"\x02\0\0\0\0\0\0\0\x1b\0\0\0\x05",
+        "12 InfoShort",
+    ),
+    (
+        offset::DIRECTORY,
+        b"\x02\0\0\0\0\0\0\0\x34\0\0\0\x05",
+        "11 NoStream 2",
+    ),
+    (offset::INFO_SIZE, b"\x1b", "12 InfoShort"),
+    (
+        offset::RECORD_BYTES,
+        b"\x14\0\0\0",
+        "22 RecordShort index 0x1001",
+    ),
+    (
+        offset::SECOND_RECORD + 2,
+        b"\x0a\x15",
+        "index 0x1001: 25 Leaf 0x150a",
+    ),
     // the first record names the second, itself, or one after the last
     (
-        3132,
+        offset::FIRST_REFERENCE,
         b"\x01\x10",
         "accepted\nrecords 2\nbytes 24\nlevels 2\n",
     ),
-    (3132, b"\0\x10", "34 Cycle 0x1000"),
-    (3132, b"\x02\x10", "31 Ref index 0x1000 place 0 to 0x1002"),
+    (offset::FIRST_REFERENCE, b"\0\x10", "34 Cycle 0x1000"),
+    (
+        offset::FIRST_REFERENCE,
+        b"\x02\x10",
+        "31 Ref index 0x1000 place 0 to 0x1002",
+    ),
     // the two records name each other
     (
-        3132,
+        offset::FIRST_REFERENCE,
         b"\x01\x10\0\0\x0c\0\x01\0\x0a\0\x01\x10\0\x10",
         "34 Cycle 0x1000 0x1001",
     ),
     // the first record names itself, and the second names one after the last
     (
-        3132,
+        offset::FIRST_REFERENCE,
         b"\0\x10\0\0\x0c\0\x01\0\x0a\0\x01\x10\x05\x10",
         "31 Ref index 0x1001 place 0 to 0x1005",
     ),
     (
-        3084,
+        offset::TYPE_END,
         b"\0\x10\0\0\0\0\0\0",
         "accepted\nrecords 0\nbytes 0\nlevels 0\n",
     ),
@@ -488,11 +525,11 @@ fn checks_of_samples(rt: HostRuntime) -> Result<(), Fail> {
 fn a_chain_of_three_records(rt: HostRuntime) -> Result<(), Fail> {
     let mut file = sample(rt.alloc())?;
     // a modifier of a simple type, a pointer to it, and a pointer to that
-    put(&mut file, 2060, b"\x5c");
-    put(&mut file, 3084, b"\x03\x10\0\0\x24");
-    put(&mut file, 3128, b"\x0a\0\x01\x10\x74\0\0\0\x01\0\xf2\xf1");
-    put(&mut file, 3140, b"\x0a\0\x02\x10\0\x10\0\0\x0c\0\x01\0");
-    put(&mut file, 3152, b"\x0a\0\x02\x10\x01\x10\0\0\x0c\0\x01\0");
+    put(&mut file, offset::TYPES_SIZE, b"\x5c");
+    put(&mut file, offset::TYPE_END, b"\x03\x10\0\0\x24");
+    put(&mut file, offset::FIRST_RECORD, CONST);
+    put(&mut file, offset::SECOND_RECORD, TO_FIRST);
+    put(&mut file, offset::SECOND_RECORD + 12, TO_SECOND);
     let text = checked(rt.alloc(), &file)?;
     assert_eq!(rt; text.as_str(), "accepted\nrecords 3\nbytes 36\nlevels 3\n");
     Ok(())
@@ -500,11 +537,7 @@ fn a_chain_of_three_records(rt: HostRuntime) -> Result<(), Fail> {
 
 #[test]
 fn a_file_that_was_written(rt: HostRuntime) -> Result<(), Fail> {
-    let file = pdb(
-        rt.alloc(),
-        2,
-        b"\x0a\0\x02\x10\x74\0\0\0\x0c\0\x01\0\x0a\0\x01\x10\x74\0\0\0\x01\0\xf2\xf1",
-    )?;
+    let file = pdb_with(rt.alloc(), &[TO_INT, CONST])?;
     let text = shown(rt.alloc(), &file)?;
     assert_eq!(rt; text.as_str(), SAMPLE);
     let text = streams_of(rt.alloc(), &file)?;

@@ -1,14 +1,14 @@
 //! Records that name later ones, and cycles.
 
-use super::merging::{LIMIT, M, P, Q0, Q1, Q2, Q3, file_of, hasher, merged, settings};
+use super::merging::merged;
 use msf_blocks::Out;
 use pdb_merge::{Buffer, merge_files, merge_to, read_types};
-use samples::{pdb, refusals};
+use samples::{
+    CONST, LIMIT, TO_FIRST, TO_FOURTH, TO_INT, TO_SECOND, TO_SIXTH, TO_THIRD, folding, pdb,
+    pdb_with, pointer, refusals, settings,
+};
 use std::alloc::{Allocator, Global};
 use std::test::Fail;
-
-/// A pointer to the sixth record.
-const Q5: &[u8] = b"\x0a\0\x02\x10\x05\x10\0\0\x0c\0\x01\0";
 
 /// The answer for a file: how many levels its types have, or the text of the fault.
 fn said<A: Allocator + Copy>(alloc: A, text: Global, file: &[u8]) -> Result<String, Fail> {
@@ -23,21 +23,30 @@ fn said<A: Allocator + Copy>(alloc: A, text: Global, file: &[u8]) -> Result<Stri
 type Row = (&'static [&'static [u8]], &'static str);
 
 const ROWS: [Row; 9] = [
-    (&[Q1, M], "2"),
-    (&[Q1, Q3, M, Q2], "4"),
-    (&[M, Q1], "34 Cycle 0x1001"),
-    (&[M, Q2], "31 Ref index 0x1001 place 0 to 0x1002"),
-    (&[Q0], "34 Cycle 0x1000"),
-    (&[Q1, Q0], "34 Cycle 0x1000 0x1001"),
-    (&[Q1, Q2, Q1, M], "34 Cycle 0x1000 0x1001 0x1002"),
-    (&[M, Q3, Q0, Q3], "34 Cycle 0x1001 0x1003"),
-    (&[Q0, Q5], "31 Ref index 0x1001 place 0 to 0x1005"),
+    (&[TO_SECOND, CONST], "2"),
+    (&[TO_SECOND, TO_FOURTH, CONST, TO_THIRD], "4"),
+    (&[CONST, TO_SECOND], "34 Cycle 0x1001"),
+    (&[CONST, TO_THIRD], "31 Ref index 0x1001 place 0 to 0x1002"),
+    (&[TO_FIRST], "34 Cycle 0x1000"),
+    (&[TO_SECOND, TO_FIRST], "34 Cycle 0x1000 0x1001"),
+    (
+        &[TO_SECOND, TO_THIRD, TO_SECOND, CONST],
+        "34 Cycle 0x1000 0x1001 0x1002",
+    ),
+    (
+        &[CONST, TO_FOURTH, TO_FIRST, TO_FOURTH],
+        "34 Cycle 0x1001 0x1003",
+    ),
+    (
+        &[TO_FIRST, TO_SIXTH],
+        "31 Ref index 0x1001 place 0 to 0x1005",
+    ),
 ];
 
 #[test]
 fn each_file_is_accepted_or_named(rt: HostRuntime) -> Result<(), Fail> {
     for (records, want) in ROWS {
-        let file = file_of(rt.alloc(), records)?;
+        let file = pdb_with(rt.alloc(), records)?;
         let found = said(rt.alloc(), rt.alloc(), &file)?;
         assert_eq!(rt; found.as_str(), want);
     }
@@ -46,8 +55,8 @@ fn each_file_is_accepted_or_named(rt: HostRuntime) -> Result<(), Fail> {
 
 #[test]
 fn a_cycle_in_the_second_file(rt: HostRuntime) -> Result<(), Fail> {
-    let good = file_of(rt.alloc(), &[Q1, M])?;
-    let cycle = file_of(rt.alloc(), &[Q1, Q0, M])?;
+    let good = pdb_with(rt.alloc(), &[TO_SECOND, CONST])?;
+    let cycle = pdb_with(rt.alloc(), &[TO_SECOND, TO_FIRST, CONST])?;
     let (answer, written) = merged(rt.alloc(), &[good.as_slice(), cycle.as_slice()], LIMIT)?;
     let Err(fault) = answer else {
         return Err("a cycle was merged".into());
@@ -63,16 +72,14 @@ fn a_cycle_in_the_second_file(rt: HostRuntime) -> Result<(), Fail> {
 fn chain(alloc: Global, pointers: u32, forward: bool) -> Result<Vec<u8>, Fail> {
     let mut bytes = Vec::new(alloc);
     if !forward {
-        bytes.extend_from_slice(M)?;
+        bytes.extend_from_slice(CONST)?;
     }
     for i in 0..pointers {
         let to = if forward { i.wrapping_add(1) } else { i };
-        bytes.extend_from_slice(b"\x0a\0\x02\x10")?;
-        bytes.extend_from_slice(&0x1000u32.wrapping_add(to).to_le_bytes())?;
-        bytes.extend_from_slice(b"\x0c\0\x01\0")?;
+        bytes.extend_from_slice(&pointer(0x1000u32.wrapping_add(to)))?;
     }
     if forward {
-        bytes.extend_from_slice(M)?;
+        bytes.extend_from_slice(CONST)?;
     }
     Ok(bytes)
 }
@@ -93,7 +100,7 @@ fn a_forward_chain_merges_as_the_chain_turned_round(rt: HostRuntime) -> Result<(
 #[test]
 fn growth_is_refused_in_turn(rt: HostRuntime) -> Result<(), Fail> {
     for (records, want) in ROWS {
-        let file = file_of(rt.alloc(), records)?;
+        let file = pdb_with(rt.alloc(), records)?;
         let refused = refusals(rt.alloc(), 16, 64, |heap| {
             let found = said(heap, rt.alloc(), &file)?;
             let refused = found.as_str() == "33 Memory";
@@ -112,7 +119,7 @@ fn said_of_two<'a, A: Allocator + Copy>(
     first: &'a [u8],
     second: &'a [u8],
 ) -> Result<String, Fail> {
-    match merge_files(alloc, &[first, second], &settings(LIMIT)?, hasher()) {
+    match merge_files(alloc, &[first, second], &settings(LIMIT, 4096)?, folding()) {
         Ok(canon) => Ok(canon.len().to_string(text)?),
         Err(fault) => Ok(fault.to_string(text)?),
     }
@@ -121,16 +128,16 @@ fn said_of_two<'a, A: Allocator + Copy>(
 #[test]
 fn merges_are_refused_growth_in_turn(rt: HostRuntime) -> Result<(), Fail> {
     const MERGES: [Row; 4] = [
-        (&[Q1, M], "3"),
-        (&[Q2, Q0, M], "4"),
-        (&[M, Q1], "file 1: 34 Cycle 0x1001"),
-        (&[Q1, Q0], "file 1: 34 Cycle 0x1000 0x1001"),
+        (&[TO_SECOND, CONST], "3"),
+        (&[TO_THIRD, TO_FIRST, CONST], "4"),
+        (&[CONST, TO_SECOND], "file 1: 34 Cycle 0x1001"),
+        (&[TO_SECOND, TO_FIRST], "file 1: 34 Cycle 0x1000 0x1001"),
     ];
-    let pointer = file_of(rt.alloc(), &[P])?;
+    let first = pdb_with(rt.alloc(), &[TO_INT])?;
     for (records, want) in MERGES {
-        let file = file_of(rt.alloc(), records)?;
+        let file = pdb_with(rt.alloc(), records)?;
         let refused = refusals(rt.alloc(), 32, 256, |heap| {
-            let found = said_of_two(heap, rt.alloc(), &pointer, &file)?;
+            let found = said_of_two(heap, rt.alloc(), &first, &file)?;
             let refused = found.as_str() == "33 Memory";
             assert!(rt; refused || found.as_str() == want);
             Ok(refused)
@@ -147,7 +154,13 @@ fn a_merge_of_a_chain_is_refused_growth_in_turn(rt: HostRuntime) -> Result<(), F
     let refused = refusals(rt.alloc(), 131_072, 48, |heap| {
         let mut file = Vec::new(rt.alloc());
         let mut out = Out::new(&mut file);
-        match merge_to(heap, &[&forward], &settings(LIMIT)?, &mut out, hasher()) {
+        match merge_to(
+            heap,
+            &[&forward],
+            &settings(LIMIT, 4096)?,
+            &mut out,
+            folding(),
+        ) {
             Ok(_) => {
                 assert!(rt; file == turned);
                 Ok(false)

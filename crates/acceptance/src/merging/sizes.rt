@@ -1,10 +1,10 @@
 //! Merging into blocks of each size.
 
-use super::merging::{GUID, LIMIT, M, P, Q0, Q1, V, file_of, hasher};
 use msf_blocks::Out;
-use pdb_info::{Settings, guid_of};
 use pdb_merge::{Buffer, MergeFault, OutFault, Summary, merge_to, read_types};
-use samples::pdb;
+use samples::{
+    CONST, LIMIT, TO_FIRST, TO_INT, TO_SECOND, VOLATILE, folding, pdb, pdb_with, settings,
+};
 use std::alloc::Global;
 use std::test::Fail;
 
@@ -17,18 +17,18 @@ fn merged_at(
     files: &[&[u8]],
     block_size: u32,
 ) -> Result<(Result<Summary, OutFault>, Vec<u8>), Fail> {
-    let settings = Settings::new(guid_of(GUID), 1, LIMIT, block_size).ok_or("no settings")?;
+    let settings = settings(LIMIT, block_size)?;
     let mut file = Vec::new(alloc);
     let mut out = Out::new(&mut file);
-    let answer = merge_to(alloc, files, &settings, &mut out, hasher());
+    let answer = merge_to(alloc, files, &settings, &mut out, folding());
     Ok((answer, file))
 }
 
 #[test]
 fn each_size_has_one_file(rt: HostRuntime) -> Result<(), Fail> {
-    let pointer = file_of(rt.alloc(), &[P])?;
-    let modifier = file_of(rt.alloc(), &[M])?;
-    let others = file_of(rt.alloc(), &[V, M, Q0, Q1])?;
+    let pointer = pdb_with(rt.alloc(), &[TO_INT])?;
+    let modifier = pdb_with(rt.alloc(), &[CONST])?;
+    let others = pdb_with(rt.alloc(), &[VOLATILE, CONST, TO_FIRST, TO_SECOND])?;
     for block_size in SIZES {
         let (answer, want) = merged_at(rt.alloc(), &[&others, &modifier, &pointer], block_size)?;
         let said = Summary {
@@ -40,14 +40,19 @@ fn each_size_has_one_file(rt: HostRuntime) -> Result<(), Fail> {
         assert_eq!(rt; want.len(), said.length as usize);
         assert_eq!(rt; want.get(32..36), Some(block_size.to_le_bytes().as_slice()));
         let twice: [&[u8]; 4] = [&pointer, &pointer, &others, &modifier];
-        let (_, file) = merged_at(rt.alloc(), &twice, block_size)?;
+        let (answer, file) = merged_at(rt.alloc(), &twice, block_size)?;
+        assert_eq!(rt; answer, Ok(said));
         assert!(rt; file == want, "with one file twice at {block_size}");
         for inner in SIZES {
-            let (_, first) = merged_at(rt.alloc(), &[&pointer, &modifier], inner)?;
-            let (_, file) = merged_at(rt.alloc(), &[&first, &others], block_size)?;
+            let (answer, first) = merged_at(rt.alloc(), &[&pointer, &modifier], inner)?;
+            assert_eq!(rt; answer?.types, 2);
+            let (answer, file) = merged_at(rt.alloc(), &[&first, &others], block_size)?;
+            assert_eq!(rt; answer, Ok(said));
             assert!(rt; file == want, "{inner} merged at {block_size}");
-            let (_, whole) = merged_at(rt.alloc(), &[&others, &pointer], inner)?;
-            let (_, file) = merged_at(rt.alloc(), &[&whole], block_size)?;
+            let (answer, whole) = merged_at(rt.alloc(), &[&others, &pointer], inner)?;
+            assert_eq!(rt; answer?.types, 5);
+            let (answer, file) = merged_at(rt.alloc(), &[&whole], block_size)?;
+            assert_eq!(rt; answer, Ok(said));
             assert!(rt; file == want, "{inner} written at {block_size}");
         }
     }

@@ -1,15 +1,13 @@
 //! Records that name later ones, cycles of records, and the order of types.
 
-use super::joining::folding;
-use super::{MODIFIER, UNKNOWN, checked, pointer, stream_of};
-use samples::refusals;
+use super::checked;
+use samples::{
+    CONST, INT, TO_FIRST, UNKNOWN, folding, pointer, procedure, refusals, stream_of, stream_with,
+};
 use std::alloc::{Allocator, Global};
 use std::test::Fail;
 use tpi_records::Records;
 use type_trees::{Canon, Table, TypeFault, Types};
-
-/// A simple type.
-const INT: u32 = 0x74;
 
 /// A TPI stream of pointers to these types.
 fn pointers(alloc: Global, named: &[u32]) -> Result<Vec<u8>, Fail> {
@@ -17,36 +15,33 @@ fn pointers(alloc: Global, named: &[u32]) -> Result<Vec<u8>, Fail> {
     for to in named {
         records.extend_from_slice(&pointer(*to))?;
     }
-    stream_of(alloc, u32::try_from(named.len()).unwrap_or(0), &records)
+    Ok(stream_of(alloc, u32::try_from(named.len())?, &records)?)
 }
 
 /// A TPI stream of procedures. Each names the type that it returns and its list of arguments.
 fn procedures(alloc: Global, named: &[(u32, u32)]) -> Result<Vec<u8>, Fail> {
     let mut records = Vec::new(alloc);
     for (returned, arguments) in named {
-        records.extend_from_slice(&[14, 0, 0x08, 0x10])?;
-        records.extend_from_slice(&returned.to_le_bytes())?;
-        records.extend_from_slice(&[0, 0, 0, 0])?;
-        records.extend_from_slice(&arguments.to_le_bytes())?;
+        records.extend_from_slice(&procedure(*returned, *arguments))?;
     }
-    stream_of(alloc, u32::try_from(named.len()).unwrap_or(0), &records)
+    Ok(stream_of(alloc, u32::try_from(named.len())?, &records)?)
 }
 
-/// A TPI stream of `many` records. Each is a pointer to the next one, and the last is a modifier.
+/// A TPI stream of `many` records. Each is a pointer to the next one, and the last is a const int.
 fn forward_chain(alloc: Global, many: u32) -> Result<Vec<u8>, Fail> {
     let mut records = Vec::with_capacity(alloc, 12 * many as usize)?;
     for next in 1..many {
         records.extend_from_slice(&pointer(0x1000u32.wrapping_add(next)))?;
     }
-    records.extend_from_slice(&MODIFIER)?;
-    stream_of(alloc, many, &records)
+    records.extend_from_slice(CONST)?;
+    Ok(stream_of(alloc, many, &records)?)
 }
 
-/// The records of the forward chain in reverse: a modifier, and then pointers, each to the record
+/// The records of the forward chain in reverse: a const int, and then pointers, each to the record
 /// before it.
 fn chain_back(alloc: Global, many: u32) -> Result<Vec<u8>, Fail> {
     let mut records = Vec::with_capacity(alloc, 12 * many as usize)?;
-    records.extend_from_slice(&MODIFIER)?;
+    records.extend_from_slice(CONST)?;
     for position in 1..many {
         records.extend_from_slice(&pointer(0x0FFFu32.wrapping_add(position)))?;
     }
@@ -55,7 +50,7 @@ fn chain_back(alloc: Global, many: u32) -> Result<Vec<u8>, Fail> {
 
 /// What the check says of a stream: the text of the fault, or how many levels there are.
 fn said<A: Allocator + Copy>(alloc: A, texts: Global, stream: &[u8]) -> Result<String, Fail> {
-    match checked(alloc, stream) {
+    match checked(alloc, stream)? {
         Ok(levels) => Ok(format!(in texts; "levels {levels}")?),
         Err(fault) => Ok(fault.to_string(texts)?),
     }
@@ -130,10 +125,7 @@ fn procedures_that_name_two_records(rt: HostRuntime) -> Result<(), Fail> {
 
 #[test]
 fn a_leaf_fault_after_a_cycle(rt: HostRuntime) -> Result<(), Fail> {
-    let mut records = Vec::new(rt.alloc());
-    records.extend_from_slice(&pointer(0x1000))?;
-    records.extend_from_slice(&UNKNOWN)?;
-    let stream = stream_of(rt.alloc(), 2, &records)?;
+    let stream = stream_with(rt.alloc(), &[TO_FIRST, UNKNOWN])?;
     let text = said(rt.alloc(), rt.alloc(), &stream)?;
     assert_eq!(rt; text.as_str(), "index 0x1001: 25 Leaf 0x150a");
     Ok(())
@@ -156,7 +148,7 @@ fn a_long_tail_before_a_cycle(rt: HostRuntime) -> Result<(), Fail> {
     // the last record names the one before it
     records.extend_from_slice(&pointer(0x13E6))?;
     // a record outside the cycle
-    records.extend_from_slice(&MODIFIER)?;
+    records.extend_from_slice(CONST)?;
     let stream = stream_of(rt.alloc(), 1001, &records)?;
     let cycle = cycle_of(rt.alloc(), &stream)?;
     assert_eq!(rt;

@@ -1,10 +1,14 @@
 //! Tables and canonical lists of records typed by hand: their order, limits, and running out of
 //! memory.
 
-use super::stream_of;
 use linked_list_allocator::LocalHeap;
+use samples::{
+    CONST, Constant, DECLARATION, DEFINITION, LIST, LIST_BEFORE_FIRST, LIST_BEFORE_SECOND,
+    MEMBER_OF_FIRST, MEMBER_OF_SECOND, TO_FIRST, TO_INT, TO_SECOND, VOLATILE, bytes_of, folding,
+    stream_with,
+};
 use std::alloc::{AllocError, Allocator, Global};
-use std::hash::{BuildHasher, BuildHasherDefault, FoldHasher, Hasher};
+use std::hash::BuildHasher;
 use std::test::Fail;
 use tpi_records::Records;
 use type_trees::{Canon, JoinFault, Table, Types};
@@ -12,106 +16,10 @@ use type_trees::{Canon, JoinFault, Table, Types};
 /// A limit that no test reaches.
 const LIMIT: u32 = 1000;
 
-/// A const int.
-const CONST: &[u8] = &[10, 0, 0x01, 0x10, 0x74, 0, 0, 0, 1, 0, 0xF2, 0xF1];
-
-/// A volatile int.
-const VOLATILE: &[u8] = &[10, 0, 0x01, 0x10, 0x74, 0, 0, 0, 2, 0, 0xF2, 0xF1];
-
-/// A pointer to an int.
-const TO_INT: &[u8] = &[10, 0, 0x02, 0x10, 0x74, 0, 0, 0, 0x0C, 0, 1, 0];
-
-/// A pointer to the type 0x1000.
-const TO_FIRST: &[u8] = &[10, 0, 0x02, 0x10, 0, 0x10, 0, 0, 0x0C, 0, 1, 0];
-
-/// A pointer to the type 0x1001.
-const TO_SECOND: &[u8] = &[10, 0, 0x02, 0x10, 1, 0x10, 0, 0, 0x0C, 0, 1, 0];
-
-/// A pointer to an int member of the class 0x1000.
-const MEMBER_OF_FIRST: &[u8] = &[
-    0x12, 0, 0x02, 0x10, 0x74, 0, 0, 0, 0x4C, 0x80, 0, 0, 0, 0x10, 0, 0, 1, 0, 0xF2, 0xF1,
-];
-
-/// A pointer to an int member of the class 0x1001.
-const MEMBER_OF_SECOND: &[u8] = &[
-    0x12, 0, 0x02, 0x10, 0x74, 0, 0, 0, 0x4C, 0x80, 0, 0, 1, 0x10, 0, 0, 1, 0, 0xF2, 0xF1,
-];
-
-/// A field list.
-const LIST: &[u8] = &[10, 0, 0x03, 0x12, 0x02, 0x15, 3, 0, 0, 0, 0x41, 0];
-
-/// A field list that continues in the type 0x1000.
-const LIST_BEFORE_FIRST: &[u8] = &[
-    22, 0, 0x03, 0x12, 0x02, 0x15, 3, 0, 1, 0, 0x41, 0x42, 0x43, 0, 0xF2, 0xF1, 0x04, 0x14, 0, 0,
-    0, 0x10, 0, 0,
-];
-
-/// A field list that continues in the type 0x1001.
-const LIST_BEFORE_SECOND: &[u8] = &[
-    22, 0, 0x03, 0x12, 0x02, 0x15, 3, 0, 1, 0, 0x41, 0x42, 0x43, 0, 0xF2, 0xF1, 0x04, 0x14, 0, 0,
-    1, 0x10, 0, 0,
-];
-
-/// The forward declaration of a structure S.
-const DECLARATION: &[u8] = &[
-    22, 0, 0x05, 0x15, 0, 0, 0x80, 0, 0, 0, 0, 0, 0, 0, 0, 0, 0, 0, 0, 0, 0, 0, 0x53, 0,
-];
-
-/// The definition of a structure S.
-const DEFINITION: &[u8] = &[
-    22, 0, 0x05, 0x15, 0, 0, 0, 0, 0, 0, 0, 0, 0, 0, 0, 0, 0, 0, 0, 0, 1, 0, 0x53, 0,
-];
-
-/// The bytes of these records, one after the other.
-fn bytes_of(alloc: Global, records: &[&[u8]]) -> Result<Vec<u8>, Fail> {
-    let mut bytes = Vec::new(alloc);
-    for record in records {
-        bytes.extend_from_slice(record)?;
-    }
-    Ok(bytes)
-}
-
-/// A TPI stream of these records.
-fn stream_with(alloc: Global, records: &[&[u8]]) -> Result<Vec<u8>, Fail> {
-    let bytes = bytes_of(alloc, records)?;
-    stream_of(alloc, u32::try_from(records.len()).unwrap_or(0), &bytes)
-}
-
 /// The types of a TPI stream.
 fn types_of<'a, A: Allocator + Copy>(alloc: A, stream: &'a [u8]) -> Result<Types<'a, A>, Fail> {
     let types = Types::check(alloc, Records::read(alloc, stream)?);
     Ok(types.ok().ok_or("the records are refused")?)
-}
-
-/// The hasher that a caller uses if it has no other.
-pub(super) fn folding() -> BuildHasherDefault<FoldHasher> {
-    BuildHasherDefault::new()
-}
-
-/// A hasher that returns the same number for every text.
-#[derive(Clone, Copy)]
-struct Constant;
-
-impl Hasher for Constant {
-    ghost write = { λ s _. s };
-
-    ghost finish = { λ _. 7 };
-
-    fn finish(&self) -> u64 {
-        7
-    }
-
-    fn write(&mut self, _bytes: &[u8]) {}
-}
-
-impl BuildHasher for Constant {
-    type Hasher = Constant;
-
-    ghost build_hasher = { λ s. s };
-
-    fn build_hasher(&self) -> Constant {
-        *self
-    }
 }
 
 /// The canonical list of two streams, by a table with this hasher.

@@ -1,0 +1,137 @@
+//! Type records, and the TPI streams that have them.
+
+use std::alloc::{AllocError, Global};
+
+/// The type index of a simple type: an int of 32 bits.
+pub const INT: u32 = 0x74;
+
+/// A const int.
+pub const CONST: &[u8] = b"\x0a\0\x01\x10\x74\0\0\0\x01\0\xf2\xf1";
+
+/// A volatile int.
+pub const VOLATILE: &[u8] = b"\x0a\0\x01\x10\x74\0\0\0\x02\0\xf2\xf1";
+
+/// A pointer to an int.
+pub const TO_INT: &[u8] = b"\x0a\0\x02\x10\x74\0\0\0\x0c\0\x01\0";
+
+/// A pointer to the first record.
+pub const TO_FIRST: &[u8] = b"\x0a\0\x02\x10\0\x10\0\0\x0c\0\x01\0";
+
+/// A pointer to the second record.
+pub const TO_SECOND: &[u8] = b"\x0a\0\x02\x10\x01\x10\0\0\x0c\0\x01\0";
+
+/// A pointer to the third record.
+pub const TO_THIRD: &[u8] = b"\x0a\0\x02\x10\x02\x10\0\0\x0c\0\x01\0";
+
+/// A pointer to the fourth record.
+pub const TO_FOURTH: &[u8] = b"\x0a\0\x02\x10\x03\x10\0\0\x0c\0\x01\0";
+
+/// A pointer to the fifth record.
+pub const TO_FIFTH: &[u8] = b"\x0a\0\x02\x10\x04\x10\0\0\x0c\0\x01\0";
+
+/// A pointer to the sixth record.
+pub const TO_SIXTH: &[u8] = b"\x0a\0\x02\x10\x05\x10\0\0\x0c\0\x01\0";
+
+/// A pointer to an int member of the class that is the first record.
+pub const MEMBER_OF_FIRST: &[u8] = b"\x12\0\x02\x10\x74\0\0\0\x4c\x80\0\0\0\x10\0\0\x01\0\xf2\xf1";
+
+/// A pointer to an int member of the class that is the second record.
+pub const MEMBER_OF_SECOND: &[u8] =
+    b"\x12\0\x02\x10\x74\0\0\0\x4c\x80\0\0\x01\x10\0\0\x01\0\xf2\xf1";
+
+/// A pointer to an int. It has the bytes of a pointer to a member of the first record, but its mode
+/// has no class.
+pub const NO_MEMBER: &[u8] = b"\x12\0\x02\x10\x74\0\0\0\x0c\x80\0\0\0\x10\0\0\x01\0\xf2\xf1";
+
+/// A field list.
+pub const LIST: &[u8] = b"\x0a\0\x03\x12\x02\x15\x03\0\0\0\x41\0";
+
+/// A field list that continues in the first record.
+pub const LIST_BEFORE_FIRST: &[u8] =
+    b"\x16\0\x03\x12\x02\x15\x03\0\x01\0\x41\x42\x43\0\xf2\xf1\x04\x14\0\0\0\x10\0\0";
+
+/// A field list that continues in the second record.
+pub const LIST_BEFORE_SECOND: &[u8] =
+    b"\x16\0\x03\x12\x02\x15\x03\0\x01\0\x41\x42\x43\0\xf2\xf1\x04\x14\0\0\x01\x10\0\0";
+
+/// The forward declaration of a structure S.
+pub const DECLARATION: &[u8] = b"\x16\0\x05\x15\0\0\x80\0\0\0\0\0\0\0\0\0\0\0\0\0\0\0\x53\0";
+
+/// The definition of a structure S.
+pub const DEFINITION: &[u8] = b"\x16\0\x05\x15\0\0\0\0\0\0\0\0\0\0\0\0\0\0\0\0\x01\0\x53\0";
+
+/// A record of a kind that is not in the table.
+pub const UNKNOWN: &[u8] = b"\x02\0\x0a\x15";
+
+/// Two entries of a method list. The first one introduces a virtual function.
+pub const METHODS: [u8; 24] = [
+    0x16, 0x00, 0x06, 0x12, 0x13, 0x00, 0x00, 0x00, 0x74, 0x00, 0x00, 0x00, //
+    0x00, 0x00, 0x00, 0x00, 0x03, 0x00, 0x00, 0x00, 0x74, 0x00, 0x00, 0x00,
+];
+
+/// A field list with a member of each kind.
+pub const MEMBERS: [u8; 148] = [
+    0x92, 0x00, 0x03, 0x12, //
+    0x00, 0x14, 0x03, 0x00, 0x74, 0x00, 0x00, 0x00, 0x00, 0x00, 0xF2, 0xF1, //
+    0x01, 0x14, 0x03, 0x00, 0x74, 0x00, 0x00, 0x00, 0x74, 0x00, 0x00, 0x00, 0x00, 0x00, 0x04, 0x00, //
+    0x02, 0x14, 0x03, 0x00, 0x74, 0x00, 0x00, 0x00, 0x74, 0x00, 0x00, 0x00, 0x00, 0x00, 0x04, 0x00, //
+    0x04, 0x14, 0x00, 0x00, 0x74, 0x00, 0x00, 0x00, //
+    0x09, 0x14, 0x00, 0x00, 0x74, 0x00, 0x00, 0x00, //
+    0x02, 0x15, 0x03, 0x00, 0x00, 0x00, 0x41, 0x00, //
+    0x0D, 0x15, 0x03, 0x00, 0x74, 0x00, 0x00, 0x00, 0x00, 0x00, 0x42, 0x00, //
+    0x0E, 0x15, 0x03, 0x00, 0x74, 0x00, 0x00, 0x00, 0x43, 0x00, 0xF2, 0xF1, //
+    0x0F, 0x15, 0x02, 0x00, 0x74, 0x00, 0x00, 0x00, 0x44, 0x00, 0xF2, 0xF1, //
+    0x10, 0x15, 0x00, 0x00, 0x74, 0x00, 0x00, 0x00, 0x45, 0x00, 0xF2, 0xF1, //
+    0x11, 0x15, 0x13, 0x00, 0x74, 0x00, 0x00, 0x00, 0x00, 0x00, 0x00, 0x00, 0x46, 0x00, 0xF2, 0xF1, //
+    0x1A, 0x15, 0x03, 0x00, 0x74, 0x00, 0x00, 0x00, 0x00, 0x00, 0xF2, 0xF1,
+];
+
+/// A pointer to the type with this index.
+pub fn pointer(to: u32) -> [u8; 12] {
+    let [a, b, c, d] = to.to_le_bytes();
+    [10, 0, 0x02, 0x10, a, b, c, d, 0x0C, 0, 1, 0]
+}
+
+/// A procedure that returns a type and takes a list of arguments.
+pub fn procedure(returned: u32, arguments: u32) -> [u8; 16] {
+    let [a, b, c, d] = returned.to_le_bytes();
+    let [e, f, g, h] = arguments.to_le_bytes();
+    [14, 0, 0x08, 0x10, a, b, c, d, 0, 0, 0, 0, e, f, g, h]
+}
+
+/// The bytes of these records, one after the other.
+pub fn bytes_of(alloc: Global, records: &[&[u8]]) -> Result<Vec<u8>, AllocError> {
+    let mut bytes = Vec::new(alloc);
+    for record in records {
+        bytes.extend_from_slice(record)?;
+    }
+    Ok(bytes)
+}
+
+/// The last 36 bytes of a header: the number of the hash stream and that of its auxiliary stream,
+/// the size of a hash and the number of buckets, and the places of three empty tables.
+const HASHES: &[u8; 36] = b"\xff\xff\xff\xff\x04\0\0\0\xff\xff\x03\0\
+\0\0\0\0\0\0\0\0\0\0\0\0\0\0\0\0\0\0\0\0\0\0\0\0";
+
+/// A TPI stream with the bytes of `count` records.
+pub fn stream_of(alloc: Global, count: u32, records: &[u8]) -> Result<Vec<u8>, AllocError> {
+    let mut stream = Vec::new(alloc);
+    for number in [
+        20040203,
+        56,
+        0x1000,
+        0x1000u32.saturating_add(count),
+        u32::try_from(records.len()).unwrap_or(u32::MAX),
+    ] {
+        stream.extend_from_slice(&number.to_le_bytes())?;
+    }
+    stream.extend_from_slice(HASHES)?;
+    stream.extend_from_slice(records)?;
+    Ok(stream)
+}
+
+/// A TPI stream with these records.
+pub fn stream_with(alloc: Global, records: &[&[u8]]) -> Result<Vec<u8>, AllocError> {
+    let count = u32::try_from(records.len()).unwrap_or(u32::MAX);
+    stream_of(alloc, count, &bytes_of(alloc, records)?)
+}
