@@ -1,6 +1,7 @@
 //! What no contract says: the texts of the faults, and the table against the format's own figures.
 
 use cv_leaves::{LeafFault, check, kind_of, leaf_text, places, ref_at, set_ref, type_name};
+use samples::{LIST_BEFORE_FIRST, MEMBERS, METHODS, UNKNOWN};
 use std::rt::HostRuntime;
 use std::test::Fail;
 
@@ -28,7 +29,7 @@ fn each_fault_has_its_text(rt: HostRuntime) -> Result<(), Fail> {
 
 #[test]
 fn records_that_are_refused(rt: HostRuntime) {
-    assert_eq!(rt; check(&[2, 0, 0x0A, 0x15]), Err(LeafFault::Leaf(0x150A)));
+    assert_eq!(rt; check(UNKNOWN), Err(LeafFault::Leaf(0x150A)));
     assert_eq!(rt; check(&[2, 0, 0x01, 0x10]), Err(LeafFault::Body(0)));
     assert_eq!(rt;
         check(&[6, 0, 0x02, 0x10, 0x74, 0, 0, 0]),
@@ -154,22 +155,16 @@ fn each_property_of_a_method(rt: HostRuntime) {
     }
 }
 
-/// Two entries of a method list. The first one introduces a virtual.
-const METHODS: [u8; 24] = [
-    0x16, 0x00, 0x06, 0x12, 0x13, 0x00, 0x00, 0x00, 0x74, 0x00, 0x00, 0x00, //
-    0x00, 0x00, 0x00, 0x00, 0x03, 0x00, 0x00, 0x00, 0x74, 0x00, 0x00, 0x00,
-];
-
 #[test]
-fn the_places_of_a_method_list(rt: HostRuntime) {
+fn the_places_of_a_method_list(rt: HostRuntime) -> Result<(), Fail> {
     let record = METHODS;
     assert_eq!(rt; check(&record[..20]), Err(LeafFault::Body(16)));
-    if check(&record).is_ok() {
-        let mut left = places(&record);
-        assert_eq!(rt; left.next(), Some(4));
-        assert_eq!(rt; left.next(), Some(16));
-        assert_eq!(rt; left.next(), None);
-    }
+    check(&record)?;
+    let mut left = places(&record);
+    assert_eq!(rt; left.next(), Some(4));
+    assert_eq!(rt; left.next(), Some(16));
+    assert_eq!(rt; left.next(), None);
+    Ok(())
 }
 
 #[test]
@@ -229,18 +224,17 @@ fn what_leaves_are_called(rt: HostRuntime) {
 }
 
 #[test]
-fn an_index_that_is_written(rt: HostRuntime) {
+fn an_index_that_is_written(rt: HostRuntime) -> Result<(), Fail> {
     let mut record = [10, 0, 0x01, 0x10, 0x74, 0, 0, 0, 1, 0, 0xF2, 0xF1];
-    if check(&record).is_ok() {
-        if let Some(place) = places(&record).next() {
-            set_ref(&mut record, place, 0x12345678);
-        }
-    }
+    check(&record)?;
+    let place = places(&record).next().ok_or("it names no type")?;
+    set_ref(&mut record, place, 0x12345678);
     assert_eq!(rt; ref_at(&record, 0), 0x12345678);
     assert_eq!(rt;
         record,
         [10, 0, 0x01, 0x10, 0x78, 0x56, 0x34, 0x12, 1, 0, 0xF2, 0xF1]
     );
+    Ok(())
 }
 
 #[test]
@@ -510,23 +504,6 @@ fn each_byte_of_padding(rt: HostRuntime) {
     );
 }
 
-/// A field list with a member of each kind.
-const MEMBERS: [u8; 148] = [
-    0x92, 0x00, 0x03, 0x12, //
-    0x00, 0x14, 0x03, 0x00, 0x74, 0x00, 0x00, 0x00, 0x00, 0x00, 0xF2, 0xF1, //
-    0x01, 0x14, 0x03, 0x00, 0x74, 0x00, 0x00, 0x00, 0x74, 0x00, 0x00, 0x00, 0x00, 0x00, 0x04, 0x00, //
-    0x02, 0x14, 0x03, 0x00, 0x74, 0x00, 0x00, 0x00, 0x74, 0x00, 0x00, 0x00, 0x00, 0x00, 0x04, 0x00, //
-    0x04, 0x14, 0x00, 0x00, 0x74, 0x00, 0x00, 0x00, //
-    0x09, 0x14, 0x00, 0x00, 0x74, 0x00, 0x00, 0x00, //
-    0x02, 0x15, 0x03, 0x00, 0x00, 0x00, 0x41, 0x00, //
-    0x0D, 0x15, 0x03, 0x00, 0x74, 0x00, 0x00, 0x00, 0x00, 0x00, 0x42, 0x00, //
-    0x0E, 0x15, 0x03, 0x00, 0x74, 0x00, 0x00, 0x00, 0x43, 0x00, 0xF2, 0xF1, //
-    0x0F, 0x15, 0x02, 0x00, 0x74, 0x00, 0x00, 0x00, 0x44, 0x00, 0xF2, 0xF1, //
-    0x10, 0x15, 0x00, 0x00, 0x74, 0x00, 0x00, 0x00, 0x45, 0x00, 0xF2, 0xF1, //
-    0x11, 0x15, 0x13, 0x00, 0x74, 0x00, 0x00, 0x00, 0x00, 0x00, 0x00, 0x00, 0x46, 0x00, 0xF2, 0xF1, //
-    0x1A, 0x15, 0x03, 0x00, 0x74, 0x00, 0x00, 0x00, 0x00, 0x00, 0xF2, 0xF1,
-];
-
 #[test]
 fn the_places_of_every_member(rt: HostRuntime) -> Result<(), Fail> {
     let mut record = MEMBERS;
@@ -537,11 +514,9 @@ fn the_places_of_every_member(rt: HostRuntime) -> Result<(), Fail> {
     {
         wanted[4 + place..8 + place].copy_from_slice(&[0xF4, 0xF3, 0xF2, 0xF1]);
         check(&record)?;
-        let found = places(&record).nth(k);
-        assert_eq!(rt; found, Some(*place));
-        if let Some(at) = found {
-            set_ref(&mut record, at, 0xF1F2F3F4);
-        }
+        let at = places(&record).nth(k).ok_or("no such place")?;
+        assert_eq!(rt; at, *place);
+        set_ref(&mut record, at, 0xF1F2F3F4);
         assert_eq!(rt; record, wanted);
     }
     check(&record)?;
@@ -564,14 +539,10 @@ fn a_char_and_padding_in_a_member(rt: HostRuntime) -> Result<(), Fail> {
 
 #[test]
 fn a_list_that_goes_on_in_another(rt: HostRuntime) -> Result<(), Fail> {
-    let record = [
-        22, 0, 0x03, 0x12, 0x02, 0x15, 3, 0, 1, 0, 0x41, 0x42, 0x43, 0, 0xF2, 0xF1, 0x04, 0x14, 0,
-        0, 0, 0x10, 0, 0,
-    ];
-    check(&record)?;
-    let mut left = places(&record);
+    check(LIST_BEFORE_FIRST)?;
+    let mut left = places(LIST_BEFORE_FIRST);
     assert_eq!(rt; left.next(), Some(16));
     assert_eq!(rt; left.next(), None);
-    assert_eq!(rt; ref_at(&record, 16), 0x1000);
+    assert_eq!(rt; ref_at(LIST_BEFORE_FIRST, 16), 0x1000);
     Ok(())
 }
