@@ -1,5 +1,6 @@
 //! A short example for each library, as a user of that library writes it.
 
+use crate::orders::names_nodes;
 use byte_fields::{u16_at, u32_at};
 use cv_leaves::{places, ref_at, type_name};
 use key_chains::KeyChains;
@@ -9,15 +10,12 @@ use packed_texts::PackedTexts;
 use pdb_commands::run_check;
 use pdb_info::{Info, Settings, guid_of};
 use pdb_merge::{Buffer, merge_to, read_records, read_types};
-use samples::sample;
-use std::hash::{BuildHasherDefault, FoldHasher};
+use samples::{TO_INT, folding, sample};
 use std::test::Fail;
 use text_set::TextSet;
+use topological_order::{Graph, topological_order};
 use tpi_records::{Records, tpi_header_bytes};
 use type_trees::{Table, Types};
-
-/// A pointer to an int.
-const POINTER: &[u8] = b"\x0a\0\x02\x10\x74\0\0\0\x0c\0\x01\0";
 
 /// `byte_fields` reads little-endian numbers.
 #[test]
@@ -54,12 +52,26 @@ fn texts_in_one_vector(rt: HostRuntime) -> Result<(), Fail> {
 /// `text_set` gives equal texts one position.
 #[test]
 fn each_text_once(rt: HostRuntime) -> Result<(), Fail> {
-    let hasher: BuildHasherDefault<FoldHasher> = BuildHasherDefault::new();
-    let mut set = TextSet::with_hasher(rt.alloc(), hasher);
+    let mut set = TextSet::with_hasher(rt.alloc(), folding());
     let first = set.intern(b"four", 0)?;
     let second = set.intern(b"more", first)?;
     assert_eq!(rt; set.intern(b"four", second)?, first);
     assert_eq!(rt; set.len(), 2);
+    Ok(())
+}
+
+/// `topological_order` puts each node of a graph after the nodes that it names.
+#[test]
+fn nodes_after_what_they_name(rt: HostRuntime) -> Result<(), Fail> {
+    let mut graph = Graph::with_capacity(rt.alloc(), 3)?;
+    for named in [[1u32].as_slice(), &[2], &[]] {
+        assert!(rt; graph.len() < 3);
+        graph.push(named)?;
+    }
+    // A caller shows that no node names one that the graph does not have.
+    assert!(rt; names_nodes(&graph));
+    let order = topological_order(rt.alloc(), &graph)?;
+    assert_eq!(rt; order.as_slice(), [2, 1, 0].as_slice());
     Ok(())
 }
 
@@ -106,21 +118,21 @@ fn the_guid_of_a_file(rt: HostRuntime) -> Result<(), Fail> {
 fn the_records_of_a_stream(rt: HostRuntime) -> Result<(), Fail> {
     let mut stream = Vec::new(rt.alloc());
     stream.extend_from_slice(&tpi_header_bytes(1, 12))?;
-    stream.extend_from_slice(POINTER)?;
+    stream.extend_from_slice(TO_INT)?;
     let records = Records::read(rt.alloc(), &stream)?;
     assert_eq!(rt; records.len(), 1);
-    assert_eq!(rt; records.get(0), Some(POINTER));
+    assert_eq!(rt; records.get(0), Some(TO_INT));
     Ok(())
 }
 
 /// `cv_leaves` finds the type indices in a record.
 #[test]
 fn the_references_of_a_record(rt: HostRuntime) -> Result<(), Fail> {
-    cv_leaves::check(POINTER)?;
-    let place = places(POINTER).next().ok_or("it names no type")?;
+    cv_leaves::check(TO_INT)?;
+    let place = places(TO_INT).next().ok_or("it names no type")?;
     assert_eq!(rt; place, 0);
-    assert_eq!(rt; ref_at(POINTER, place), 0x74);
-    assert_eq!(rt; type_name(POINTER), None);
+    assert_eq!(rt; ref_at(TO_INT, place), 0x74);
+    assert_eq!(rt; type_name(TO_INT), None);
     Ok(())
 }
 
@@ -131,13 +143,12 @@ fn types_in_canonical_order(rt: HostRuntime) -> Result<(), Fail> {
     let mut buffer = Buffer::new(rt.alloc());
     let types = Types::check(rt.alloc(), read_records(rt.alloc(), &file, &mut buffer)?)?;
     assert_eq!(rt; types.levels(), 1);
-    let hasher: BuildHasherDefault<FoldHasher> = BuildHasherDefault::new();
-    let mut table = Table::with_hasher(rt.alloc(), hasher);
+    let mut table = Table::with_hasher(rt.alloc(), folding());
     table.add(rt.alloc(), &types, 1000)?;
     table.add(rt.alloc(), &types, 1000)?;
     let canon = table.finish(rt.alloc())?;
     assert_eq!(rt; canon.len(), 2);
-    assert_eq!(rt; canon.get(1), Some(POINTER));
+    assert_eq!(rt; canon.get(1), Some(TO_INT));
     Ok(())
 }
 
@@ -146,7 +157,6 @@ fn types_in_canonical_order(rt: HostRuntime) -> Result<(), Fail> {
 fn a_merge_of_two_files(rt: HostRuntime) -> Result<(), Fail> {
     let file = sample(rt.alloc())?;
     let settings = Settings::new(guid_of([0x11; 16]), 1, 1000, 4096).ok_or("no settings")?;
-    let hasher: BuildHasherDefault<FoldHasher> = BuildHasherDefault::new();
     let mut merged = Vec::new(rt.alloc());
     let files: [&[u8]; 2] = [&file, &file];
     let summary = merge_to(
@@ -154,7 +164,7 @@ fn a_merge_of_two_files(rt: HostRuntime) -> Result<(), Fail> {
         &files,
         &settings,
         &mut Out::new(&mut merged),
-        hasher,
+        folding(),
     )?;
     assert_eq!(rt; summary.types, 2);
     let mut buffer = Buffer::new(rt.alloc());

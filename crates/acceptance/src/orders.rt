@@ -19,7 +19,7 @@ fn all_below(named: &[u32], end: usize) -> bool
 }
 
 /// Whether each node names only nodes of the graph.
-fn names_nodes<A: Allocator>(graph: &Graph<A>) -> bool
+pub(crate) fn names_nodes<A: Allocator>(graph: &Graph<A>) -> bool
     ensures { IsTrue result → NamesNodes graph.now }
 {
     for node in 0..graph.len() {
