@@ -2,9 +2,10 @@
 
 use crate::orders::names_nodes;
 use byte_fields::{u16_at, u32_at};
+use byte_io::{In, Out, put_all};
 use cv_leaves::{places, ref_at, type_name};
 use key_chains::KeyChains;
-use msf_blocks::{In, Layout, Out};
+use msf_blocks::Layout;
 use msf_streams::{gather, pieces};
 use packed_texts::PackedTexts;
 use pdb_commands::run_check;
@@ -23,6 +24,15 @@ fn numbers_at_offsets(rt: HostRuntime) {
     let bytes = b"\x10\0\x34\x12\0\0";
     assert_eq!(rt; u16_at(bytes, 0), 16);
     assert_eq!(rt; u32_at(bytes, 2), 0x1234);
+}
+
+/// `byte_io` writes into whatever takes bytes.
+#[test]
+fn bytes_into_a_sink(rt: HostRuntime) -> Result<(), Fail> {
+    let mut file = Vec::new(rt.alloc());
+    put_all(&mut Out::new(&mut file), b"two parts")?;
+    assert_eq!(rt; file.as_slice(), b"two parts".as_slice());
+    Ok(())
 }
 
 /// `key_chains` finds the positions of a key, the newest first.
@@ -64,10 +74,9 @@ fn each_text_once(rt: HostRuntime) -> Result<(), Fail> {
 #[test]
 fn nodes_after_what_they_name(rt: HostRuntime) -> Result<(), Fail> {
     let mut graph = Graph::with_capacity(rt.alloc(), 3)?;
-    for named in [[1u32].as_slice(), &[2], &[]] {
-        assert!(rt; graph.len() < 3);
-        graph.push(named)?;
-    }
+    graph.push(&[1])?;
+    graph.push(&[2])?;
+    graph.push(&[])?;
     // A caller shows that no node names one that the graph does not have.
     assert!(rt; names_nodes(&graph));
     let order = topological_order(rt.alloc(), &graph)?;

@@ -11,6 +11,8 @@
 //! - `specs/Bytes` says when a list of numbers is made of bytes.
 //!
 //! The lemmas about numbers, names, checks and bytes are in `proofs/`, for the crates above.
+//!
+//! The file `src/examples.rt` of the crate `acceptance` shows this crate in use, in a few lines.
 #![tactic(auto)]
 
 mod field;

@@ -10,10 +10,14 @@
 //! What is proved: a sink took just the bytes that its calls say, in order. After [`NotTaken`] it
 //! took a proper prefix of the bytes. A sink or a source that broke stays broken. All of this says
 //! nothing where the bytes of a writer or a reader are not known, as those of a file.
+//!
+//! The file `src/examples.rt` of the crate `acceptance` shows this crate in use, in a few lines.
 #![tactic(auto)]
 
+mod fault;
 mod sink;
 mod source;
 
-pub use sink::{NotTaken, Out, Sink, put_all};
+pub use fault::NotTaken;
+pub use sink::{Out, Sink, put_all};
 pub use source::{In, Source};

@@ -3,8 +3,8 @@
 ghost use Rattle.std.specs.Prelude.{◌≡◌, ◌<◌, ◌≤◌, ℕ, List, Option, Bool, true, false, length, take, OnOk, OnErr};
 ghost use Rattle.std.specs.Io.KnownBytes.{Appends};
 
+use crate::fault::NotTaken;
 use std::io::Write;
-use thiserror::Error;
 
 /// Takes bytes. Each call takes some of the first bytes of a slice.
 ///
@@ -62,11 +62,6 @@ impl<W: Write> Out<W> {
         }
     }
 }
-
-/// The sink took fewer bytes than it was given.
-#[derive(Clone, Copy, Debug, PartialEq, Eq, Error)]
-#[error("36 Write")]
-pub struct NotTaken;
 
 /// Puts all bytes into a sink, by as many calls of `put` as it needs.
 ///

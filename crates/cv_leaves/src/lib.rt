@@ -32,6 +32,8 @@
 //! (the record with zeros at its places) stay as they are, and bytes stay bytes. The blank, filled
 //! with the record's own references, is the record again. The entries of a method list fill its
 //! body, and so do the members of a field list. No function allocates. ("CodeView Type Records".)
+//!
+//! The file `src/examples.rt` of the crate `acceptance` shows this crate in use, in a few lines.
 #![tactic(auto)]
 
 mod checks;

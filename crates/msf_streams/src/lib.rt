@@ -31,6 +31,8 @@
 //! bytes that are written are the image (`image` of `specs/Image`), or its first bytes where the
 //! sink breaks. Streams are refused exactly where they have no image.
 //! ("The MSF File Format", "The Stream Directory".)
+//!
+//! The file `src/examples.rt` of the crate `acceptance` shows this crate in use, in a few lines.
 #![tactic(auto)]
 
 mod fault;

@@ -3,6 +3,8 @@
 //! [`PackedTexts`] keeps the bytes of all its texts in one vector, and for each text the offset at
 //! which it ends. The length of each text is a multiple of four bytes. So these offsets count
 //! groups of four bytes, and 32 bits are enough for 16 GB of text.
+//!
+//! The file `src/examples.rt` of the crate `acceptance` shows this crate in use, in a few lines.
 #![tactic(auto)]
 
 ghost use Rattle.std.specs.Prelude.{◌≡◌, ◌+◌, ◌-◌, ◌*◌, ◌%◌, ◌^◌, ◌<◌, ◌≤◌, ◌++◌, ◌↔◌, [], ◌∷◌, ℕ, length, get_or, take, IsTrue, IfOk, IfErr};

@@ -11,7 +11,7 @@ ghost use Rattle.pdb_commands.specs.Info.{ShowsInfo, HasNoInfo, HasNoInfoStream,
 use crate::fault::RunFault;
 use crate::show::{Show, run};
 use crate::streams::read_layout;
-use crate::text::{push_index, push_quoted, push_named};
+use crate::text::{push_index, push_named, push_quoted};
 use byte_io::{Sink, Source};
 use msf_streams::gather;
 use pdb_info::{InfoHeader, Name};

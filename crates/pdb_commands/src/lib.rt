@@ -13,6 +13,8 @@
 //!
 //! The module `show` runs the commands that show a file. Each command has a module of its own.
 //! `input` reads, and `text` prints numbers and names.
+//!
+//! The file `src/examples.rt` of the crate `acceptance` shows this crate in use, in a few lines.
 #![tactic(auto)]
 
 mod check;

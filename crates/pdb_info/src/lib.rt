@@ -31,6 +31,8 @@
 //! that were read (`HasInfo` of `specs/Info`). A stream of this form is refused only when out of
 //! memory. A fault names the first check that fails, or `Memory` where no check fails. A written
 //! info stream has this form, for the age and the GUID of its settings. ("The PDB Info Stream".)
+//!
+//! The file `src/examples.rt` of the crate `acceptance` shows this crate in use, in a few lines.
 #![tactic(auto)]
 
 mod fault;

@@ -19,6 +19,8 @@
 //! once, in canonical order, and it is accepted with these. Every list of files with the same types
 //! has the same bytes. A refusal is the first fault. The [`laws`] hold of every file that is
 //! written so.
+//!
+//! The file `src/examples.rt` of the crate `acceptance` shows this crate in use, in a few lines.
 #![tactic(auto)]
 
 mod buffer;

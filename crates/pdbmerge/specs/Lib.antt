@@ -1,3 +1,3 @@
 pub mod Index
-pub mod Line
+pub mod Fault
 pub mod Program

@@ -1,7 +1,7 @@
 -- The faults of the program itself.
 use Rattle.std.specs.Prelude.{◌≢◌}
-use Rattle.pdbmerge.specs.declared.ProgramFault.{ProgramFault}
-use Rattle.pdbmerge.specs.declared.ProgramFault.TheVariants.{ReadOne}
+use Rattle.pdbmerge.specs.declared.fault.ProgramFault.{ProgramFault}
+use Rattle.pdbmerge.specs.declared.fault.ProgramFault.TheVariants.{ReadOne}
 use Rattle.pdb_commands.specs.declared.input.ReadFault.TheVariants as reads
 
 -- out of memory is a fault of the run, never a fault of reading one of several files

@@ -1,14 +1,12 @@
 //! The arguments of the command line.
 
-ghost use Rattle.std.specs.Prelude.{◌≡◌, ◌⊎◌, []};
-ghost use Rattle.pdbmerge.specs.Line.{IsStatus};
-ghost use Rattle.pdbmerge.specs.declared.line.LineFault.TheVariants.{Refused, Memory};
+ghost use Rattle.std.specs.Prelude.{◌≡◌, []};
 
+use crate::fault::LineFault;
 use crate::index::read_index;
-use clap::error::ErrorKind;
 use clap::{Arg, ArgAction, ArgMatches, Command};
 use pdb_info::Settings;
-use std::alloc::{AllocError, AllocFailed, Global};
+use std::alloc::{AllocError, Global};
 use uuid::Uuid;
 
 /// What is printed where there are no arguments.
@@ -87,58 +85,6 @@ pub enum Line {
         out: String,
         inputs: Vec<String>,
     },
-}
-
-/// Why the arguments are no command.
-#[derive(Drop)]
-pub enum LineFault {
-    /// The arguments are refused, or they ask for help. The error has the text to print.
-    Refused(clap::Error),
-    /// An argument has no value that the command can use.
-    Argument,
-    /// Out of memory.
-    Memory,
-}
-
-impl From<AllocError> for LineFault {
-    ghost from_gives = { λ _ fault. fault ≡ Memory };
-
-    fn from(_error: AllocError) -> LineFault {
-        LineFault::Memory
-    }
-}
-
-impl<T: Drop> From<AllocFailed<T>> for LineFault {
-    ghost from_gives = { λ _ fault. fault ≡ Memory };
-
-    fn from(_error: AllocFailed<T>) -> LineFault {
-        LineFault::Memory
-    }
-}
-
-impl From<clap::Error> for LineFault {
-    ghost from_gives = { λ error fault. (fault ≡ Memory) ⊎ (fault ≡ Refused error) };
-
-    fn from(error: clap::Error) -> LineFault {
-        if error.kind() == ErrorKind::OutOfMemory {
-            LineFault::Memory
-        } else {
-            LineFault::Refused(error)
-        }
-    }
-}
-
-impl LineFault {
-    /// The exit status: 0 for a request for help, 1 for out of memory, 2 for all others.
-    pub fn status(&self) -> u8
-        ensures { IsStatus self.now result }
-    {
-        match self {
-            LineFault::Refused(error) => { if error.use_stderr() { 2 } else { 0 } }
-            LineFault::Argument => 2,
-            LineFault::Memory => 1,
-        }
-    }
 }
 
 /// A command that reads one file and shows something of it.

@@ -8,74 +8,27 @@
 
 ghost use Rattle.std.specs.Prelude.{◌≡◌, IfErr};
 ghost use Rattle.pdbmerge.specs.Program.{IsOnce};
-ghost use Rattle.pdbmerge.specs.declared.ProgramFault.TheVariants.{Run};
-ghost use Rattle.pdb_commands.specs.declared.fault.RunFault.TheVariants.{Memory};
 
+mod fault;
 mod index;
 mod line;
 mod output;
 
 use byte_io::{In, Out, put_all};
-use line::{Line, LineFault, USAGE, read_line};
+use fault::{LineFault, ProgramFault};
+use line::{Line, USAGE, read_line};
 use output::NewFile;
 use pdb_commands::{
     ReadFault, RunFault, read_all, run_check, run_info, run_merge, run_record, run_records,
     run_streams, run_types,
 };
 use pdb_info::Settings;
-use std::alloc::{AllocError, AllocFailed};
 use std::hash::{BuildHasher, BuildHasherDefault, FoldHasher, RandomState};
 use std::io::{self, ErrorKind, writer};
 use std::process::ExitCode;
 use std::random::RandomSource;
 use std::rt::{Env, Files};
 use std::{env, fs};
-use thiserror::Error;
-
-/// Why the program did not do what the arguments ask for.
-#[derive(Debug, PartialEq, Eq, Drop, Error)]
-pub enum ProgramFault {
-    /// The command was refused.
-    #[error("{0}")]
-    Run(RunFault),
-    /// A file cannot be opened.
-    #[error("40 Open")]
-    Open,
-    /// One of several files cannot be opened: the one at this position, from 0.
-    #[error("file {0}: 40 Open")]
-    OpenOne(usize),
-    /// One of several files was not read to its end: the one at the position `file`, from 0. The
-    /// fault inside is never out of memory.
-    #[error("file {file}: {fault}")]
-    ReadOne { file: usize, fault: ReadFault },
-    /// The file to write cannot be created.
-    #[error("41 Create")]
-    Create,
-}
-
-impl From<AllocError> for ProgramFault {
-    ghost from_gives = { λ _ fault. fault ≡ Run Memory };
-
-    fn from(_error: AllocError) -> ProgramFault {
-        ProgramFault::Run(RunFault::Memory)
-    }
-}
-
-impl<T: Drop> From<AllocFailed<T>> for ProgramFault {
-    ghost from_gives = { λ _ fault. fault ≡ Run Memory };
-
-    fn from(_error: AllocFailed<T>) -> ProgramFault {
-        ProgramFault::Run(RunFault::Memory)
-    }
-}
-
-impl From<RunFault> for ProgramFault {
-    ghost from_gives = { λ inner fault. fault ≡ Run inner };
-
-    fn from(fault: RunFault) -> ProgramFault {
-        ProgramFault::Run(fault)
-    }
-}
 
 /// The arguments of the command line, without the program's name.
 fn arguments<R: Env + AllocGlobal>(rt: &R) -> Result<Vec<String>, LineFault> {
@@ -216,7 +169,7 @@ fn run<R: Files + Print + AllocGlobal + RandomSource>(
 fn explain<R: Print + Eprint>(rt: &R, fault: &LineFault) -> io::Result<()> {
     match fault {
         LineFault::Refused(error) => error.print(rt),
-        LineFault::Argument => eprintln!(rt; "pdbmerge: wrong argument"),
+        LineFault::Argument => eprintln!(rt; "pdbmerge: wrong word"),
         LineFault::Memory => eprintln!(rt; "pdbmerge: 33 Memory"),
     }
 }

@@ -6,6 +6,8 @@
 //! They are the largest set of nodes in which each node names one of the set.
 //!
 //! The walk keeps its path in a list. It doesn't recurse, and it reads each name at most twice.
+//!
+//! The file `src/examples.rt` of the crate `acceptance` shows this crate in use, in a few lines.
 #![tactic(auto)]
 
 mod fault;

@@ -25,6 +25,8 @@
 //! only when out of memory. A fault names the first check that fails, or `Memory` where no check
 //! fails. A stream that begins with a written header has the records that follow it.
 //! ("The PDB TPI and IPI Streams".)
+//!
+//! The file `src/examples.rt` of the crate `acceptance` shows this crate in use, in a few lines.
 #![tactic(auto)]
 
 mod fault;

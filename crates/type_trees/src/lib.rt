@@ -30,6 +30,8 @@
 //! that it is closed; that each tree branch of a type is a type; that records with a cycle have no
 //! rank; and that a set of types has one canonical list, which reads back as that set. Nothing
 //! recurses along references: a record is read after those that it names.
+//!
+//! The file `src/examples.rt` of the crate `acceptance` shows this crate in use, in a few lines.
 #![tactic(auto)]
 
 mod canon;

@@ -3,8 +3,8 @@ use Rattle.std.specs.Prelude.{ℕ, ◌≡◌, ◌≢◌, ◌⊎◌}
 use Rattle.clap.specs.Values.{kind_of}
 use Rattle.clap.specs.declared.error.Error.{Error}
 use Rattle.clap.specs.declared.error.kind.ErrorKind.TheVariants.{DisplayHelp, DisplayVersion}
-use Rattle.pdbmerge.specs.declared.line.LineFault.{LineFault}
-use Rattle.pdbmerge.specs.declared.line.LineFault.TheVariants.{Refused, Argument, Memory}
+use Rattle.pdbmerge.specs.declared.fault.LineFault.{LineFault}
+use Rattle.pdbmerge.specs.declared.fault.LineFault.TheVariants.{Refused, Argument, Memory}
 
 -- the error is a mistake in the arguments: it shows neither help nor the version
 abbrev pub IsMistake : Error → Type 0

@@ -1,0 +1,8 @@
+//! Why not all bytes were put.
+
+use thiserror::Error;
+
+/// The sink took fewer bytes than it was given.
+#[derive(Clone, Copy, Debug, PartialEq, Eq, Error)]
+#[error("36 Write")]
+pub struct NotTaken;
