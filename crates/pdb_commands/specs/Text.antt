@@ -27,6 +27,6 @@ quoted_byte byte = if is_plain byte then byte ∷ [] else 92 ∷ 120 ∷ digit (
 unfoldable pub quoted : List ℕ → List ℕ
 quoted text = 34 ∷ flat_map quoted_byte text ++ 34 ∷ []
 
--- a line with a word and a number
+-- a line with a name and a number
 unfoldable pub named_line : List ℕ → ℕ → List ℕ
 named_line name number = name ++ 32 ∷ decimal number ++ 10 ∷ []

@@ -21,7 +21,7 @@ pub fn push_kind<A: Allocator>(text: &mut String<A>, kind: u16) -> Result<(), Al
     write!(text, "0x{high:02x}{low:02x}")
 }
 
-/// Appends a line with a word and a number.
+/// Appends a line with a name and a number.
 #[tactic(auto, unfolding(crate::specs::Text::named_line))]
 pub fn push_named<A: Allocator>(
     text: &mut String<A>,

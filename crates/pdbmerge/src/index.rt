@@ -3,8 +3,8 @@
 ghost use Rattle.std.specs.Prelude.{IfSome, IfNone, ℕ};
 ghost use Rattle.pdbmerge.specs.Index.{IsIndexArgument};
 
-/// The type index that a word is: `0x` and 1 to 8 hexadecimal digits of either case, and nothing
-/// else. `None` for any other word. This does not allocate.
+/// The type index that an argument is: `0x` and 1 to 8 hexadecimal digits of either case, and
+/// nothing else. `None` for any other argument. This does not allocate.
 pub fn read_index(argument: &str) -> Option<u32>
     ensures value { IfSome result (IsIndexArgument argument.now) }
     ensures none { IfNone result ((value : ℕ) → IsIndexArgument argument.now value → ⊥) }
