@@ -1,37 +1,13 @@
-//! Tests over all the libraries: what no clause says, at their public calls.
+//! A short example for each library, as a user of that library writes it.
 //!
-//! They are a crate of their own because a crate with tests is proved twice. The rows come from the
-//! tables of the formats and from other programs, never from this one. `examples` shows each
-//! library as its user sees it; the other modules have the name of what they test.
+//! No crate uses this one. Beside it are the crates of tests: `acceptance_formats`,
+//! `acceptance_types`, `acceptance_merging` and `acceptance_commands`. They are crates of their own
+//! since a crate is proved a second time with its tests, and several since what one proof of a test
+//! costs grows with its crate. Their rows come from the tables of the formats and from other
+//! programs, never from this one.
 #![tactic(auto)]
 
 #[cfg(test)]
-mod blocks;
-#[cfg(test)]
-mod chains;
-#[cfg(test)]
-mod commands;
-#[cfg(test)]
 mod examples;
 #[cfg(test)]
-mod images;
-#[cfg(test)]
-mod info;
-#[cfg(test)]
-mod layouts;
-#[cfg(test)]
-mod leaves;
-#[cfg(test)]
-mod merging;
-#[cfg(test)]
 mod orders;
-#[cfg(test)]
-mod packed;
-#[cfg(test)]
-mod records;
-#[cfg(test)]
-mod sets;
-#[cfg(test)]
-mod streams;
-#[cfg(test)]
-mod types;
