@@ -16,7 +16,7 @@ use Rattle.msf_blocks.specs.Superblock.{Fields, IsSuperblock, magic}
 use Rattle.msf_blocks.specs.Directory.{IsListed, IsDirectory, directory_contents, map_number, bytes_of}
 use Rattle.msf_blocks.proofs.BlockLaws.{nth_zero, nth_ge}
 use Rattle.msf_blocks.proofs.SizeLaws.{size_facts, big_enough, next_row, ceil_ge, place_below}
-use Rattle.msf_streams.specs.Stream.{gathered, text_of}
+use Rattle.msf_streams.specs.Streams.{gathered, text_of}
 use Rattle.msf_blocks.specs.BlockNumber.{numbers}
 use Rattle.msf_streams.specs.Image.{filled, laid_out, superblock_numbers, listed_from, blocks_of_all, directory_len, directory_count, data_count, image_blocks, superblock_part, block_map_part, directory_part, parts, image, Fits, image_fields, ReadsBack}
 use Rattle.msf_streams.proofs.RangeLaws.{map-range_with_len_parts, map-same_ranges}

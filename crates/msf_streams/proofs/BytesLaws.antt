@@ -12,7 +12,7 @@ use Rattle.msf_blocks.specs.BlockNumber.{is_map_block, blocks_for, data_blocks}
 use Rattle.msf_blocks.specs.Superblock.{magic}
 use Rattle.msf_blocks.specs.Directory.{Listed, bytes_of}
 use Rattle.msf_blocks.specs.Layout.{LayoutView}
-use Rattle.msf_streams.specs.Stream.{gathered, text_of, stream_contents}
+use Rattle.msf_streams.specs.Streams.{gathered, text_of, stream_contents}
 use Rattle.msf_blocks.specs.FreeMap.{map_byte, map_block}
 use Rattle.msf_blocks.specs.BlockNumber.{numbers}
 use Rattle.msf_streams.specs.Image.{filled, data_block, image_block, laid_out, superblock_numbers, superblock_part, block_map_part, directory_part, directory_count, blocks_of_all, parts, image, image_blocks}

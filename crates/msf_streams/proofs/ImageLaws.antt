@@ -10,7 +10,7 @@ use Rattle.std.proofs.lemmas.List.Sums.{sum_by-cons, sum_by-append}
 use Rattle.msf_blocks.specs.BlockNumber.{IsBlockSize, blocks_for, is_map_block, nth_block, data_blocks}
 use Rattle.msf_blocks.proofs.BlockLaws.{rank_is, nth_is_data, nth_onto, nth_monotone, nth_few}
 use Rattle.msf_blocks.proofs.SizeLaws.{size_facts, big_enough, ceil_ge, place_below}
-use Rattle.msf_streams.specs.Stream.{gathered}
+use Rattle.msf_streams.specs.Streams.{gathered}
 use Rattle.msf_blocks.specs.FreeMap.{map_block, map_byte}
 use Rattle.msf_streams.specs.Image.{filled, data_block, image_block, laid_out, blocks_of_all, directory_len, directory_count, data_count}
 use Rattle.msf_streams.proofs.RangeLaws.{map-same_ranges, part_by_places}

@@ -11,7 +11,7 @@ use Rattle.msf_blocks.proofs.SizeLaws.{size_facts, big_enough}
 use Rattle.msf_blocks.proofs.BlockLaws.{nth_first, nth_other, nth_zero, nth_is_data, map_at, rank_is, range_more}
 use Rattle.msf_blocks.specs.FreeMap.{map_block}
 use Rattle.msf_streams.specs.Image.{filled, data_block, image_block, laid_out, parts, image, image_blocks, data_count, Fits}
-use Rattle.msf_streams.specs.Woven.{stretch, follows_maps, maps_of, maps_before, woven, room}
+use Rattle.msf_streams.specs.Put.{stretch, follows_maps, maps_of, maps_before, woven, room}
 use Rattle.msf_streams.proofs.ImageLaws.{length_parts}
 use Rattle.msf_streams.proofs.BackLaws.{all_blocks, image_is}
 

@@ -7,7 +7,7 @@ use Rattle.msf_blocks.specs.FreeMap.{map_block}
 use Rattle.msf_blocks.specs.Superblock.{Fields, magic}
 use Rattle.msf_blocks.specs.Directory.{Listed}
 use Rattle.msf_blocks.specs.Layout.{LayoutView, HasLayout}
-use Rattle.msf_streams.specs.Stream.{stream_contents}
+use Rattle.msf_streams.specs.Streams.{stream_contents}
 use Rattle.std.specs.Borrow.{Bor}
 use lib.ListN.{replicate}
 

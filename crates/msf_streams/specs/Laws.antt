@@ -5,7 +5,7 @@ use Rattle.byte_fields.specs.Bytes.{AreBytes}
 use Rattle.msf_blocks.specs.BlockNumber.{IsBlockSize}
 use Rattle.msf_blocks.specs.Layout.{LayoutView}
 use Rattle.msf_streams.specs.Image.{Fits, ReadsBack, blocks_of_all, image}
-use Rattle.msf_streams.specs.Stream.{stream_contents}
+use Rattle.msf_streams.specs.Streams.{stream_contents}
 
 -- the image of streams that fit reads back
 abbrev pub ImagesReadBack : Type 0

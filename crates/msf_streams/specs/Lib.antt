@@ -1,4 +1,4 @@
-pub mod Stream
+pub mod Streams
 pub mod Image
-pub mod Woven
+pub mod Put
 pub mod Laws

@@ -3,7 +3,7 @@
 ghost use Rattle.std.specs.Prelude.{◌≡◌, length, IfOk};
 ghost use Rattle.msf_blocks.specs.BlockNumber.{IsBlockSize};
 ghost use Rattle.msf_streams.specs.Image.{Fits, image_blocks};
-ghost use Rattle.msf_streams.specs.Woven.{IsFront};
+ghost use Rattle.msf_streams.specs.Put.{IsFront};
 
 use crate::image::{directory_blocks, directory_len, stream_blocks};
 use msf_blocks::{block_map_bytes, directory_bytes, nth_block, superblock_bytes};

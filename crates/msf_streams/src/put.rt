@@ -11,14 +11,14 @@ ghost use lib.ListN.{replicate};
 ghost use Rattle.std.specs.Io.KnownBytes.{Appends};
 ghost use Rattle.msf_blocks.specs.BlockNumber.{IsBlockSize, blocks_for};
 ghost use Rattle.msf_streams.specs.Image.{filled, joined, joined_of};
-ghost use Rattle.msf_streams.specs.Woven.{stretch, maps_of, maps_before, woven, room, AppendsPart};
+ghost use Rattle.msf_streams.specs.Put.{stretch, maps_of, maps_before, woven, room, AppendsPart};
 
 use byte_io::{NotTaken, Sink, put_all};
 use msf_blocks::fill_map_block;
 
 /// The length of a stretch: how many bytes of data are between the map blocks of one interval and
 /// the map blocks of the next.
-#[tactic(auto, using(msf_blocks::proofs::SizeLaws::big_enough, crate::proofs::WovenLaws::stretch_long), unfolding(crate::specs::Woven::stretch))]
+#[tactic(auto, using(msf_blocks::proofs::SizeLaws::big_enough, crate::proofs::WovenLaws::stretch_long), unfolding(crate::specs::Put::stretch))]
 fn stretch(block_size: u32) -> usize
     requires { IsBlockSize block_size }
     ensures value { result ≡ stretch block_size }
@@ -28,7 +28,7 @@ fn stretch(block_size: u32) -> usize
 }
 
 /// How many bytes of data follow a position in the file before the next map blocks.
-#[tactic(auto, using(msf_blocks::proofs::SizeLaws::some_bytes), unfolding(crate::specs::Woven::room))]
+#[tactic(auto, using(msf_blocks::proofs::SizeLaws::some_bytes), unfolding(crate::specs::Put::room))]
 fn room(block_size: u32, position: usize) -> usize
     requires { IsBlockSize block_size }
     ensures { result ≡ room block_size position }
@@ -65,7 +65,7 @@ fn put_maps<W: Sink>(
 }
 
 /// Puts the map blocks that come right before a position, if there are any.
-#[tactic(auto, using(msf_blocks::proofs::SizeLaws::some_bytes), unfolding(crate::specs::Woven::maps_before))]
+#[tactic(auto, using(msf_blocks::proofs::SizeLaws::some_bytes), unfolding(crate::specs::Put::maps_before))]
 fn put_maps_before<W: Sink>(
     block_size: u32,
     num_blocks: u32,

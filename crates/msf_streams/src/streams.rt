@@ -17,7 +17,7 @@ ghost use Rattle.std.specs.Iterator.{YieldsFirstRef, item_count};
 ghost use Rattle.msf_blocks.specs.BlockNumber.{blocks_for};
 ghost use Rattle.msf_blocks.specs.Directory.{bytes_of};
 ghost use Rattle.msf_blocks.specs.Layout.{IsLayout};
-ghost use Rattle.msf_streams.specs.Stream.{stream_pieces, stream_contents, pieces_from};
+ghost use Rattle.msf_streams.specs.Streams.{stream_pieces, stream_contents, pieces_from};
 
 use crate::fault::StreamFault;
 use msf_blocks::Layout;
@@ -95,7 +95,7 @@ pub struct StreamPieces<'a, A: Allocator = Global> {
 
 impl<'a, A: Allocator> Model for StreamPieces<'a, A> {
     ghost use Rattle.std.specs.Prelude.{ℕ, ◌*◌, ◌≤◌, List, length};
-    ghost use Rattle.msf_streams.specs.Stream.{pieces_from};
+    ghost use Rattle.msf_streams.specs.Streams.{pieces_from};
 
     ghost Value = { List (List ℕ) };
 

@@ -4,7 +4,7 @@ ghost use Rattle.std.specs.Prelude.{◌≡◌, ◌≢◌, ◌⊎◌, ◌<◌, �
 ghost use Rattle.std.specs.Io.KnownBytes.{Appends};
 ghost use Rattle.msf_blocks.specs.BlockNumber.{IsBlockSize};
 ghost use Rattle.msf_streams.specs.Image.{Writable, image, texts_of, joined, joined_of};
-ghost use Rattle.msf_streams.specs.Woven.{AppendsPart, IsFront};
+ghost use Rattle.msf_streams.specs.Put.{AppendsPart, IsFront};
 
 use crate::fault::WriteFault;
 use crate::front::Front;

@@ -11,7 +11,7 @@ use Rattle.msf_blocks.specs.BlockNumber.{blocks_for}
 use Rattle.msf_blocks.specs.Superblock.{Fields}
 use Rattle.msf_blocks.specs.Directory.{Listed, IsListed, bytes_of}
 use Rattle.msf_blocks.specs.Layout.{block_in}
-use Rattle.msf_streams.specs.Stream.{blocks_in}
+use Rattle.msf_streams.specs.Streams.{blocks_in}
 use Rattle.pdb_commands.specs.Streams.{blank_number, stream_line, stream_lines}
 use Rattle.std.proofs.lemmas.List.Sums.{count_by_more_yes, count_by_more_no}
 

@@ -5,7 +5,7 @@ use Rattle.std.specs.Fmt.{decimal}
 use Rattle.uuid.specs.Text.{hyphenated_text, lower}
 use Rattle.byte_fields.specs.Check.{first_failing}
 use Rattle.msf_blocks.specs.Layout.{LayoutView, HasLayout}
-use Rattle.msf_streams.specs.Stream.{stream_contents}
+use Rattle.msf_streams.specs.Streams.{stream_contents}
 use Rattle.msf_streams.specs.declared.fault.StreamFault.TheVariants.{NoStream}
 use Rattle.pdb_info.specs.Header.{HeaderFields}
 use Rattle.pdb_info.specs.Names.{NamedStream}

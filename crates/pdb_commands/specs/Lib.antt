@@ -1,11 +1,11 @@
-pub mod Checked
+pub mod Check
 pub mod Fault
 pub mod Info
 pub mod Input
 pub mod Merge
 pub mod Record
 pub mod Records
-pub mod Run
+pub mod Show
 pub mod Streams
 pub mod Text
 pub mod Types

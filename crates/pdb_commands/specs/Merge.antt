@@ -1,7 +1,7 @@
 -- What the command `merge` writes and reports.
 use Rattle.std.specs.Prelude.{ℕ, ◌≢◌, List, ◌++◌, Option, codes}
 use Rattle.std.specs.Io.KnownBytes.{Appends}
-use Rattle.msf_streams.specs.Woven.{AppendsPart}
+use Rattle.msf_streams.specs.Put.{AppendsPart}
 use Rattle.pdb_info.specs.Settings.{SettingsView}
 use Rattle.pdb_merge.specs.Union.{Stops}
 use Rattle.pdb_merge.specs.Merged.{Wrote}

@@ -8,15 +8,16 @@ use Rattle.byte_fields.specs.Check.{first_failing}
 use Rattle.cv_leaves.specs.Checks.{body_of, record_checks}
 use Rattle.cv_leaves.specs.Place.{HasPlaces}
 use Rattle.cv_leaves.specs.Name.{name_of}
-use Rattle.pdb_merge.specs.Accepted.{HasTypeRecords}
+use Rattle.pdb_merge.specs.Read.{HasTypeRecords}
 use Rattle.pdb_commands.specs.Records.{HasNoTypeRecords}
 use Rattle.pdb_commands.specs.Text.{index_text, quoted}
 use Rattle.pdb_commands.specs.declared.fault.RunFault.{RunFault}
 use Rattle.pdb_commands.specs.declared.fault.RunFault.TheVariants.{NoRecord, Leaf}
+use Rattle.tpi_records.specs.Header.{first_index}
 
 -- the record that has this type index; the first of these records has the index 0x1000
 unfoldable pub record_of : List (List ℕ) → ℕ → Option (List ℕ)
-record_of records index = if nat_le 0x1000 index then slice_get records (index - 0x1000) else None
+record_of records index = if nat_le first_index index then slice_get records (index - first_index) else None
 
 -- the line of the bytes of a record, in hexadecimal
 unfoldable pub bytes_line : List ℕ → List ℕ

@@ -10,11 +10,12 @@ use Rattle.cv_leaves.specs.Checks.{kind_of, body_of, record_checks}
 use Rattle.cv_leaves.specs.Place.{HasPlaces, IsChecked}
 use Rattle.cv_leaves.specs.Name.{name_of}
 use Rattle.cv_leaves.specs.declared.fault.LeafFault.{LeafFault}
-use Rattle.pdb_merge.specs.Accepted.{HasTypeRecords}
+use Rattle.pdb_merge.specs.Read.{HasTypeRecords}
 use Rattle.pdb_commands.specs.Records.{HasNoTypeRecords}
 use Rattle.pdb_commands.specs.Text.{index_text, quoted}
 use Rattle.pdb_commands.specs.declared.fault.RunFault.{RunFault}
 use Rattle.pdb_commands.specs.declared.fault.RunFault.TheVariants.{Leaf}
+use Rattle.tpi_records.specs.Header.{first_index}
 
 -- a space and a reference: the type index at a place of a record
 abbrev pub reference : List ℕ → ℕ → List ℕ
@@ -41,13 +42,13 @@ AreTypeLines index (bytes ∷ others) text =
 
 -- `types` prints this text for the file: a line for each of its type records
 abbrev pub ShowsTypes : List ℕ → List ℕ → Type 0
-ShowsTypes file text = (records : List (List ℕ)) × HasTypeRecords file records × AreTypeLines 0x1000 records text
+ShowsTypes file text = (records : List (List ℕ)) × HasTypeRecords file records × AreTypeLines first_index records text
 
 -- the first of these records whose leaf is at fault has this type index and this fault
 abbrev pub HasLeafFault : List (List ℕ) → ℕ → LeafFault → Type 0
 HasLeafFault records index fault =
     (before : List (List ℕ)) × (bytes : List ℕ) × (after : List (List ℕ)) × (records ≡ before ++ bytes ∷ after)
-    × AllByRecursion IsChecked before × (index ≡ 0x1000 + length before) × (first_failing (record_checks bytes) ≡ Some fault)
+    × AllByRecursion IsChecked before × (index ≡ first_index + length before) × (first_failing (record_checks bytes) ≡ Some fault)
 
 -- this is the first fault on the way to the types: a fault of the file's type records, else that of the first record whose leaf is at fault
 abbrev pub HasNoTypes : {A : Type 0} → List ℕ → RunFault A → Type 0

@@ -1,8 +1,8 @@
 //! The command `check`: whether the types of a file can be trusted.
 
 ghost use Rattle.std.specs.Prelude.{◌≡◌, ◌⊎◌, ◌++◌, true, OnOk, IfErr, string_bytes};
-ghost use Rattle.pdb_commands.specs.Checked.{ShowsChecked, HasNoAccepted, checked_lines};
-ghost use Rattle.pdb_commands.specs.Run.{Answers};
+ghost use Rattle.pdb_commands.specs.Check.{ShowsChecked, HasNoAccepted, checked_lines};
+ghost use Rattle.pdb_commands.specs.Show.{Answers};
 
 use crate::fault::RunFault;
 use crate::show::{Show, run};
@@ -12,7 +12,7 @@ use pdb_merge::{Buffer, read_types};
 use std::alloc::{AllocError, Allocator};
 
 /// Appends `accepted`, then the number of records, of bytes and of levels, one per line.
-#[tactic(auto, unfolding(crate::specs::Checked::checked_lines))]
+#[tactic(auto, unfolding(crate::specs::Check::checked_lines))]
 fn push_checked<A: Allocator>(
     text: &mut String<A>,
     records: u32,

@@ -3,9 +3,9 @@
 ghost use Rattle.std.specs.Prelude.{◌≡◌, ◌⊎◌, ◌++◌, map, Some, true, OnOk, IfOk, IfErr, string_bytes};
 ghost use Rattle.std.specs.List.{flat_map};
 ghost use Rattle.msf_blocks.specs.Layout.{LayoutView, HasLayout};
-ghost use Rattle.msf_streams.specs.Stream.{stream_contents};
+ghost use Rattle.msf_streams.specs.Streams.{stream_contents};
 ghost use Rattle.pdb_info.specs.Name.{named};
-ghost use Rattle.pdb_commands.specs.Run.{Answers};
+ghost use Rattle.pdb_commands.specs.Show.{Answers};
 ghost use Rattle.pdb_commands.specs.Info.{ShowsInfo, HasNoInfo, HasNoInfoStream, signature_line, guid_line, header_lines, name_line, feature_line};
 
 use crate::fault::RunFault;

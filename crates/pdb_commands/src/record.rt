@@ -5,7 +5,7 @@ ghost use Rattle.std.specs.List.{flat_map};
 ghost use Rattle.cv_leaves.specs.Place.{HasPlaces, IsChecked};
 ghost use Rattle.cv_leaves.specs.Name.{name_of};
 ghost use Rattle.pdb_commands.specs.Record.{ShowsRecord, HasNoRecord, record_of, bytes_line, place_line, name_lines};
-ghost use Rattle.pdb_commands.specs.Run.{Answers};
+ghost use Rattle.pdb_commands.specs.Show.{Answers};
 
 use crate::fault::RunFault;
 use crate::show::{Show, run};

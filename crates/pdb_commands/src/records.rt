@@ -3,7 +3,7 @@
 ghost use Rattle.std.specs.Prelude.{◌≡◌, ◌⊎◌, ◌++◌, true, OnOk, IfOk, IfErr, string_bytes};
 ghost use Rattle.tpi_records.specs.Records.{IsRecord};
 ghost use Rattle.pdb_commands.specs.Records.{ShowsRecords, HasNoTypeRecords, record_line, record_lines};
-ghost use Rattle.pdb_commands.specs.Run.{Answers};
+ghost use Rattle.pdb_commands.specs.Show.{Answers};
 
 use crate::fault::RunFault;
 use crate::show::{Show, run};
@@ -37,7 +37,7 @@ fn record_lines<A: Allocator + Copy>(
     alloc: A,
     records: &tpi_records::Records<'_, A>,
 ) -> Result<String<A>, AllocError>
-    ensures { IfOk result (λ text. string_bytes text ≡ record_lines 0x1000 records.now) }
+    ensures { IfOk result (λ text. string_bytes text ≡ record_lines FIRST_INDEX records.now) }
 {
     let mut text = String::new(alloc);
     let mut index = FIRST_INDEX;

@@ -1,7 +1,7 @@
 //! How a command that shows a file runs.
 
 ghost use Rattle.std.specs.Prelude.{◌≡◌, ◌⊎◌, ℕ, List, true, OnOk, IfOk, IfErr, string_bytes};
-ghost use Rattle.pdb_commands.specs.Run.{Answers, IsOfText};
+ghost use Rattle.pdb_commands.specs.Show.{Answers, IsOfText};
 ghost use Rattle.pdb_commands.specs.declared.fault.RunFault.{RunFault};
 
 use crate::fault::RunFault;

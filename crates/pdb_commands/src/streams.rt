@@ -3,10 +3,10 @@
 ghost use Rattle.std.specs.Prelude.{◌≡◌, ◌⊎◌, ◌++◌, ◌*◌, ◌<◌, ◌≤◌, length, take, true, Some, OnOk, IfOk, IfErr, IfSome, string_bytes, slice_get};
 ghost use Rattle.std.specs.List.{flat_map};
 ghost use Rattle.msf_blocks.specs.Directory.{Listed};
-ghost use Rattle.msf_streams.specs.Stream.{blocks_in};
+ghost use Rattle.msf_streams.specs.Streams.{blocks_in};
 ghost use Rattle.msf_blocks.specs.FreeMap.{is_free};
 ghost use Rattle.msf_blocks.specs.Layout.{HasLayout};
-ghost use Rattle.pdb_commands.specs.Run.{Answers};
+ghost use Rattle.pdb_commands.specs.Show.{Answers};
 ghost use Rattle.pdb_commands.specs.Streams.{ShowsStreams, HasLayoutFault, HasNoLayout, free_blocks, blank_number, container_lines, stream_line, stream_lines};
 
 use crate::fault::RunFault;

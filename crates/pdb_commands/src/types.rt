@@ -9,7 +9,7 @@ ghost use Rattle.cv_leaves.specs.Checks.{record_checks};
 ghost use Rattle.cv_leaves.specs.Place.{HasPlaces, IsChecked};
 ghost use Rattle.cv_leaves.specs.Name.{name_of};
 ghost use Rattle.cv_leaves.specs.declared.fault.LeafFault.{LeafFault};
-ghost use Rattle.pdb_commands.specs.Run.{Answers};
+ghost use Rattle.pdb_commands.specs.Show.{Answers};
 ghost use Rattle.pdb_commands.specs.Text.{index_text};
 ghost use Rattle.pdb_commands.specs.Types.{ShowsTypes, HasNoTypes, AreTypeLines, HasLeafFault, type_line, reference, quoted_name, leaf_name};
 
@@ -120,7 +120,7 @@ fn type_lines<A: Allocator + Copy>(
     alloc: A,
     records: &Records<'_, A>,
 ) -> Result<String<A>, RunFault<A>>
-    ensures value { IfOk result (λ text. AreTypeLines 0x1000 records.now (string_bytes text)) }
+    ensures value { IfOk result (λ text. AreTypeLines FIRST_INDEX records.now (string_bytes text)) }
     ensures first { IfErr result (λ fault. ((index : ℕ) × (inner : LeafFault) × (fault ≡ RunFault.Leaf index inner) × HasLeafFault records.now index inner) ⊎ (fault ≡ RunFault.Memory)) }
 {
     let mut text = String::new(alloc);

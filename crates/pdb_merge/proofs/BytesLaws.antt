@@ -16,7 +16,7 @@ use Rattle.type_trees.specs.Tree.{Tree, tree, nothing, Stands, blank_of, branche
 use Rattle.type_trees.specs.Canon.{numbers, text}
 use Rattle.type_trees.specs.Finish.{IsCanonOf}
 use Rattle.type_trees.proofs.TreeLaws.{at_position}
-use Rattle.pdb_merge.specs.Accepted.{IsAccepted}
+use Rattle.pdb_merge.specs.Read.{IsAccepted}
 use Rattle.pdb_merge.specs.Union.{HasType}
 use Rattle.pdb_merge.specs.Merged.{type_stream, merged_texts, merged_file}
 

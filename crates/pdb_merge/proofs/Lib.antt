@@ -1,5 +1,5 @@
 pub mod StreamLaws
-pub mod AcceptedLaws
+pub mod ReadLaws
 pub mod MemoryLaws
 pub mod UnionLaws
 pub mod MergingLaws

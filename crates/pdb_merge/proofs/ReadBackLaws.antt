@@ -15,7 +15,7 @@ use Rattle.tpi_records.proofs.CutLaws.{many_bytes}
 use Rattle.type_trees.specs.Tree.{Tree, IsType, nothing}
 use Rattle.type_trees.specs.Canon.{text, texts, weight, Canonical}
 use Rattle.type_trees.specs.Finish.{IsCanonOf}
-use Rattle.pdb_merge.specs.Accepted.{IsAccepted}
+use Rattle.pdb_merge.specs.Read.{IsAccepted}
 use Rattle.type_trees.specs.Check.{AreTypes}
 use Rattle.type_trees.specs.Tree.{Stands, tree}
 use Rattle.type_trees.proofs.ReadLaws.{canonical_reads_back}

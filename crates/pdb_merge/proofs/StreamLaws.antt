@@ -5,8 +5,8 @@ use Rattle.std.proofs.lemmas.Option.{slice_get_cases}
 use Rattle.std.proofs.lemmas.List.FromFn.{length-map-range_with_len}
 use Rattle.msf_blocks.specs.Directory.{Listed, bytes_of}
 use Rattle.msf_blocks.specs.Layout.{LayoutView}
-use Rattle.msf_streams.specs.Stream.{stream_contents, text_of, gathered}
-use Rattle.pdb_merge.specs.Accepted.{HasLongInfo, HasShortInfo}
+use Rattle.msf_streams.specs.Streams.{stream_contents, text_of, gathered}
+use Rattle.pdb_merge.specs.Read.{HasLongInfo, HasShortInfo}
 
 length-text : (file : List ℕ) (block_size : ℕ) (stream : Listed) → length (text_of file block_size stream) ≡ bytes_of stream.size
 unfolding gathered

@@ -11,7 +11,7 @@ use Rattle.type_trees.specs.Table.{IsUnion}
 use Rattle.type_trees.specs.declared.fault.JoinFault.{JoinFault}
 use Rattle.type_trees.specs.declared.fault.JoinFault.TheVariants as join
 use Rattle.type_trees.proofs.WeightLaws.{weight-none, weight_grows}
-use Rattle.pdb_merge.specs.Accepted.{IsAccepted}
+use Rattle.pdb_merge.specs.Read.{IsAccepted}
 use Rattle.pdb_merge.specs.Fault.{of_join, of_add}
 use Rattle.pdb_merge.specs.Laws.{TypesOfFirst, TypesOfBoth, AnyOrder, RefusedInAnyOrder, OneWeight}
 use Rattle.pdb_merge.specs.Union.{FileHas, HasTypeBelow, HasType, SameFiles, AcceptedBelow, Weighs, Within, Takes, Hinders, CanMerge, CanMergeBelow, Stops, Unites}
@@ -19,7 +19,7 @@ use Rattle.pdb_merge.specs.declared.fault.AddFault.{AddFault}
 use Rattle.pdb_merge.specs.declared.fault.AddFault.TheVariants as add
 use Rattle.pdb_merge.specs.declared.fault.MergeFault.{MergeFault}
 use Rattle.pdb_merge.specs.declared.fault.MergeFault.TheVariants as merge
-use Rattle.pdb_merge.proofs.AcceptedLaws.{one_list, accepted_unrefused}
+use Rattle.pdb_merge.proofs.ReadLaws.{one_list, accepted_unrefused}
 
 -- ---- weights
 

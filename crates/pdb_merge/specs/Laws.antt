@@ -2,7 +2,7 @@
 use Rattle.std.specs.Prelude.{ℕ, ◌≡◌, ◌≢◌, ◌⊎◌, ◌↔◌, List, [], ◌∷◌, ◌++◌}
 use Rattle.pdb_info.specs.Settings.{SettingsView, AreSettings, record_limit}
 use Rattle.type_trees.specs.Tree.{Tree}
-use Rattle.pdb_merge.specs.Accepted.{IsAccepted}
+use Rattle.pdb_merge.specs.Read.{IsAccepted}
 use Rattle.pdb_merge.specs.Union.{FileHas, HasTypeBelow, HasType, SameFiles, SameTypes, Weighs, Within, CanMerge, Stops}
 use Rattle.pdb_merge.specs.Merged.{Merged, HoldsJust}
 use Rattle.pdb_merge.specs.declared.fault.MergeFault.{MergeFault}

@@ -1,5 +1,5 @@
 pub mod Fault
-pub mod Accepted
+pub mod Read
 pub mod Laws
 pub mod Union
 pub mod Merged

@@ -3,13 +3,13 @@ use Rattle.std.specs.Prelude.{ℕ, ◌≡◌, ◌+◌, ◌↔◌, List, [], ◌�
 use Rattle.std.specs.List.{concat}
 use Rattle.std.specs.Io.KnownBytes.{Appends}
 use Rattle.msf_streams.specs.Image.{image}
-use Rattle.msf_streams.specs.Woven.{AppendsPart}
+use Rattle.msf_streams.specs.Put.{AppendsPart}
 use Rattle.pdb_info.specs.Settings.{SettingsView, record_limit}
 use Rattle.pdb_info.specs.Written.{info_text}
 use Rattle.tpi_records.specs.Written.{header_text}
 use Rattle.type_trees.specs.Tree.{Tree, Stands, IsType}
 use Rattle.type_trees.specs.Finish.{IsCanonOf}
-use Rattle.pdb_merge.specs.Accepted.{IsAccepted}
+use Rattle.pdb_merge.specs.Read.{IsAccepted}
 use Rattle.pdb_merge.specs.Union.{HasType, SameTypes, Weighs, CanMerge}
 use Rattle.pdb_merge.specs.declared.summary.Summary.{Summary}
 

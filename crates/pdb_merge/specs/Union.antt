@@ -3,7 +3,7 @@ use Rattle.std.specs.Prelude.{ℕ, ◌≡◌, ◌≢◌, ◌+◌, ◌<◌, ◌�
 use Rattle.std.specs.List.{AllPairs, Contains}
 use Rattle.type_trees.specs.Tree.{Tree, IsType}
 use Rattle.type_trees.specs.Canon.{weight}
-use Rattle.pdb_merge.specs.Accepted.{IsAccepted, HasPdbFault}
+use Rattle.pdb_merge.specs.Read.{IsAccepted, HasPdbFault}
 use Rattle.pdb_merge.specs.declared.fault.AddFault.{AddFault}
 use Rattle.pdb_merge.specs.declared.fault.AddFault.TheVariants as add
 use Rattle.pdb_merge.specs.declared.fault.MergeFault.{MergeFault}

@@ -13,7 +13,7 @@
 //!   such a list. [`Merge`] takes files one after the other.
 //! - [`MergeFault`] names the first file that is at fault, by its position, from 0.
 //!
-//! What is proved: a file is read exactly where it is accepted (`IsAccepted` of `specs/Accepted`),
+//! What is proved: a file is read exactly where it is accepted (`IsAccepted` of `specs/Read`),
 //! except when out of memory. Its records are the only ones with which it is accepted. The file
 //! that `merge_to` writes (`Wrote` of `specs/Merged`) has exactly the types of the files, each
 //! once, in canonical order, and it is accepted with these. Every list of files with the same types

@@ -3,7 +3,7 @@
 ghost use Rattle.std.specs.Prelude.{◌≡◌, ◌⊎◌, ◌*◌, ◌≤◌, ℕ, List, None, length, OnOk, IfOk, IfErr};
 ghost use Rattle.byte_fields.specs.Check.{first_failing};
 ghost use Rattle.msf_blocks.specs.Layout.{layout_checks};
-ghost use Rattle.pdb_merge.specs.Accepted.{IsAccepted, HasPdbFault, HasTypeRecords, ListsRecords, HasRecordsFault, HasStreamFault, HasLongInfo, HasInfoFault};
+ghost use Rattle.pdb_merge.specs.Read.{IsAccepted, HasPdbFault, HasTypeRecords, ListsRecords, HasRecordsFault, HasStreamFault, HasLongInfo, HasInfoFault};
 
 use crate::buffer::Buffer;
 use crate::fault::PdbFault;

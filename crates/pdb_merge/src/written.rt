@@ -4,7 +4,7 @@ ghost use Rattle.std.specs.Prelude.{◌≡◌, ◌≢◌, ◌⊎◌, ◌+◌, �
 ghost use Rattle.std.specs.List.{concat};
 ghost use Rattle.std.specs.Io.KnownBytes.{Appends};
 ghost use Rattle.msf_streams.specs.Image.{Fits, Writable, image, image_length};
-ghost use Rattle.msf_streams.specs.Woven.{AppendsPart};
+ghost use Rattle.msf_streams.specs.Put.{AppendsPart};
 ghost use Rattle.msf_blocks.specs.BlockNumber.{IsBlockSize};
 ghost use Rattle.pdb_info.specs.Settings.{AreSettings, record_limit};
 ghost use Rattle.tpi_records.specs.Written.{header_text};

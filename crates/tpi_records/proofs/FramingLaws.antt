@@ -8,6 +8,7 @@ use Rattle.byte_fields.proofs.NumberLaws.{number_at-take, number_at-append}
 use Rattle.tpi_records.specs.Records.{IsRecord, IsFlaw, HasFlaw, Begins}
 use Rattle.tpi_records.specs.declared.fault.TpiFault.{TpiFault}
 use Rattle.tpi_records.specs.declared.fault.TpiFault.TheVariants.{Short, Version, HeaderSize, Begin, End, Bytes, RecordShort, RecordLen, RecordCount, Memory}
+use Rattle.tpi_records.specs.Header.{first_index}
 
 -- ---- the records so far, and the bytes after them
 
@@ -88,4 +89,4 @@ unflawed (r ∷ rs) (f ∷ fs) rest index fault each_r each_f e some flaw =
 
 pub framed_unflawed : (bytes : List ℕ) (records : List (List ℕ)) (fault : TpiFault) → AllByRecursion IsRecord records → bytes ≡ concat records → HasFlaw bytes fault → ⊥
 framed_unflawed bytes records fault each parts (front, rest, begins, some, flaw) =
-    unflawed records front rest (0x1000 + length front) fault each begins.each (sym parts ∙ begins.parts) some flaw
+    unflawed records front rest (first_index + length front) fault each begins.each (sym parts ∙ begins.parts) some flaw

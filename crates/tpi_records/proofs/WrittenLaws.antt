@@ -5,6 +5,7 @@ use Rattle.std.proofs.lemmas.List.{length-append, drop_at}
 use Rattle.byte_fields.specs.Number.{number_at, nth_u32}
 use Rattle.byte_fields.proofs.NumberLaws.{nth_u32-u32s, length-u32s}
 use Rattle.tpi_records.specs.Written.{header_numbers, header_text, HeadsRecords}
+use Rattle.tpi_records.specs.Header.{first_index}
 
 -- each number of the header reads back
 number_back : (count bytes : ℕ) (rest : List ℕ) (k : ℕ) → k < 14 → get_or (header_numbers count bytes) k 0 < 2 ^ 32 → number_at 4 (header_text count bytes ++ rest) (4 * k) ≡ get_or (header_numbers count bytes) k 0
@@ -16,7 +17,7 @@ unfolding header_text
 length-header count bytes = length-u32s (header_numbers count bytes)
 
 -- the records after the header are those that it announces
-pub heads_records : (count bytes : ℕ) (header : List ℕ) → header ≡ header_text count bytes → 0x1000 + count < 2 ^ 32 → bytes < 2 ^ 32 → HeadsRecords header count bytes
+pub heads_records : (count bytes : ℕ) (header : List ℕ) → header ≡ header_text count bytes → first_index + count < 2 ^ 32 → bytes < 2 ^ 32 → HeadsRecords header count bytes
 heads_records count bytes header is few short records rest each counted long =
     let t = header_text count bytes in
     let behind = concat records ++ rest in

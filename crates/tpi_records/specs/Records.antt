@@ -3,7 +3,7 @@ use Rattle.std.specs.Prelude.{map, All, ℕ, zero, suc, ◌≡◌, ◌≢◌, �
 use Rattle.std.specs.List.{concat, AllByRecursion}
 use Rattle.byte_fields.specs.Number.{number_at}
 use Rattle.byte_fields.specs.Check.{first_failing}
-use Rattle.tpi_records.specs.Header.{Header, HasTpiHeader, header_checks}
+use Rattle.tpi_records.specs.Header.{first_index, Header, HasTpiHeader, header_checks}
 use Rattle.tpi_records.specs.declared.fault.TpiFault.{TpiFault}
 use Rattle.tpi_records.specs.declared.fault.TpiFault.TheVariants.{RecordShort, RecordLen, RecordCount}
 
@@ -43,7 +43,7 @@ IsFlaw bytes expected _ = ⊥
 -- the bytes begin with records without a fault, and the record after them has this fault
 abbrev pub HasFlaw : List ℕ → TpiFault → Type 0
 HasFlaw bytes fault =
-    (front : List (List ℕ)) × (rest : List ℕ) × Begins bytes front rest × (0 < length rest) × IsFlaw rest (0x1000 + length front) fault
+    (front : List (List ℕ)) × (rest : List ℕ) × Begins bytes front rest × (0 < length rest) × IsFlaw rest (first_index + length front) fault
 
 -- the bytes are records without a fault, but their number is not the one that the header says
 abbrev pub IsMiscounted : List ℕ → ℕ → TpiFault → Type 0

@@ -3,12 +3,13 @@ use Rattle.std.specs.Prelude.{ℕ, ◌≡◌, ◌+◌, List, [], ◌∷◌, ◌+
 use Rattle.std.specs.List.{concat, AllByRecursion}
 use Rattle.byte_fields.specs.Number.{u32s}
 use Rattle.tpi_records.specs.Records.{IsRecord, HasRecords}
+use Rattle.tpi_records.specs.Header.{first_index}
 
 -- the numbers of the header: the version, the header's length, the first type index, the type index after the last record, the length of the records in bytes;
 -- two stream numbers of 0xFFFF, for no hash stream and no auxiliary hash stream; the length of a hash value, the number of hash buckets; and an offset and a length of 0 for each of three absent tables
 abbrev pub header_numbers : ℕ → ℕ → List ℕ
 header_numbers count bytes =
-    20040203 ∷ 56 ∷ 0x1000 ∷ (0x1000 + count) ∷ bytes ∷ 0xFFFFFFFF ∷ 4 ∷ 0x3FFFF ∷ 0 ∷ 0 ∷ 0 ∷ 0 ∷ 0 ∷ 0 ∷ []
+    20040203 ∷ 56 ∷ first_index ∷ (first_index + count) ∷ bytes ∷ 0xFFFFFFFF ∷ 4 ∷ 0x3FFFF ∷ 0 ∷ 0 ∷ 0 ∷ 0 ∷ 0 ∷ 0 ∷ []
 
 -- the header of a stream with `count` records, which have `bytes` bytes together
 unfoldable pub header_text : ℕ → ℕ → List ℕ

@@ -14,7 +14,7 @@ use Rattle.cv_leaves.specs.Place.{IsChecked}
 use Rattle.text_set.specs.TextSet.{Holds}
 use Rattle.cv_leaves.specs.References.{references, blanked, filled}
 use Rattle.type_trees.specs.Tree.{Tree, Branches, tree, no_branch, simple, branch, nothing, Stands, AreBranches, IsType, IsRanked, NamesLower}
-use Rattle.type_trees.specs.Named.{graph_of}
+use Rattle.type_trees.specs.Graph.{graph_of}
 use Rattle.type_trees.specs.Canon.{weight}
 use Rattle.byte_fields.specs.Bytes.{AreBytes}
 use Rattle.type_trees.specs.Table.{IsTable, IsUnion, AreNumbered, EachNamed, renumber, renumbered}
@@ -24,11 +24,12 @@ use Rattle.type_trees.specs.declared.fault.JoinFault.TheVariants as JoinFault
 use Rattle.text_set.proofs.TextSetLaws.{four_each}
 use Rattle.cv_leaves.proofs.FilledLaws.{filled_checked, filled_framed, filled_len, filled_read}
 use Rattle.type_trees.proofs.TreeLaws.{one, at_position, tree_there}
-use Rattle.type_trees.proofs.NamedLaws.{many_nodes, concat_push}
+use Rattle.type_trees.proofs.GraphLaws.{many_nodes, concat_push}
 use Rattle.type_trees.proofs.OrderLaws.{NamesDone, next_in_order, order_weighs}
 use Rattle.type_trees.proofs.TableLaws.{stands_still, renumbered_stands, renumber-each, renumber-none, renumber-simple, renumber-named}
 use Rattle.type_trees.proofs.PushLaws.{table_grows}
 use Rattle.type_trees.proofs.NextLaws.{in_range, trees_of_table, table_weight, apart_of_table}
+use Rattle.tpi_records.specs.Header.{first_index}
 
 -- ---- A renumbered record
 
@@ -52,18 +53,18 @@ renumbered_checked f r checked = filled_checked r (renumber f (references r)) ch
 
 -- n is simple, or f gives it a position of the table
 abbrev pub HasPosition : (List (List ℕ)) → (ℕ → ℕ) → ℕ → Type 0
-HasPosition after f n = (n < 0x1000) ⊎ (f (n - 0x1000) < length after)
+HasPosition after f n = (n < first_index) ⊎ (f (n - first_index) < length after)
 
 numbers_small : (after : List (List ℕ)) (f : ℕ → ℕ) (ns : List ℕ) → length after ≤ 4294963200 → AllByRecursion (HasPosition after f) ns → AllByRecursion (λ n. n < 2 ^ 32) (renumber f ns)
 numbers_small after f [] few h = rw (renumber-none f) tt
-numbers_small after f (n ∷ ns) few h = elim (cases_lt n 0x1000) [
+numbers_small after f (n ∷ ns) few h = elim (cases_lt n first_index) [
   | inl small ↦ rw (renumber-simple f n ns small) (omega (arith, small), numbers_small after f ns few h.1)
   | inr large ↦ rw (renumber-named f n ns large) (elim h.0 [ inl small ↦ absurd (omega (arith, small, large)) | inr low ↦ omega (arith, low, few) ], numbers_small after f ns few h.1)
 ]
 
-numbers_in : (after : List (List ℕ)) (f : ℕ → ℕ) (ns : List ℕ) → AllByRecursion (HasPosition after f) ns → AllByRecursion (λ n. (n < 0x1000) ⊎ (n - 0x1000 < length after)) (renumber f ns)
+numbers_in : (after : List (List ℕ)) (f : ℕ → ℕ) (ns : List ℕ) → AllByRecursion (HasPosition after f) ns → AllByRecursion (λ n. (n < first_index) ⊎ (n - first_index < length after)) (renumber f ns)
 numbers_in after f [] h = rw (renumber-none f) tt
-numbers_in after f (n ∷ ns) h = elim (cases_lt n 0x1000) [
+numbers_in after f (n ∷ ns) h = elim (cases_lt n first_index) [
   | inl small ↦ rw (renumber-simple f n ns small) (inl small, numbers_in after f ns h.1)
   | inr large ↦ rw (renumber-named f n ns large) (inr (elim h.0 [ inl small ↦ absurd (omega (arith, small, large)) | inr low ↦ omega (arith, low) ]), numbers_in after f ns h.1)
 ]
@@ -93,8 +94,8 @@ mutual
       (h.0, h.1, h.2, h.3, h.4, branches_within r s i h.1 bs ranked tail.1 h.5)
   branches_within r s i ns (branch t bs) ranked lower h =
       let tail = subst (AllByRecursion (NamesLower r (λ k. k) i)) h.2 lower in
-      let below : h.0 - 0x1000 < length r = elim tail.0 [ inl small ↦ absurd (omega (arith, small, h.3)) | inr low ↦ low.0 ] in
-      (h.0, h.1, h.2, h.3, stands_within r s (h.0 - 0x1000) t ranked below h.4, branches_within r s i h.1 bs ranked tail.1 h.5)
+      let below : h.0 - first_index < length r = elim tail.0 [ inl small ↦ absurd (omega (arith, small, h.3)) | inr low ↦ low.0 ] in
+      (h.0, h.1, h.2, h.3, stands_within r s (h.0 - first_index) t ranked below h.4, branches_within r s i h.1 bs ranked tail.1 h.5)
 
 -- the first records stay when a text is added after them
 front_more : (before after : List (List ℕ)) (y : List ℕ) → (length before ≤ length after) × (take (length before) after ≡ before) → (length before ≤ length (after ++ y ∷ [])) × (take (length before) (after ++ y ∷ []) ≡ before)
@@ -114,7 +115,7 @@ front_stands before after t front (i, stands) =
 
 done_placed : (records before after : List (List ℕ)) (f : ℕ → ℕ) (done : ℕ → Type 0) (ns : List ℕ) → Adds records before after f done → NamesDone done ns → AllByRecursion (HasPosition after f) ns
 done_placed records before after f done [] adds names = tt
-done_placed records before after f done (n ∷ ns) adds names = (elim names.0 [ inl small ↦ inl small | inr there ↦ inr (adds.inside (n - 0x1000) there) ], done_placed records before after f done ns adds names.1)
+done_placed records before after f done (n ∷ ns) adds names = (elim names.0 [ inl small ↦ inl small | inr there ↦ inr (adds.inside (n - first_index) there) ], done_placed records before after f done ns adds names.1)
 
 done_stands : (records before after grown : List (List ℕ)) (f : ℕ → ℕ) (done : ℕ → Type 0) (ns : List ℕ) → Adds records before after f done → length after ≤ 4294963200
     → ((k : ℕ) (t : Tree) → Stands after k t → Stands grown k t) → NamesDone done ns → EachNamed records (λ k u. (f k < 4294963200) × Stands grown (f k) u) ns
@@ -122,7 +123,7 @@ done_stands records before after grown f done [] adds few still names = tt
 done_stands records before after grown f done (n ∷ ns) adds few still names = (
   λ large u stands. elim names.0 [
     | inl small ↦ absurd (omega (arith, small, large))
-    | inr there ↦ (omega (arith, adds.inside (n - 0x1000) there, few), still (f (n - 0x1000)) u (adds.stand (n - 0x1000) u there stands))
+    | inr there ↦ (omega (arith, adds.inside (n - first_index) there, few), still (f (n - first_index)) u (adds.stand (n - first_index) u there stands))
   ],
   done_stands records before after grown f done ns adds few still names.1,
 )
@@ -286,7 +287,7 @@ adding_numbered records left others before after positions p a split =
 
     numbered : (ns : List ℕ) → NamesDone (Contains a.done) ns → AreNumbered positions ns
     numbered [] names = tt
-    numbered (n ∷ ns) names = (elim names.0 [ inl low ↦ inl low | inr on ↦ inr (inside (n - 0x1000) on, omega (arith, a.adds.inside (n - 0x1000) on, small)) ], numbered ns names.1)
+    numbered (n ∷ ns) names = (elim names.0 [ inl low ↦ inl low | inr on ↦ inr (inside (n - first_index) on, omega (arith, a.adds.inside (n - first_index) on, small)) ], numbered ns names.1)
 
 -- one more record is added
 pub adding_more : (records : List (List ℕ)) (left others : List ℕ) (before after grown : List (List ℕ)) (positions : List ℕ) (p last : ℕ) → AreTypes records → IsAdding records left before after positions → left ≡ p ∷ others

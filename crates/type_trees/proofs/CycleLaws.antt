@@ -5,14 +5,15 @@ use Rattle.std.proofs.lemmas.List.Elements.{Contains-get_or}
 use Rattle.topological_order.specs.Cycle.{IsCycleSet}
 use Rattle.topological_order.proofs.OrderLaws.{names_inside, ranked_uncaught}
 use Rattle.topological_order.proofs.CycleLaws as graph
-use Rattle.type_trees.specs.Named.{graph_of}
+use Rattle.type_trees.specs.Graph.{graph_of}
 use Rattle.type_trees.specs.Laws.{OneCycle, CyclesHaveNoRank}
 use Rattle.type_trees.specs.Check.{AreTypes, HasTypeFault, IsCycleFault}
 use Rattle.type_trees.specs.declared.fault.RecordFault.TheVariants as inner
 use Rattle.type_trees.specs.declared.fault.TypeFault.{TypeFault}
 use Rattle.type_trees.specs.declared.fault.TypeFault.TheVariants as fault
 use Rattle.type_trees.proofs.CheckLaws.{not_refused}
-use Rattle.type_trees.proofs.NamedLaws.{many_nodes, ranked_graph}
+use Rattle.type_trees.proofs.GraphLaws.{many_nodes, ranked_graph}
+use Rattle.tpi_records.specs.Header.{first_index}
 
 -- the nodes of a cycle are positions of records
 pub cycle_inside : (records : List (List ℕ)) (nodes : List ℕ) → IsCycleSet (graph_of records) nodes → length records ≤ 2 ^ 30 → All (λ p. p < 2 ^ 30) nodes
@@ -23,7 +24,7 @@ cycle_inside records nodes set few k d lt =
 -- there is one list of the records that lead into a cycle
 pub one_cycle : OneCycle
 one_cycle records indices others a b =
-    a.2 ∙ ap (λ (ps : List ℕ). map (λ p. 0x1000 + p) ps) (graph.one_cycle_set (graph_of records) a.0 b.0 a.1 b.1) ∙ sym b.2
+    a.2 ∙ ap (λ (ps : List ℕ). map (λ p. first_index + p) ps) (graph.one_cycle_set (graph_of records) a.0 b.0 a.1 b.1) ∙ sym b.2
 
 -- if some records lead into a cycle, the records have no rank
 pub cycles_have_no_rank : CyclesHaveNoRank

@@ -24,13 +24,14 @@ use Rattle.type_trees.specs.Canon.{text, texts}
 use Rattle.type_trees.specs.Table.{IsTable, AreNumbered, renumbered}
 use Rattle.type_trees.specs.Rows.{row, AreRows, LevelOf}
 use Rattle.type_trees.specs.Finish.{Listed, AtLevel, Numbered, IsCanonOf}
-use Rattle.type_trees.proofs.NamedLaws.{concat_push}
+use Rattle.type_trees.proofs.GraphLaws.{concat_push}
 use Rattle.type_trees.proofs.AddLaws.{renumbered_long}
 use Rattle.type_trees.proofs.NextLaws.{in_range}
 use Rattle.type_trees.proofs.PushLaws.{nothing_listed}
 use Rattle.type_trees.proofs.RowLaws.{rows_continue, numbers_continue}
 use Rattle.type_trees.proofs.WeightLaws.{weight_of_texts}
 use Rattle.type_trees.proofs.ReadLaws.{weight-many}
+use Rattle.tpi_records.specs.Header.{first_index}
 
 -- a table of fewer than 2^32 bytes has few records
 pub table_small : (r : List (List ℕ)) → IsTable r → length (concat r) < 2 ^ 32 → length r < 2 ^ 30
@@ -134,7 +135,7 @@ rows_few r rows position short small inside =
 pub names_numbered : (r : List (List ℕ)) (numbers : List ℕ) (i : ℕ) (ns : List ℕ) → length numbers ≡ length r → ((k : ℕ) → get_or numbers k 0 < 2 ^ 31) → AllByRecursion (NamesLower r (λ k. k) i) ns → AreNumbered numbers ns
 names_numbered r numbers i [] many bounded lower = tt
 names_numbered r numbers i (n ∷ ns) many bounded lower =
-    (elim lower.0 [ inl small ↦ inl small | inr low ↦ inr (omega (arith, low.0, many), bounded (n - 0x1000)) ], names_numbered r numbers i ns many bounded lower.1)
+    (elim lower.0 [ inl small ↦ inl small | inr low ↦ inr (omega (arith, low.0, many), bounded (n - first_index)) ], names_numbered r numbers i ns many bounded lower.1)
 
 pub row_is : (r : List (List ℕ)) (f : ℕ → ℕ) (i : ℕ) → row r f i ≡ renumbered f (get_or r i [])
 unfolding row

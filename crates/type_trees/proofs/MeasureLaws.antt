@@ -8,19 +8,20 @@ use Rattle.topological_order.specs.Order.{IsOrder}
 use Rattle.topological_order.proofs.WalkLaws.{none_in}
 use Rattle.cv_leaves.specs.References.{references}
 use Rattle.type_trees.specs.Tree.{Tree, tree, Stands}
-use Rattle.type_trees.specs.Named.{graph_of}
+use Rattle.type_trees.specs.Graph.{graph_of}
 use Rattle.type_trees.specs.Check.{AreTypes, NamesThere}
 use Rattle.type_trees.specs.Depth.{depth, depth_above, AreDepths, AreMeasured, AreBelow, HasLevels}
 use Rattle.type_trees.proofs.TreeLaws.{tree_there}
-use Rattle.type_trees.proofs.NamedLaws.{many_nodes}
+use Rattle.type_trees.proofs.GraphLaws.{many_nodes}
 use Rattle.type_trees.proofs.OrderLaws.{NamesDone, order_short, next_in_order}
 use Rattle.type_trees.proofs.DepthLaws.{Gives, depth_of_record}
+use Rattle.tpi_records.specs.Header.{first_index}
 
 -- the depths give the depth of each record that is done
 gives_among : (records : List (List ℕ)) (done depths : List ℕ) (levels : ℕ) (ns : List ℕ) → AreMeasured records done depths levels → NamesDone (Contains done) ns → Gives records (λ k. get_or depths k 0) ns
 gives_among records done depths levels [] m among = tt
 gives_among records done depths levels (n ∷ ns) m among =
-    ((λ large u stands. elim among.0 [ inl small ↦ absurd (omega (arith, small, large)) | inr there ↦ m.measured (n - 0x1000) u there stands ]), gives_among records done depths levels ns m among.1)
+    ((λ large u stands. elim among.0 [ inl small ↦ absurd (omega (arith, small, large)) | inr there ↦ m.measured (n - first_index) u there stands ]), gives_among records done depths levels ns m among.1)
 
 -- the depths stay right when one more record is measured
 measured_more : (records : List (List ℕ)) (done depths : List ℕ) (levels p d : ℕ) → AreMeasured records done depths levels → p < length depths → NamesDone (Contains done) (references (get_or records p [])) → ((t : Tree) × Stands records p t)
@@ -91,8 +92,8 @@ measuring_names records order left others depths levels p o m split = below (ref
       elim among.0 [
         | inl small ↦ omega (arith, small)
         | inr there ↦
-            let on : Contains order (n - 0x1000) = subst (λ (xs : List ℕ). Contains xs (n - 0x1000)) (sym m.parts) (Contains-append_left m.done left (n - 0x1000) there) in
-            omega (arith, All-contains (λ i. i < length (graph_of records)) order (n - 0x1000) o.inside on, m.many, many_nodes records)
+            let on : Contains order (n - first_index) = subst (λ (xs : List ℕ). Contains xs (n - first_index)) (sym m.parts) (Contains-append_left m.done left (n - first_index) there) in
+            omega (arith, All-contains (λ i. i < length (graph_of records)) order (n - first_index) o.inside on, m.many, many_nodes records)
       ],
       below ns among.1,
     )

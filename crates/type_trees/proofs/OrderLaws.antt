@@ -15,10 +15,11 @@ use Rattle.topological_order.specs.Graph.{Names}
 use Rattle.topological_order.specs.Order.{IsOrder}
 use Rattle.cv_leaves.specs.References.{references}
 use Rattle.type_trees.specs.Tree.{IsRanked}
-use Rattle.type_trees.specs.Named.{graph_of}
+use Rattle.type_trees.specs.Graph.{graph_of}
 use Rattle.type_trees.specs.Order.{positions_left, EndsAt}
-use Rattle.type_trees.proofs.NamedLaws.{named_at, many_nodes, each_named, ranked_graph}
+use Rattle.type_trees.proofs.GraphLaws.{named_at, many_nodes, each_named, ranked_graph}
 use Rattle.type_trees.proofs.WeightLaws.{sum_grows}
+use Rattle.tpi_records.specs.Header.{first_index}
 
 -- ---- What is left
 
@@ -77,7 +78,7 @@ order_short records order o =
 
 -- each of these references is simple, or what it names is done
 abbrev pub NamesDone : (ℕ → Type 0) → List ℕ → Type 0
-NamesDone done ns = AllByRecursion (λ n. (n < 0x1000) ⊎ done (n - 0x1000)) ns
+NamesDone done ns = AllByRecursion (λ n. (n < first_index) ⊎ done (n - first_index)) ns
 
 -- the next in the order is the position of a record, and what that record names comes before it
 pub next_in_order : (records : List (List ℕ)) (done left others : List ℕ) (order : List ℕ) (p : ℕ) → IsOrder (graph_of records) order → order ≡ done ++ left → left ≡ p ∷ others

@@ -14,6 +14,7 @@ use Rattle.byte_fields.specs.Bytes.{AreBytes}
 use Rattle.type_trees.specs.Table.{IsTable}
 use Rattle.type_trees.specs.Push.{TableGrows, NothingListed}
 use Rattle.type_trees.proofs.WeightLaws.{weight-none}
+use Rattle.tpi_records.specs.Header.{first_index}
 
 -- what holds of each old record and of the new one holds of each record
 each_pushed : (P : List ℕ → Type 0) (r : List (List ℕ)) (y : List ℕ) → ((i : ℕ) → i < length r → P (get_or r i [])) → P y → (i : ℕ) → i < length (r ++ y ∷ []) → P (get_or (r ++ y ∷ []) i [])
@@ -31,7 +32,7 @@ still_lower : (r s : List (List ℕ)) (i : ℕ) (ns : List ℕ) → length r ≤
 still_lower r s i [] le h = tt
 still_lower r s i (n ∷ ns) le h = (elim h.0 [ inl small ↦ inl small | inr low ↦ let a = low.0 in inr (omega arith, low.1) ], still_lower r s i ns le h.1)
 
-new_lower : (r s : List (List ℕ)) (ns : List ℕ) → length r ≤ length s → AllByRecursion (λ n. (n < 0x1000) ⊎ (n - 0x1000 < length r)) ns → AllByRecursion (NamesLower s (λ j. j) (length r)) ns
+new_lower : (r s : List (List ℕ)) (ns : List ℕ) → length r ≤ length s → AllByRecursion (λ n. (n < first_index) ⊎ (n - first_index < length r)) ns → AllByRecursion (NamesLower s (λ j. j) (length r)) ns
 new_lower r s [] le h = tt
 new_lower r s (n ∷ ns) le h = (elim h.0 [ inl small ↦ inl small | inr low ↦ inr (omega arith, low) ], new_lower r s ns le h.1)
 

@@ -14,6 +14,7 @@ use Rattle.cv_leaves.proofs.FilledLaws.{filled_checked, filled_framed}
 use Rattle.type_trees.proofs.SameLaws.{get_or-position_in, Contains-position_in}
 use Rattle.type_trees.proofs.TextLaws.{blank-text, refs-text}
 use Rattle.type_trees.proofs.TreeLaws.{one}
+use Rattle.tpi_records.specs.Header.{first_index}
 
 -- the blank of a closed tree has its framing
 blank_framed : (t : Tree) → IsClosed t → IsRecord (blank_of t)
@@ -70,9 +71,9 @@ mutual
   branches_at l c i lt (simple n bs) lower closed = (n, numbers l bs, refl, closed.0, refl, branches_at l c i lt bs lower closed.1)
   branches_at l c i lt (branch t bs) lower closed =
       let less = lower.0 in
-      let e : 0x1000 + position_in l t - 0x1000 ≡ position_in l t = omega arith in
+      let e : first_index + position_in l t - first_index ≡ position_in l t = omega arith in
       let there : Stands (texts l) (position_in l t) t = stands_at l c (position_in l t) (omega arith) t (get_or-position_in l t (omega arith)) in
-      (0x1000 + position_in l t, numbers l bs, refl, omega arith, subst (λ (j : ℕ). Stands (texts l) j t) (sym e) there, branches_at l c i lt bs lower.1 closed.1)
+      (first_index + position_in l t, numbers l bs, refl, omega arith, subst (λ (j : ℕ). Stands (texts l) j t) (sym e) there, branches_at l c i lt bs lower.1 closed.1)
 
 in_range : (r : List (List ℕ)) (i : ℕ) (u : Tree) → Stands r i u → i < length r
 in_range r i (tree b bs) h = h.0

@@ -25,6 +25,7 @@ use Rattle.type_trees.proofs.LevelLaws.{text-more}
 use Rattle.type_trees.proofs.CanonLaws.{position_in-below}
 use Rattle.type_trees.proofs.TableLaws.{table_is_set, branches_stand, renumbered_is_text}
 use Rattle.type_trees.proofs.NextLaws.{trees_of_table, next_level, branches_less_deep, all_held}
+use Rattle.tpi_records.specs.Header.{first_index}
 
 -- the trees that a record names are less deep
 named_less_deep : (r : List (List ℕ)) (d : ℕ) (ns : List ℕ) (bs : Branches) → AreBranches r ns bs → depth_over bs ≤ d → EachNamed r (λ k u. depth u < d) ns
@@ -36,7 +37,7 @@ named_less_deep r d ns (simple m bs) h le =
 named_less_deep r d ns (branch t bs) h le =
     let head : depth t < d = omega arith in
     subst (EachNamed r (λ k u. depth u < d)) (sym h.2)
-    (λ big u s. subst (λ (x : Tree). depth x < d) (one r (h.0 - 0x1000) t u h.4 s) head, named_less_deep r d h.1 bs h.5 (omega arith))
+    (λ big u s. subst (λ (x : Tree). depth x < d) (one r (h.0 - first_index) t u h.4 s) head, named_less_deep r d h.1 bs h.5 (omega arith))
 
 named_less : (r : List (List ℕ)) (i : ℕ) (t : Tree) → Stands r i t → EachNamed r (λ k u. depth u < depth t) (references (get_or r i []))
 unfolding depth
@@ -44,7 +45,7 @@ named_less r i (tree b bs) h = named_less_deep r (depth_over bs) (references (ge
 
 numbered : (r : List (List ℕ)) (d : ℕ) (l : List Tree) (f : ℕ → ℕ) (ns : List ℕ) → Numbers r d l f → EachNamed r (λ k u. depth u < d) ns → EachNamed r (λ k u. f k ≡ position_in l u) ns
 numbered r d l f [] numbers each = tt
-numbered r d l f (n ∷ ns) numbers each = (λ big u s. numbers (n - 0x1000) u s (each.0 big u s), numbered r d l f ns numbers each.1)
+numbered r d l f (n ∷ ns) numbers each = (λ big u s. numbers (n - first_index) u s (each.0 big u s), numbered r d l f ns numbers each.1)
 
 -- the row of a record is the text of its tree
 pub row-text : (r : List (List ℕ)) (d : ℕ) (l : List Tree) (f : ℕ → ℕ) (i : ℕ) (t : Tree) → IsTable r → i < length r → Numbers r d l f → Stands r i t → depth t ≡ d → row r f i ≡ text l t

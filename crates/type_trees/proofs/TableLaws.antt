@@ -11,6 +11,7 @@ use Rattle.byte_fields.specs.Bytes.{AreBytes}
 use Rattle.type_trees.specs.Table.{IsTable, renumber_one, renumber, EachNamed, TableIsSet, BranchesStand, RenumberedStands, RenumberedIsText, StandsStill}
 use Rattle.cv_leaves.specs.Checks.{places_of}
 use Rattle.cv_leaves.proofs.FilledLaws.{reference_each, filled_read, filled_blank, fill_blanked, own_fill}
+use Rattle.tpi_records.specs.Header.{first_index}
 
 -- a tree stays at its position when more records are added after r
 mutual
@@ -24,13 +25,13 @@ mutual
   branches_still : (r s : List (List ℕ)) (ns : List ℕ) (bs : Branches) → AreBranches r ns bs → AreBranches (r ++ s) ns bs
   branches_still r s ns no_branch h = h
   branches_still r s ns (simple m bs) h = (h.0, h.1, h.2, h.3, h.4, branches_still r s h.1 bs h.5)
-  branches_still r s ns (branch t bs) h = (h.0, h.1, h.2, h.3, stands_still r s (h.0 - 0x1000) t h.4, branches_still r s h.1 bs h.5)
+  branches_still r s ns (branch t bs) h = (h.0, h.1, h.2, h.3, stands_still r s (h.0 - first_index) t h.4, branches_still r s h.1 bs h.5)
 
 -- the branches of a record that are trees are in r
 named_stand : (r : List (List ℕ)) (ns : List ℕ) (bs : Branches) → AreBranches r ns bs → AllByRecursion (IsType r) (trees_in bs)
 named_stand r ns no_branch h = tt
 named_stand r ns (simple m bs) h = named_stand r h.1 bs h.5
-named_stand r ns (branch t bs) h = ((h.0 - 0x1000, h.4), named_stand r h.1 bs h.5)
+named_stand r ns (branch t bs) h = ((h.0 - first_index, h.4), named_stand r h.1 bs h.5)
 
 pub branches_stand : BranchesStand
 branches_stand r i (tree b bs) h = named_stand r (references (get_or r i [])) bs h.2
@@ -49,13 +50,13 @@ pub renumber-none : (f : ℕ → ℕ) → renumber f [] ≡ []
 unfolding renumber
 renumber-none f = refl
 
-pub renumber-simple : (f : ℕ → ℕ) (n : ℕ) (ns : List ℕ) → n < 0x1000 → renumber f (n ∷ ns) ≡ n ∷ renumber f ns
+pub renumber-simple : (f : ℕ → ℕ) (n : ℕ) (ns : List ℕ) → n < first_index → renumber f (n ∷ ns) ≡ n ∷ renumber f ns
 unfolding renumber renumber_one
-renumber-simple f n ns lt = let e = lt-ltb n 0x1000 lt in rw e refl
+renumber-simple f n ns lt = let e = lt-ltb n first_index lt in rw e refl
 
-pub renumber-named : (f : ℕ → ℕ) (n : ℕ) (ns : List ℕ) → 0x1000 ≤ n → renumber f (n ∷ ns) ≡ (0x1000 + f (n - 0x1000)) ∷ renumber f ns
+pub renumber-named : (f : ℕ → ℕ) (n : ℕ) (ns : List ℕ) → first_index ≤ n → renumber f (n ∷ ns) ≡ (first_index + f (n - first_index)) ∷ renumber f ns
 unfolding renumber renumber_one
-renumber-named f n ns le = let e = le-ltb n 0x1000 le in rw e refl
+renumber-named f n ns le = let e = le-ltb n first_index le in rw e refl
 
 -- the renumbered references are the numbers of the branches in l
 renumber-numbers : (r : List (List ℕ)) (l : List Tree) (f : ℕ → ℕ) (ns : List ℕ) (bs : Branches) → EachNamed r (λ k u. f k ≡ position_in l u) ns → AreBranches r ns bs → renumber f ns ≡ numbers l bs
@@ -67,8 +68,8 @@ renumber-numbers r l f ns (simple m bs) each h =
 renumber-numbers r l f ns (branch t bs) each h =
     let tail = subst (EachNamed r (λ k u. f k ≡ position_in l u)) h.2 each in
     let rest : renumber f h.1 ≡ numbers l bs = renumber-numbers r l f h.1 bs tail.1 h.5 in
-    let at : f (h.0 - 0x1000) ≡ position_in l t = tail.0 h.3 t h.4 in
-    ap (renumber f) h.2 ∙ renumber-named f h.0 h.1 h.3 ∙ ap (λ (k : ℕ). (0x1000 + k) ∷ renumber f h.1) at ∙ ap (λ (x : List ℕ). (0x1000 + position_in l t) ∷ x) rest
+    let at : f (h.0 - first_index) ≡ position_in l t = tail.0 h.3 t h.4 in
+    ap (renumber f) h.2 ∙ renumber-named f h.0 h.1 h.3 ∙ ap (λ (k : ℕ). (first_index + k) ∷ renumber f h.1) at ∙ ap (λ (x : List ℕ). (first_index + position_in l t) ∷ x) rest
 
 pub renumbered_is_text : RenumberedIsText
 unfolding text
@@ -90,9 +91,9 @@ renumber-branches r s f ns (simple m bs) each h =
     (h.0, renumber f h.1, ap (renumber f) h.2 ∙ renumber-simple f h.0 h.1 h.3, h.3, h.4, renumber-branches r s f h.1 bs tail.1 h.5)
 renumber-branches r s f ns (branch t bs) each h =
     let tail = subst (EachNamed r (λ k u. (f k < 4294963200) × Stands s (f k) u)) h.2 each in
-    let e : 0x1000 + f (h.0 - 0x1000) - 0x1000 ≡ f (h.0 - 0x1000) = omega arith in
+    let e : first_index + f (h.0 - first_index) - first_index ≡ f (h.0 - first_index) = omega arith in
     let there = tail.0 h.3 t h.4 in
-    (0x1000 + f (h.0 - 0x1000), renumber f h.1, ap (renumber f) h.2 ∙ renumber-named f h.0 h.1 h.3, omega arith, subst (λ (k : ℕ). Stands s k t) (sym e) there.1, renumber-branches r s f h.1 bs tail.1 h.5)
+    (first_index + f (h.0 - first_index), renumber f h.1, ap (renumber f) h.2 ∙ renumber-named f h.0 h.1 h.3, omega arith, subst (λ (k : ℕ). Stands s k t) (sym e) there.1, renumber-branches r s f h.1 bs tail.1 h.5)
 
 renumber-small : (r s : List (List ℕ)) (f : ℕ → ℕ) (ns : List ℕ) (bs : Branches) → EachNamed r (λ k u. (f k < 4294963200) × Stands s (f k) u) ns → AreBranches r ns bs → AllByRecursion (λ n. n < 2 ^ 32) (renumber f ns)
 renumber-small r s f ns no_branch each h = subst (AllByRecursion (λ n. n < 2 ^ 32)) (sym (ap (renumber f) h ∙ renumber-none f)) tt
@@ -140,7 +141,7 @@ mutual
       h.2 ∙ ap (λ (n : ℕ). n ∷ h.1) first ∙ ap (λ (z : List ℕ). k.0 ∷ z) rest ∙ sym k.2
   same_refs r ns ms (branch t bs) table h k =
       let rest : h.1 ≡ k.1 = same_refs r h.1 k.1 bs table h.5 k.5 in
-      let at : h.0 - 0x1000 ≡ k.0 - 0x1000 = table_is_set r (h.0 - 0x1000) (k.0 - 0x1000) t table h.4 k.4 in
+      let at : h.0 - first_index ≡ k.0 - first_index = table_is_set r (h.0 - first_index) (k.0 - first_index) t table h.4 k.4 in
       let a = h.3 in
       let c = k.3 in
       let first : h.0 ≡ k.0 = omega arith in

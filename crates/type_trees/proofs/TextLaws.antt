@@ -8,6 +8,7 @@ use Rattle.type_trees.specs.Canon.{HoldsBranches}
 use Rattle.type_trees.specs.Laws.{TextsDiffer}
 use Rattle.cv_leaves.proofs.FilledLaws.{filled_blank, filled_read}
 use Rattle.type_trees.proofs.SameLaws.{get_or-position_in, position_in-lt-length}
+use Rattle.tpi_records.specs.Header.{first_index}
 
 pub length-numbers : (l : List Tree) (bs : Branches) → length (numbers l bs) ≡ count bs
 length-numbers l no_branch = refl
@@ -37,13 +38,13 @@ numbers-same l (simple n bs) (simple m cs) ub uc hb hc e =
     let y : bs ≡ cs = numbers-same l bs cs ub.1 uc.1 hb hc tail in
     rw (x, y) refl
 numbers-same l (simple n bs) (branch u cs) ub uc hb hc e =
-    let x : n ≡ 0x1000 + position_in l u = cc in
+    let x : n ≡ first_index + position_in l u = cc in
     absurd (omega (arith, ub.0))
 numbers-same l (branch t bs) (simple m cs) ub uc hb hc e =
-    let x : 0x1000 + position_in l t ≡ m = cc in
+    let x : first_index + position_in l t ≡ m = cc in
     absurd (omega (arith, uc.0))
 numbers-same l (branch t bs) (branch u cs) ub uc hb hc e =
-    let x : 0x1000 + position_in l t ≡ 0x1000 + position_in l u = cc in
+    let x : first_index + position_in l t ≡ first_index + position_in l u = cc in
     let tail : numbers l bs ≡ numbers l cs = cc in
     let y : bs ≡ cs = numbers-same l bs cs ub.1 uc.1 hb.1 hc.1 tail in
     let z : t ≡ u = same_position l t u hb.0 hc.0 (omega arith) in

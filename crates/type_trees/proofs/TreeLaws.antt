@@ -11,6 +11,7 @@ use Rattle.type_trees.specs.Table.{AreGood, StandingIsClosed}
 use Rattle.type_trees.specs.Check.{AreTypes}
 use Rattle.cv_leaves.proofs.FilledLaws.{reference_each, blanked_checked, blanked_framed, blanked_places, blanked_stays}
 use Rattle.tpi_records.specs.Records.{IsRecord}
+use Rattle.tpi_records.specs.Header.{first_index}
 
 -- ---- At most one tree
 
@@ -49,7 +50,7 @@ mutual
       let n : h.0 ≡ k.0 = cc in
       let rest : h.1 ≡ k.1 = cc in
       let tail : bs ≡ cs = same records h.1 bs cs h.5 (subst (λ (x : List ℕ). AreBranches records x cs) (sym rest) k.5) in
-      let head : t ≡ u = one records (h.0 - 0x1000) t u h.4 (subst (λ (x : ℕ). Stands records (x - 0x1000) u) (sym n) k.4) in
+      let head : t ≡ u = one records (h.0 - first_index) t u h.4 (subst (λ (x : ℕ). Stands records (x - first_index) u) (sym n) k.4) in
       rw (tail, head) refl
 
 -- ---- At least one tree
@@ -60,11 +61,11 @@ grown : (records : List (List ℕ)) (rank : ℕ → ℕ) (i : ℕ) (below : (j :
 grown records rank i below [] h = (no_branch, refl)
 grown records rank i below (n ∷ ns) h =
     let rest = grown records rank i below ns h.1 in
-    elim (cases_lt n 0x1000) [
+    elim (cases_lt n first_index) [
       | inl small ↦ (simple n rest.0, (n, ns, refl, small, refl, rest.1))
       | inr large ↦ elim h.0 [
         | inl small ↦ absurd (omega (arith, small, large))
-        | inr lower ↦ let t = below (n - 0x1000) lower.0 lower.1 in (branch t.0 rest.0, (n, ns, refl, large, t.1, rest.1))
+        | inr lower ↦ let t = below (n - first_index) lower.0 lower.1 in (branch t.0 rest.0, (n, ns, refl, large, t.1, rest.1))
       ]
     ]
 
@@ -107,8 +108,8 @@ mutual
   -- its branches are closed too
   branches_closed : (records : List (List ℕ)) (ns : List ℕ) (bs : Branches) → AreGood records → AreBranches records ns bs → AreClosed bs
   branches_closed records ns no_branch good h = tt
-  branches_closed records ns (simple m bs) good h = (subst (λ (k : ℕ). k < 0x1000) h.4 h.3, branches_closed records h.1 bs good h.5)
-  branches_closed records ns (branch t bs) good h = (standing_is_closed records (h.0 - 0x1000) t good h.4, branches_closed records h.1 bs good h.5)
+  branches_closed records ns (simple m bs) good h = (subst (λ (k : ℕ). k < first_index) h.4 h.3, branches_closed records h.1 bs good h.5)
+  branches_closed records ns (branch t bs) good h = (standing_is_closed records (h.0 - first_index) t good h.4, branches_closed records h.1 bs good h.5)
 
 -- ---- The laws
 
@@ -129,7 +130,7 @@ one_tree_each records types i inside =
 named_stand : (records : List (List ℕ)) (ns : List ℕ) (bs : Branches) → AreBranches records ns bs → AllByRecursion (IsType records) (trees_in bs)
 named_stand records ns no_branch h = tt
 named_stand records ns (simple m bs) h = named_stand records h.1 bs h.5
-named_stand records ns (branch t bs) h = ((h.0 - 0x1000, h.4), named_stand records h.1 bs h.5)
+named_stand records ns (branch t bs) h = ((h.0 - first_index, h.4), named_stand records h.1 bs h.5)
 
 -- the branches of a type are types
 pub branches_are_types : BranchesAreTypes

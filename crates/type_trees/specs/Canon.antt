@@ -8,6 +8,7 @@ use Rattle.std.specs.List.{AllByRecursion, AllPairs, Contains, position_or_len, 
 use Rattle.cv_leaves.specs.References.{filled}
 use Rattle.type_trees.specs.Depth.{depth}
 use Rattle.type_trees.specs.Tree.{Tree, Branches, no_branch, simple, branch, nothing, blank_of, branches_of, trees_in, IsClosed, same_tree}
+use Rattle.tpi_records.specs.Header.{first_index}
 
 -- the position of t in l, or the length of l where t isn't there
 unfoldable pub position_in : List Tree → Tree → ℕ
@@ -17,7 +18,7 @@ position_in l t = position_or_len (same_tree t) l
 abbrev pub numbers : List Tree → Branches → List ℕ
 numbers l no_branch = []
 numbers l (simple n bs) = n ∷ numbers l bs
-numbers l (branch t bs) = (0x1000 + position_in l t) ∷ numbers l bs
+numbers l (branch t bs) = (first_index + position_in l t) ∷ numbers l bs
 
 -- the record of t, where l numbers the trees
 unfoldable pub text : List Tree → Tree → List ℕ

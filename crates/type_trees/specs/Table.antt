@@ -11,6 +11,7 @@ use Rattle.type_trees.specs.Tree.{Tree, Stands, IsType, IsRanked, IsClosed, tree
 use Rattle.type_trees.specs.Depth.{depth}
 use Rattle.type_trees.specs.Canon.{position_in, text, weight, Canonical}
 use Rattle.tpi_records.specs.Records.{IsRecord}
+use Rattle.tpi_records.specs.Header.{first_index}
 
 -- each record has its framing and its places
 pub record AreGood (r : List (List ℕ)) : Type 0 where
@@ -26,7 +27,7 @@ pub record IsTable (r : List (List ℕ)) : Type 0 where
 
 -- the new number for n: a simple number stays, and the number of position k becomes that of position f k
 unfoldable pub renumber_one : (ℕ → ℕ) → ℕ → ℕ
-renumber_one f n = if nat_lt n 0x1000 then n else 0x1000 + f (n - 0x1000)
+renumber_one f n = if nat_lt n first_index then n else first_index + f (n - first_index)
 
 -- the new numbers for all of these
 unfoldable pub renumber : (ℕ → ℕ) → List ℕ → List ℕ
@@ -39,11 +40,11 @@ renumbered f x = filled x (renumber f (references x))
 
 -- each of ns is simple, or it names a position that has a number
 abbrev pub AreNumbered : List ℕ → List ℕ → Type 0
-AreNumbered numbers ns = AllByRecursion (λ n. (n < 0x1000) ⊎ ((n - 0x1000 < length numbers) × (get_or numbers (n - 0x1000) 0 < 2 ^ 31))) ns
+AreNumbered numbers ns = AllByRecursion (λ n. (n < first_index) ⊎ ((n - first_index < length numbers) × (get_or numbers (n - first_index) 0 < 2 ^ 31))) ns
 
 -- P holds of each position that ns name and of each tree at that position
 abbrev pub EachNamed : List (List ℕ) → (ℕ → Tree → Type 0) → List ℕ → Type 0
-EachNamed r P ns = AllByRecursion (λ n. 0x1000 ≤ n → (u : Tree) → Stands r (n - 0x1000) u → P (n - 0x1000) u) ns
+EachNamed r P ns = AllByRecursion (λ n. first_index ≤ n → (u : Tree) → Stands r (n - first_index) u → P (n - first_index) u) ns
 
 -- the trees of l are the types of r and those of s, each once
 pub record IsUnion (l : List Tree) (r s : List (List ℕ)) : Type 0 where

@@ -6,6 +6,7 @@ use Rattle.tpi_records.specs.Records.{IsRecord}
 use Rattle.cv_leaves.specs.Checks.{places_of}
 use Rattle.cv_leaves.specs.References.{references, blanked}
 use Rattle.cv_leaves.specs.Place.{IsChecked}
+use Rattle.tpi_records.specs.Header.{first_index}
 
 mutual
   -- a type: a blank record, and a branch for each of its places
@@ -50,7 +51,7 @@ abbrev mutual
   -- so are the trees among the branches, and the numbers are simple
   pub AreClosed : Branches → Type 0
   AreClosed no_branch = Unit {0}
-  AreClosed (simple n bs) = (n < 0x1000) × AreClosed bs
+  AreClosed (simple n bs) = (n < first_index) × AreClosed bs
   AreClosed (branch t bs) = IsClosed t × AreClosed bs
 
 abbrev mutual
@@ -61,8 +62,8 @@ abbrev mutual
   -- each reference below 0x1000 is a simple branch, and every other one names a position at which its branch is
   pub AreBranches : List (List ℕ) → List ℕ → Branches → Type 0
   AreBranches records ns no_branch = ns ≡ []
-  AreBranches records ns (simple m bs) = (n : ℕ) × (rest : List ℕ) × (ns ≡ n ∷ rest) × (n < 0x1000) × (n ≡ m) × AreBranches records rest bs
-  AreBranches records ns (branch t bs) = (n : ℕ) × (rest : List ℕ) × (ns ≡ n ∷ rest) × (0x1000 ≤ n) × Stands records (n - 0x1000) t × AreBranches records rest bs
+  AreBranches records ns (simple m bs) = (n : ℕ) × (rest : List ℕ) × (ns ≡ n ∷ rest) × (n < first_index) × (n ≡ m) × AreBranches records rest bs
+  AreBranches records ns (branch t bs) = (n : ℕ) × (rest : List ℕ) × (ns ≡ n ∷ rest) × (first_index ≤ n) × Stands records (n - first_index) t × AreBranches records rest bs
 
 -- the tree is one of the types of these records: it is at one of their positions
 abbrev pub IsType : List (List ℕ) → Tree → Type 0
@@ -70,7 +71,7 @@ IsType records t = (i : ℕ) × Stands records i t
 
 -- the reference is simple, or names a record of lower rank than the one at i
 abbrev pub NamesLower : List (List ℕ) → (ℕ → ℕ) → ℕ → ℕ → Type 0
-NamesLower records rank i n = (n < 0x1000) ⊎ ((n - 0x1000 < length records) × (rank (n - 0x1000) < rank i))
+NamesLower records rank i n = (n < first_index) ⊎ ((n - first_index < length records) × (rank (n - first_index) < rank i))
 
 -- each record has a higher rank than those that it names
 abbrev pub IsRanked : List (List ℕ) → (ℕ → ℕ) → Type 0

@@ -4,7 +4,7 @@ ghost use Rattle.std.specs.Prelude.{◌≡◌, ◌<◌, ◌^◌, length, IfOk, O
 ghost use Rattle.std.specs.List.{AllByRecursion};
 ghost use Rattle.tpi_records.specs.Records.{IsRecord};
 ghost use Rattle.cv_leaves.specs.Place.{IsChecked};
-ghost use Rattle.type_trees.specs.Named.{named_by, graph_of};
+ghost use Rattle.type_trees.specs.Graph.{named_by, graph_of};
 
 use cv_leaves::{places, ref_at};
 use std::alloc::{AllocError, Allocator};

@@ -7,7 +7,7 @@ ghost use Rattle.tpi_records.specs.Records.{IsRecord};
 ghost use Rattle.cv_leaves.specs.Place.{IsChecked};
 ghost use Rattle.topological_order.specs.Order.{IsOrder};
 ghost use Rattle.type_trees.specs.Tree.{IsRanked};
-ghost use Rattle.type_trees.specs.Named.{graph_of};
+ghost use Rattle.type_trees.specs.Graph.{graph_of};
 ghost use Rattle.type_trees.specs.Order.{order_list};
 ghost use Rattle.type_trees.specs.Check.{AllNameThere, IsCycleFault};
 
@@ -62,7 +62,7 @@ impl<A: Allocator> Order<A> {
 /// Replaces each position with the type index of the record there.
 fn to_indices(positions: &mut [u32])
     requires { All (λ p. p < 2 ^ 30) positions.old }
-    ensures { positions.new ≡ map (λ p. 0x1000 + p) positions.old }
+    ensures { positions.new ≡ map (λ p. FIRST_INDEX + p) positions.old }
 {
     for position in positions.iter_mut() {
         *position += FIRST_INDEX;

@@ -12,7 +12,7 @@ use tpi_records::FIRST_INDEX;
 /// The new type index for a reference. A simple one stays as it is.
 #[tactic(auto, unfolding(crate::specs::Table::renumber_one))]
 fn number_for(to: u32, numbers: &[u32]) -> u32
-    requires named { (to < 0x1000) ⊎ ((to - 0x1000 < length numbers.now) × (get_or numbers.now (to - 0x1000) 0 < 2 ^ 31)) }
+    requires named { (to < FIRST_INDEX) ⊎ ((to - FIRST_INDEX < length numbers.now) × (get_or numbers.now (to - FIRST_INDEX) 0 < 2 ^ 31)) }
     ensures { result ≡ renumber_one (λ k. get_or numbers.now k 0) to }
 {
     match to.checked_sub(FIRST_INDEX) {

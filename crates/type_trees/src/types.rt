@@ -7,7 +7,7 @@ ghost use Rattle.tpi_records.specs.Records.{IsRecord};
 ghost use Rattle.cv_leaves.specs.Place.{IsChecked};
 ghost use Rattle.topological_order.specs.Order.{IsOrder};
 ghost use Rattle.type_trees.specs.Tree.{Tree, Stands, IsRanked};
-ghost use Rattle.type_trees.specs.Named.{graph_of};
+ghost use Rattle.type_trees.specs.Graph.{graph_of};
 ghost use Rattle.type_trees.specs.Depth.{depth, HasLevels};
 ghost use Rattle.type_trees.specs.Check.{AreTypes, checks_of, IsTypeFault};
 
@@ -35,7 +35,7 @@ pub struct Types<'a, A: Allocator = Global> {
 impl<'a, A: Allocator> Model for Types<'a, A> {
     ghost use Rattle.std.specs.Prelude.{List, ℕ, ◌≡◌, length};
     ghost use Rattle.topological_order.specs.Order.{IsOrder};
-    ghost use Rattle.type_trees.specs.Named.{graph_of};
+    ghost use Rattle.type_trees.specs.Graph.{graph_of};
     ghost use Rattle.type_trees.specs.Check.{AreTypes};
     ghost use Rattle.type_trees.specs.Order.{order_list};
     ghost use Rattle.type_trees.specs.Depth.{AreDepths, HasLevels};

@@ -1,6 +1,6 @@
 use Rattle.std.proofs.Common.{◌+◌, ◌++◌, length, take, arith}
 use Rattle.std.proofs.KnownBytes.{Appends-trans}
-use Rattle.msf_streams.specs.Woven.{woven, AppendsPart}
+use Rattle.msf_streams.specs.Put.{woven, AppendsPart}
 use Rattle.msf_streams.proofs.PutLaws.{at_err, part_second, woven_more, places_left, woven_done}
 use Rattle.msf_streams.proofs.put.put_bytes.Goals as goal
 

@@ -1,6 +1,6 @@
 use Rattle.std.proofs.Common.{◌≡◌, ◌++◌, ◌+◌, List, ℕ, length}
 use Rattle.std.specs.Io.KnownBytes.{Appends}
-use Rattle.msf_streams.specs.Woven.{woven}
+use Rattle.msf_streams.specs.Put.{woven}
 use Rattle.msf_streams.proofs.put.put_bytes.Given as goal
 
 abbrev pub invariant-loop-rest : goal.invariant-loop-rest

@@ -1,5 +1,5 @@
 use Rattle.msf_streams.specs.Image.{joined}
-use Rattle.msf_streams.specs.Woven.{woven, AppendsPart}
+use Rattle.msf_streams.specs.Put.{woven, AppendsPart}
 use Rattle.msf_streams.proofs.PutLaws.{at_err, next_place, none_left, next_fails, next_taken, all_taken}
 use Rattle.msf_streams.proofs.put.put_joined.Goals as goal
 

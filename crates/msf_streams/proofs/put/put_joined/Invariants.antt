@@ -1,6 +1,6 @@
 use Rattle.std.proofs.Common.{◌≡◌, ◌+◌, length, drop}
 use Rattle.msf_streams.specs.Image.{joined}
-use Rattle.msf_streams.specs.Woven.{woven, Halfway}
+use Rattle.msf_streams.specs.Put.{woven, Halfway}
 use Rattle.msf_streams.proofs.put.put_joined.Given as goal
 
 abbrev pub invariant-loop-part : goal.invariant-loop-part

@@ -1,7 +1,7 @@
 use Rattle.std.proofs.Common.{◌*◌, ◌+◌}
 use Rattle.std.specs.Io.KnownBytes.{Appends}
 use Rattle.msf_blocks.specs.FreeMap.{map_block}
-use Rattle.msf_streams.specs.Woven.{maps_of, AppendsPart}
+use Rattle.msf_streams.specs.Put.{maps_of, AppendsPart}
 use Rattle.msf_streams.proofs.PutLaws.{on_err, part_second}
 use Rattle.msf_streams.proofs.put.put_maps.Goals as goal
 

@@ -1,6 +1,6 @@
 use Rattle.std.proofs.Common.{arith}
 use Rattle.msf_blocks.proofs.SizeLaws.{big_enough}
-use Rattle.msf_streams.specs.Woven.{woven, AppendsPart}
+use Rattle.msf_streams.specs.Put.{woven, AppendsPart}
 use Rattle.msf_streams.proofs.PutLaws.{at_err, fails_before, fails_within, run_taken, run_count}
 use Rattle.msf_streams.proofs.put.put_run.Goals as goal
 

@@ -1,7 +1,7 @@
 use Rattle.std.proofs.Common.{length, arith, ap}
 use Rattle.std.proofs.lemmas.List.{length-append}
 use Rattle.msf_streams.specs.Image.{filled, joined}
-use Rattle.msf_streams.specs.Woven.{woven, AppendsPart}
+use Rattle.msf_streams.specs.Put.{woven, AppendsPart}
 use Rattle.msf_streams.proofs.PutLaws.{at_err, filled_after, filled_longer, part_fails, fill_fails, part_taken}
 use Rattle.msf_streams.proofs.put.put_stream.Goals as goal
 

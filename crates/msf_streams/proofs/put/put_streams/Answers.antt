@@ -2,7 +2,7 @@ use Rattle.std.proofs.Common.{Bor, List, ℕ}
 use Rattle.std.specs.List.{flat_map}
 use Rattle.std.proofs.lemmas.List.Folds.{flat_map-map}
 use Rattle.msf_streams.specs.Image.{filled, joined}
-use Rattle.msf_streams.specs.Woven.{woven, AppendsPart}
+use Rattle.msf_streams.specs.Put.{woven, AppendsPart}
 use Rattle.msf_streams.proofs.PutLaws.{at_err, next_place, next_fits, none_left, next_fails, next_taken, all_taken}
 use Rattle.msf_streams.proofs.put.put_streams.Goals as goal
 

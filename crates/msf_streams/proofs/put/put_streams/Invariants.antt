@@ -1,7 +1,7 @@
 use Rattle.std.proofs.Common.{◌≡◌, ◌+◌, Bor, List, ℕ, length, drop}
 use Rattle.std.specs.List.{flat_map}
 use Rattle.msf_streams.specs.Image.{filled, joined}
-use Rattle.msf_streams.specs.Woven.{woven, Halfway}
+use Rattle.msf_streams.specs.Put.{woven, Halfway}
 use Rattle.msf_streams.proofs.put.put_streams.Given as goal
 
 abbrev pub invariant-loop-parts : goal.invariant-loop-parts

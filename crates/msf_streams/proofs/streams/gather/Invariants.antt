@@ -1,6 +1,6 @@
 use Rattle.std.proofs.Common.{◌≡◌, ◌++◌, Some}
 use Rattle.std.specs.List.{concat}
-use Rattle.msf_streams.specs.Stream.{stream_contents}
+use Rattle.msf_streams.specs.Streams.{stream_contents}
 use Rattle.msf_streams.proofs.streams.gather.Given as goal
 
 abbrev pub invariant-loop-piece : goal.invariant-loop-piece

@@ -2,7 +2,7 @@ use Rattle.std.proofs.Common.{◌∷◌, arith}
 use Rattle.std.specs.List.{flat_map}
 use Rattle.std.specs.Io.KnownBytes.{Appends}
 use Rattle.msf_streams.specs.Image.{filled, image, joined_of}
-use Rattle.msf_streams.specs.Woven.{woven, AppendsPart}
+use Rattle.msf_streams.specs.Put.{woven, AppendsPart}
 use Rattle.msf_streams.proofs.PutLaws.{at_err, on_ok, on_err, few_bytes, before_front, first_fails, first_taken, rest_fails, rest_taken}
 use Rattle.msf_streams.proofs.write.put_image.Goals as goal
 

@@ -3,10 +3,11 @@ use Rattle.std.specs.List.{AllByRecursion}
 use Rattle.tpi_records.specs.Records.{IsRecord}
 use Rattle.pdb_commands.specs.Records.{record_lines}
 use Rattle.pdb_commands.proofs.records.record_lines.Given as goal
+use Rattle.tpi_records.specs.Header.{first_index}
 
 abbrev pub invariant-loop-bytes : goal.invariant-loop-bytes
 invariant-loop-bytes g l = record {
-  shown : string_bytes l.text ++ record_lines l.index l.bytes-iterator ≡ record_lines 0x1000 l.records;
+  shown : string_bytes l.text ++ record_lines l.index l.bytes-iterator ≡ record_lines first_index l.records;
   each : AllByRecursion IsRecord l.bytes-iterator;
   few : l.index + length l.bytes-iterator ≤ 2 ^ 31;
 }

@@ -1,6 +1,6 @@
 use Rattle.std.proofs.Common.{◌≡◌, ◌++◌, take, string_bytes}
 use Rattle.std.specs.List.{flat_map, slice_get}
-use Rattle.msf_streams.specs.Stream.{blocks_in}
+use Rattle.msf_streams.specs.Streams.{blocks_in}
 use Rattle.pdb_commands.specs.Streams.{blank_number}
 use Rattle.pdb_commands.proofs.streams.push_blocks.Given as goal
 

@@ -1,4 +1,4 @@
-use Rattle.pdb_merge.proofs.AcceptedLaws.{one_list}
+use Rattle.pdb_merge.proofs.ReadLaws.{one_list}
 use Rattle.pdb_merge.proofs.laws.one_list_each.Goals as goal
 
 pub returns : goal.returns

@@ -1,5 +1,5 @@
 use Rattle.std.proofs.Common.{arith}
-use Rattle.pdb_merge.proofs.AcceptedLaws.{records_want}
+use Rattle.pdb_merge.proofs.ReadLaws.{records_want}
 use Rattle.pdb_merge.proofs.read.read_records.Goals as goal
 
 pub returns-clause-found : goal.returns-clause-found

@@ -1,4 +1,4 @@
-use Rattle.pdb_merge.proofs.AcceptedLaws.{wants_memory}
+use Rattle.pdb_merge.proofs.ReadLaws.{wants_memory}
 use Rattle.pdb_merge.proofs.read.read_types.Goals as goal
 
 pub returns-clause-found : goal.returns-clause-found

@@ -2,10 +2,10 @@ use Rattle.std.proofs.Common.{◌≡◌, ◌+◌, ◌++◌, ◌∷◌, [], ◌�
 use Rattle.std.specs.List.{concat}
 use Rattle.std.proofs.lemmas.List.{length_push, take_all, map_more}
 use Rattle.cv_leaves.specs.Place.{IsChecked}
-use Rattle.type_trees.specs.Named.{named_by}
+use Rattle.type_trees.specs.Graph.{named_by}
 use Rattle.type_trees.proofs.TreeLaws.{at_position}
 use Rattle.type_trees.proofs.DepthLaws.{next_record, all_records}
-use Rattle.type_trees.proofs.NamedLaws.{concat_push, still_short}
+use Rattle.type_trees.proofs.GraphLaws.{concat_push, still_short}
 use Rattle.type_trees.proofs.graph.graph_of.Goals as goal
 
 pub push-requires-clause-short : goal.push-requires-clause-short

@@ -1,6 +1,6 @@
 use Rattle.std.proofs.Common.{◌≡◌, ◌≤◌, ◌+◌, ◌*◌, drop, take, map, length}
 use Rattle.std.specs.List.{concat}
-use Rattle.type_trees.specs.Named.{named_by}
+use Rattle.type_trees.specs.Graph.{named_by}
 use Rattle.type_trees.proofs.graph.graph_of.Given as goal
 
 abbrev pub invariant-loop-bytes : goal.invariant-loop-bytes

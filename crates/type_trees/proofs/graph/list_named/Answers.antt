@@ -2,8 +2,9 @@ use Rattle.std.proofs.Common.{◌≡◌, ◌≤◌, ◌+◌, ◌<◌, ◌∷◌,
 use Rattle.std.proofs.lemmas.Bool.{cases_lt}
 use Rattle.cv_leaves.specs.References.{reference_at}
 use Rattle.type_trees.proofs.CheckLaws.{own_fit, each_other}
-use Rattle.type_trees.proofs.NamedLaws.{named_all, named_simple, named_more, named_whole}
+use Rattle.type_trees.proofs.GraphLaws.{named_all, named_simple, named_more, named_whole}
 use Rattle.type_trees.proofs.graph.list_named.Goals as goal
+use Rattle.tpi_records.specs.Header.{first_index}
 
 pub loop-place-init : goal.loop-place-init
 loop-place-init g c =
@@ -22,7 +23,7 @@ loop-place-preserved-in-Continue-1 g c =
     let left = c.loop-place.place-iterator in
     let split : left ≡ c.in-Some.place ∷ c.next.new.self = search rules in
     let position = c.in-Some-checked_sub.ensures in
-    let large : 0x1000 ≤ reference_at r c.in-Some.place = omega (arith, c.ref_at.ensures, position) in
+    let large : first_index ≤ reference_at r c.in-Some.place = omega (arith, c.ref_at.ensures, position) in
     record {
       rest = rw c.in_ok-push.ensures.items (named_more r c.in-Some.place c.in-Some-checked_sub.position left c.next.new.self c.loop-place.named.items _ so_far.rest split large (omega (arith, position, c.ref_at.ensures)));
       fit = (each_other (λ p. p + 8 ≤ length r) c.in-Some.place left c.next.new.self split so_far.fit).1;
@@ -34,7 +35,7 @@ loop-place-preserved g c =
     let so_far = c.loop-place.invariant in
     let left = c.loop-place.place-iterator in
     let split : left ≡ c.in-Some.place ∷ c.next.new.self = search rules in
-    let small : reference_at r c.in-Some.place < 0x1000 = elim (cases_lt (reference_at r c.in-Some.place) 0x1000) [ inl low ↦ low | inr high ↦ absurd (c.in_default.ensures (omega (arith, high, c.ref_at.ensures))) ] in
+    let small : reference_at r c.in-Some.place < first_index = elim (cases_lt (reference_at r c.in-Some.place) first_index) [ inl low ↦ low | inr high ↦ absurd (c.in_default.ensures (omega (arith, high, c.ref_at.ensures))) ] in
     record {
       rest = named_simple r c.in-Some.place left c.next.new.self c.loop-place.named.items _ so_far.rest split small;
       fit = (each_other (λ p. p + 8 ≤ length r) c.in-Some.place left c.next.new.self split so_far.fit).1;

@@ -1,7 +1,7 @@
 use Rattle.std.proofs.Common.{◌≡◌, ◌≤◌, ◌+◌, ◌++◌, map, length}
 use Rattle.std.specs.List.{AllByRecursion}
 use Rattle.cv_leaves.specs.References.{reference_at}
-use Rattle.type_trees.specs.Named.{positions_in, named_by}
+use Rattle.type_trees.specs.Graph.{positions_in, named_by}
 use Rattle.type_trees.proofs.graph.list_named.Given as goal
 
 abbrev pub invariant-loop-place : goal.invariant-loop-place

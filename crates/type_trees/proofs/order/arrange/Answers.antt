@@ -1,8 +1,8 @@
 use Rattle.type_trees.proofs.OrderLaws.{stand_in_order}
 use Rattle.std.proofs.Common.{arith}
 use Rattle.topological_order.specs.Cycle.{IsCycleSet}
-use Rattle.type_trees.specs.Named.{graph_of}
-use Rattle.type_trees.proofs.NamedLaws.{nodes_inside}
+use Rattle.type_trees.specs.Graph.{graph_of}
+use Rattle.type_trees.proofs.GraphLaws.{nodes_inside}
 use Rattle.type_trees.proofs.CycleLaws.{cycle_inside}
 use Rattle.type_trees.proofs.order.arrange.Goals as goal
 

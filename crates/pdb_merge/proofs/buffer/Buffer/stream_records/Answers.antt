@@ -1,5 +1,5 @@
 use Rattle.std.proofs.lemmas.Result.{err_from_is_err_and}
-use Rattle.pdb_merge.proofs.AcceptedLaws.{stream_refused}
+use Rattle.pdb_merge.proofs.ReadLaws.{stream_refused}
 use Rattle.pdb_merge.proofs.buffer.Buffer.stream_records.Goals as goal
 
 pub returns-in_err-read-clause-first : goal.returns-in_err-read-clause-first

@@ -1,6 +1,6 @@
 use Rattle.std.proofs.Common.{arith, inl}
 use Rattle.std.proofs.lemmas.Result.{err_from_is_err_and}
-use Rattle.pdb_merge.proofs.AcceptedLaws.{info_refused, type_refused}
+use Rattle.pdb_merge.proofs.ReadLaws.{info_refused, type_refused}
 use Rattle.pdb_merge.proofs.MemoryLaws.{layout_want, layout_sound}
 use Rattle.pdb_merge.proofs.buffer.Buffer.types.Goals as goal
 

@@ -4,7 +4,7 @@ use Rattle.msf_streams.specs.declared.fault.StreamFault.TheVariants.{NoStream}
 use Rattle.byte_fields.specs.Bytes.{AreBytes}
 use Rattle.byte_fields.specs.Check.{first_failing}
 use Rattle.msf_blocks.specs.Layout.{LayoutView, HasLayout, layout_checks}
-use Rattle.msf_streams.specs.Stream.{stream_contents}
+use Rattle.msf_streams.specs.Streams.{stream_contents}
 use Rattle.pdb_info.specs.declared.fault.InfoFault.TheVariants.{InfoShort}
 use Rattle.tpi_records.specs.Records.{HasRecords, IsFirstFault}
 use Rattle.type_trees.specs.Check.{AreTypes, HasTypeFault}

@@ -4,7 +4,7 @@ use Rattle.std.specs.Prelude.{Result, Ok, Err, IfErr}
 use Rattle.byte_fields.specs.Bytes.{AreBytes}
 use Rattle.msf_blocks.specs.Layout.{LayoutView, HasLayout}
 use Rattle.msf_blocks.proofs.FoundLaws.{layout_holds}
-use Rattle.msf_streams.specs.Stream.{stream_contents}
+use Rattle.msf_streams.specs.Streams.{stream_contents}
 use Rattle.tpi_records.specs.Records.{HasRecords, IsFirstFault}
 use Rattle.tpi_records.specs.declared.fault.TpiFault.{TpiFault}
 use Rattle.tpi_records.specs.declared.fault.TpiFault.TheVariants as tpi
@@ -13,7 +13,7 @@ use Rattle.type_trees.proofs.CycleLaws.{types_sound}
 use Rattle.type_trees.specs.Check.{IsTypeFault}
 use Rattle.type_trees.specs.declared.fault.TypeFault.{TypeFault}
 use Rattle.type_trees.specs.declared.fault.TypeFault.TheVariants as types
-use Rattle.pdb_merge.specs.Accepted.{IsAccepted, HasTypeRecords, ListsRecords, HasLongInfo, HasInfoFault, HasStreamFault, HasRecordsFault, HasPdbFault}
+use Rattle.pdb_merge.specs.Read.{IsAccepted, HasTypeRecords, ListsRecords, HasLongInfo, HasInfoFault, HasStreamFault, HasRecordsFault, HasPdbFault}
 use Rattle.pdb_merge.specs.Fault.{of_tpi, of_type}
 use Rattle.pdb_merge.specs.declared.fault.PdbFault.{PdbFault}
 use Rattle.pdb_merge.specs.declared.fault.PdbFault.TheVariants as fault

@@ -2,7 +2,7 @@
 use Rattle.std.specs.Prelude.{ℕ, ◌≡◌, List, ◌∷◌, ◌++◌, length, codes}
 use Rattle.std.specs.List.{concat}
 use Rattle.type_trees.specs.Depth.{HasLevels}
-use Rattle.pdb_merge.specs.Accepted.{IsAccepted, HasPdbFault}
+use Rattle.pdb_merge.specs.Read.{IsAccepted, HasPdbFault}
 use Rattle.pdb_commands.specs.Text.{named_line}
 use Rattle.pdb_commands.specs.declared.fault.RunFault.{RunFault}
 use Rattle.pdb_commands.specs.declared.fault.RunFault.TheVariants.{Pdb}

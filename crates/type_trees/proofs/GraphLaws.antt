@@ -13,21 +13,22 @@ use Rattle.topological_order.proofs.WalkLaws.{none_in}
 use Rattle.topological_order.proofs.OrderLaws.{in_cons, in_head, in_tail, names_inside, orders_rank}
 use Rattle.cv_leaves.specs.References.{reference_at, references}
 use Rattle.type_trees.specs.Tree.{IsRanked, NamesLower}
-use Rattle.type_trees.specs.Named.{positions_in, named_by, graph_of}
+use Rattle.type_trees.specs.Graph.{positions_in, named_by, graph_of}
 use Rattle.type_trees.specs.Check.{NamesThere, AllNameThere}
 use Rattle.type_trees.proofs.TreeLaws.{at_position}
+use Rattle.tpi_records.specs.Header.{first_index}
 
 -- ---- The positions that references name
 
 -- a simple reference names no position
-pub positions_simple : (n : ℕ) (ns : List ℕ) → n < 0x1000 → positions_in (n ∷ ns) ≡ positions_in ns
+pub positions_simple : (n : ℕ) (ns : List ℕ) → n < first_index → positions_in (n ∷ ns) ≡ positions_in ns
 unfolding positions_in
-positions_simple n ns small = rw (lt-ltb n 0x1000 small) refl
+positions_simple n ns small = rw (lt-ltb n first_index small) refl
 
 -- any other reference names a position
-pub positions_other : (n : ℕ) (ns : List ℕ) → 0x1000 ≤ n → positions_in (n ∷ ns) ≡ (n - 0x1000) ∷ positions_in ns
+pub positions_other : (n : ℕ) (ns : List ℕ) → first_index ≤ n → positions_in (n ∷ ns) ≡ (n - first_index) ∷ positions_in ns
 unfolding positions_in
-positions_other n ns large = rw (le-ltb n 0x1000 large) refl
+positions_other n ns large = rw (le-ltb n first_index large) refl
 
 -- no references name no positions
 pub positions_none : positions_in [] ≡ []
@@ -35,40 +36,40 @@ unfolding positions_in
 positions_none = refl
 
 -- a position that is named is named by a reference
-pub position_named : (ns : List ℕ) (p : ℕ) → Contains (positions_in ns) p → Contains ns (0x1000 + p)
+pub position_named : (ns : List ℕ) (p : ℕ) → Contains (positions_in ns) p → Contains ns (first_index + p)
 position_named [] p there = none_in p (subst (λ (xs : List ℕ). Contains xs p) positions_none there)
-position_named (n ∷ ns) p there = elim (cases_lt n 0x1000) [
-  | inl small ↦ in_tail n ns (0x1000 + p) (position_named ns p (subst (λ (xs : List ℕ). Contains xs p) (positions_simple n ns small) there))
-  | inr large ↦ elim (in_cons (n - 0x1000) (positions_in ns) p (subst (λ (xs : List ℕ). Contains xs p) (positions_other n ns large) there)) [
+position_named (n ∷ ns) p there = elim (cases_lt n first_index) [
+  | inl small ↦ in_tail n ns (first_index + p) (position_named ns p (subst (λ (xs : List ℕ). Contains xs p) (positions_simple n ns small) there))
+  | inr large ↦ elim (in_cons (n - first_index) (positions_in ns) p (subst (λ (xs : List ℕ). Contains xs p) (positions_other n ns large) there)) [
     | inl same ↦
-        let is : n ≡ 0x1000 + p = omega (arith, same, large) in
+        let is : n ≡ first_index + p = omega (arith, same, large) in
         subst (λ (x : ℕ). Contains (n ∷ ns) x) is (in_head n ns)
-    | inr later ↦ in_tail n ns (0x1000 + p) (position_named ns p later)
+    | inr later ↦ in_tail n ns (first_index + p) (position_named ns p later)
   ]
 ]
 
 -- a reference that isn't simple names a position
-pub reference_names : (ns : List ℕ) (n : ℕ) → Contains ns n → 0x1000 ≤ n → Contains (positions_in ns) (n - 0x1000)
+pub reference_names : (ns : List ℕ) (n : ℕ) → Contains ns n → first_index ≤ n → Contains (positions_in ns) (n - first_index)
 reference_names [] n there large = none_in n there
-reference_names (m ∷ ns) n there large = elim (cases_lt m 0x1000) [
+reference_names (m ∷ ns) n there large = elim (cases_lt m first_index) [
   | inl small ↦ elim (in_cons m ns n there) [
     | inl same ↦ absurd (omega (arith, same, small, large))
-    | inr later ↦ subst (λ (xs : List ℕ). Contains xs (n - 0x1000)) (sym (positions_simple m ns small)) (reference_names ns n later large)
+    | inr later ↦ subst (λ (xs : List ℕ). Contains xs (n - first_index)) (sym (positions_simple m ns small)) (reference_names ns n later large)
   ]
-  | inr high ↦ subst (λ (xs : List ℕ). Contains xs (n - 0x1000)) (sym (positions_other m ns high)) (elim (in_cons m ns n there) [
-    | inl same ↦ subst (λ (x : ℕ). Contains ((m - 0x1000) ∷ positions_in ns) (x - 0x1000)) same (in_head (m - 0x1000) (positions_in ns))
-    | inr later ↦ in_tail (m - 0x1000) (positions_in ns) (n - 0x1000) (reference_names ns n later large)
+  | inr high ↦ subst (λ (xs : List ℕ). Contains xs (n - first_index)) (sym (positions_other m ns high)) (elim (in_cons m ns n there) [
+    | inl same ↦ subst (λ (x : ℕ). Contains ((m - first_index) ∷ positions_in ns) (x - first_index)) same (in_head (m - first_index) (positions_in ns))
+    | inr later ↦ in_tail (m - first_index) (positions_in ns) (n - first_index) (reference_names ns n later large)
   ])
 ]
 
 -- where something holds of each position that is named, each reference is simple or has it
-pub each_named : (P : ℕ → Type 0) (ns : List ℕ) → ((p : ℕ) → Contains (positions_in ns) p → P p) → AllByRecursion (λ n. (n < 0x1000) ⊎ P (n - 0x1000)) ns
+pub each_named : (P : ℕ → Type 0) (ns : List ℕ) → ((p : ℕ) → Contains (positions_in ns) p → P p) → AllByRecursion (λ n. (n < first_index) ⊎ P (n - first_index)) ns
 each_named P [] holds = tt
-each_named P (n ∷ ns) holds = elim (cases_lt n 0x1000) [
+each_named P (n ∷ ns) holds = elim (cases_lt n first_index) [
   | inl small ↦ (inl small, each_named P ns (λ p there. holds p (subst (λ (xs : List ℕ). Contains xs p) (sym (positions_simple n ns small)) there)))
   | inr large ↦ (
-    inr (holds (n - 0x1000) (subst (λ (xs : List ℕ). Contains xs (n - 0x1000)) (sym (positions_other n ns large)) (in_head (n - 0x1000) (positions_in ns)))),
-    each_named P ns (λ p there. holds p (subst (λ (xs : List ℕ). Contains xs p) (sym (positions_other n ns large)) (in_tail (n - 0x1000) (positions_in ns) p there))),
+    inr (holds (n - first_index) (subst (λ (xs : List ℕ). Contains xs (n - first_index)) (sym (positions_other n ns large)) (in_head (n - first_index) (positions_in ns)))),
+    each_named P ns (λ p there. holds p (subst (λ (xs : List ℕ). Contains xs p) (sym (positions_other n ns large)) (in_tail (n - first_index) (positions_in ns) p there))),
   )
 ]
 
@@ -82,7 +83,7 @@ pub many_nodes : (records : List (List ℕ)) → length (graph_of records) ≡ l
 many_nodes records = length-map records named_by
 
 -- what a node of the graph names is named by a reference of its record
-pub node_refers : (records : List (List ℕ)) (i n : ℕ) → Names (graph_of records) i n → (i < length records) × Contains (references (get_or records i [])) (0x1000 + n)
+pub node_refers : (records : List (List ℕ)) (i n : ℕ) → Names (graph_of records) i n → (i < length records) × Contains (references (get_or records i [])) (first_index + n)
 node_refers records i n names =
     let inside : i < length records = omega (arith, names_inside (graph_of records) i n names, many_nodes records) in
     (inside, position_named (references (get_or records i [])) n (subst (λ (xs : List ℕ). Contains xs n) (named_at records i inside) names))
@@ -90,12 +91,12 @@ node_refers records i n names =
 -- ---- Record by record
 
 -- a simple reference adds no position
-pub named_simple : (r : List ℕ) (place : ℕ) (left others named all : List ℕ) → named ++ positions_in (map (reference_at r) left) ≡ all → left ≡ place ∷ others → reference_at r place < 0x1000 → named ++ positions_in (map (reference_at r) others) ≡ all
+pub named_simple : (r : List ℕ) (place : ℕ) (left others named all : List ℕ) → named ++ positions_in (map (reference_at r) left) ≡ all → left ≡ place ∷ others → reference_at r place < first_index → named ++ positions_in (map (reference_at r) others) ≡ all
 named_simple r place left others named all so_far split small =
     ap (λ (xs : List ℕ). named ++ xs) (sym (ap (λ (ps : List ℕ). positions_in (map (reference_at r) ps)) split ∙ positions_simple (reference_at r place) (map (reference_at r) others) small)) ∙ so_far
 
 -- any other reference adds a position
-pub named_more : (r : List ℕ) (place p : ℕ) (left others named all : List ℕ) → named ++ positions_in (map (reference_at r) left) ≡ all → left ≡ place ∷ others → 0x1000 ≤ reference_at r place → p ≡ reference_at r place - 0x1000
+pub named_more : (r : List ℕ) (place p : ℕ) (left others named all : List ℕ) → named ++ positions_in (map (reference_at r) left) ≡ all → left ≡ place ∷ others → first_index ≤ reference_at r place → p ≡ reference_at r place - first_index
     → (named ++ p ∷ []) ++ positions_in (map (reference_at r) others) ≡ all
 named_more r place p left others named all so_far split large is =
     append_assoc named (p ∷ []) (positions_in (map (reference_at r) others))
@@ -117,7 +118,7 @@ named_whole r left named all so_far none =
 -- there are no more positions than references
 positions_few : (ns : List ℕ) → length (positions_in ns) ≤ length ns
 positions_few [] = rw positions_none (omega arith)
-positions_few (n ∷ ns) = elim (cases_lt n 0x1000) [
+positions_few (n ∷ ns) = elim (cases_lt n first_index) [
   | inl small ↦ rw (positions_simple n ns small) (omega (arith, positions_few ns))
   | inr large ↦ rw (positions_other n ns large) (omega (arith, positions_few ns))
 ]
@@ -156,10 +157,10 @@ still_short records named row k inside checked is so_far = omega (arith, ap leng
 pub nodes_inside : (records : List (List ℕ)) → AllNameThere (length records) records → NamesNodes (graph_of records)
 nodes_inside records there i n names =
     let refers = node_refers records i n names in
-    let low = below (references (get_or records i [])) (0x1000 + n) (at_position (λ r. NamesThere (length records) (references r)) records i there refers.0) refers.1 in
+    let low = below (references (get_or records i [])) (first_index + n) (at_position (λ r. NamesThere (length records) (references r)) records i there refers.0) refers.1 in
     omega (arith, low, many_nodes records)
   where
-    below : (ns : List ℕ) (m : ℕ) → NamesThere (length records) ns → Contains ns m → m < 0x1000 + length records
+    below : (ns : List ℕ) (m : ℕ) → NamesThere (length records) ns → Contains ns m → m < first_index + length records
     below [] m each on = none_in m on
     below (k ∷ ks) m each on = elim (in_cons k ks m on) [ inl same ↦ omega (arith, each.0, same) | inr later ↦ below ks m each.1 later ]
 
@@ -169,13 +170,13 @@ ranked_graph records rank ranked i n names =
     let refers = node_refers records i n names in
     lower (references (get_or records i [])) (ranked i refers.0) refers.1
   where
-    lower : (ns : List ℕ) → AllByRecursion (NamesLower records rank i) ns → Contains ns (0x1000 + n) → rank n < rank i
-    lower [] each on = none_in (0x1000 + n) on
-    lower (m ∷ ms) each on = elim (in_cons m ms (0x1000 + n) on) [
+    lower : (ns : List ℕ) → AllByRecursion (NamesLower records rank i) ns → Contains ns (first_index + n) → rank n < rank i
+    lower [] each on = none_in (first_index + n) on
+    lower (m ∷ ms) each on = elim (in_cons m ms (first_index + n) on) [
       | inl same ↦ elim each.0 [
         | inl small ↦ absurd (omega (arith, small, same))
         | inr low ↦
-            let at : m - 0x1000 ≡ n = omega (arith, same) in
+            let at : m - first_index ≡ n = omega (arith, same) in
             subst (λ (x : ℕ). rank x < rank i) at low.1
       ]
       | inr later ↦ lower ms each.1 later
@@ -188,7 +189,7 @@ graph_ranked records rank there ranked i lt =
     let named = subst (λ (xs : List ℕ). Contains xs p) (sym (named_at records i lt)) names in
     (omega (arith, nodes_inside records there i p named, many_nodes records), ranked i p named)))
   where
-    lower : (ns : List ℕ) → AllByRecursion (λ n. (n < 0x1000) ⊎ ((n - 0x1000 < length records) × (rank (n - 0x1000) < rank i))) ns → AllByRecursion (NamesLower records rank i) ns
+    lower : (ns : List ℕ) → AllByRecursion (λ n. (n < first_index) ⊎ ((n - first_index < length records) × (rank (n - first_index) < rank i))) ns → AllByRecursion (NamesLower records rank i) ns
     lower ns each = each
 
 -- records that have an order have a rank
