@@ -76,7 +76,7 @@ first_fits from p ps len f = omega (arith, ends_behind (p + 4) ps f.0 f.1.1, f.2
 next_fits : (y : List ℕ) (from p n : ℕ) (ps : List ℕ) → Fits from (p ∷ ps) (length y) → Fits (p + 4) ps (length (put_four y (4 + p) n))
 next_fits y from p n ps f = (f.0, f.1.1, omega (arith, f.2, put_len y (4 + p) n (first_fits from p ps (length y) f)))
 
--- a text that is filled keeps its length
+-- a record that is filled keeps its length
 pub fill_len : (y : List ℕ) (from : ℕ) (ps ns : List ℕ) → Fits from ps (length y) → length (fill y ps ns) ≡ length y
 fill_len y from [] ns f = refl
 fill_len y from (p ∷ ps) [] f = refl
@@ -98,7 +98,7 @@ fill_before y q from (p ∷ ps) (n ∷ ns) before f =
     fill_before (put_four y (4 + p) n) q (p + 4) ps ns (omega (arith, before, f.1.0)) (next_fits y from p n ps f)
     ∙ read_before y q (4 + p) n (omega (arith, before, f.1.0)) (omega (arith, first_fits from p ps (length y) f))
 
--- the numbers that a text is filled with are read at the places
+-- the numbers that a record is filled with are read at the places
 pub fill_read : (y : List ℕ) (from : ℕ) (ps ns : List ℕ) → Fits from ps (length y) → length ns ≡ length ps → AllByRecursion (λ n. n < 2 ^ 32) ns → map (reference_at (fill y ps ns)) ps ≡ ns
 fill_read y from [] [] f each small = refl
 fill_read y from [] (n ∷ ns) f each small = absurd (omega (arith, each))
@@ -130,7 +130,7 @@ fill_twice y from (p ∷ ps) (m ∷ ms) (n ∷ ns) f each =
     (put_first (put_four y (4 + p) m) p n (p + 4) ps ms (omega arith) (next_fits y from p m ps f) ∙ ap (λ (x : List ℕ). fill x ps ms) (put_twice y (4 + p) m n inside))
     ∙ fill_twice (put_four y (4 + p) n) (p + 4) ps ms ns (next_fits y from p n ps f) (omega (arith, each))
 
--- a text of bytes that is filled with its own numbers stays as it is
+-- bytes that are filled with their own numbers stay as they are
 pub fill_own : (y : List ℕ) (from : ℕ) (ps : List ℕ) → AreBytes y → Fits from ps (length y) → fill y ps (map (reference_at y) ps) ≡ y
 fill_own y from [] bytes f = refl
 fill_own y from (p ∷ ps) bytes f =
@@ -138,7 +138,7 @@ fill_own y from (p ∷ ps) bytes f =
     let apart : p + 4 ≤ f.0 = ends_behind (p + 4) ps f.0 f.1.1 in
     ap (λ (x : List ℕ). fill x ps (map (reference_at y) ps)) own ∙ fill_own y (p + 4) ps bytes (f.0, f.1.1, f.2)
 
--- a text of bytes stays one when it is filled
+-- bytes stay bytes when they are filled
 pub fill_bytes : (y ps ns : List ℕ) → AreBytes y → AreBytes (fill y ps ns)
 fill_bytes y [] ns bytes = bytes
 fill_bytes y (p ∷ ps) [] bytes = bytes

@@ -161,7 +161,7 @@ rest_holds : (rest : Rest) (body places : List ℕ) → HasParts rest body place
 unfolding rest_checks
 rest_holds rest body places has =
     first_failing-append_none (extent_checks rest body) (checks_from rest body (stop_of rest body) (start_of rest)) (extent_holds rest body has.starts)
-    ∙ (parts_hold rest body (stop_of rest body) (start_of rest) has.texts has.back places has.parts (stop_reaches rest body) has.parts_are).0
+    ∙ (parts_hold rest body (stop_of rest body) (start_of rest) has.pieces has.back places has.parts (stop_reaches rest body) has.parts_are).0
 
 -- a record that has these places passes its checks
 has_holds : (r places : List ℕ) → HasPlaces r places → first_failing (record_checks r) ≡ None
@@ -186,7 +186,7 @@ not_refused r places fault has fails = let holds = has_holds r places has in cc
 pub places_met : (r places : List ℕ) → HasPlaces r places → places ≡ places_of r
 places_met r places has =
     has.places_are
-    ∙ ap (λ (xs : List ℕ). has.leaf.places ++ xs) (parts_hold has.leaf.rest (body_of r) (stop_of has.leaf.rest (body_of r)) (start_of has.leaf.rest) has.rest.texts has.rest.back has.others has.rest.parts (stop_reaches has.leaf.rest (body_of r)) has.rest.parts_are).1
+    ∙ ap (λ (xs : List ℕ). has.leaf.places ++ xs) (parts_hold has.leaf.rest (body_of r) (stop_of has.leaf.rest (body_of r)) (start_of has.leaf.rest) has.rest.pieces has.rest.back has.others has.rest.parts (stop_reaches has.leaf.rest (body_of r)) has.rest.parts_are).1
     ∙ sym (places_split r has.leaf (sym has.kind))
 
 -- a record has one list of places

@@ -202,15 +202,15 @@ stop_kept Members body p n behind inside = put_len body p n inside
 -- a number that is written at a place of the parts
 parts_kept : (rest : Rest) (body places : List ℕ) (p n : ℕ) → p + 4 ≤ length body → Among p places → HasParts rest body places → HasParts rest (put_four body p n) places
 parts_kept rest body places p n inside in_places has =
-    let kept = parts_keep rest (stop_of rest body) (start_of rest) has.texts places p n has.parts_are in_places in
+    let kept = parts_keep rest (stop_of rest body) (start_of rest) has.pieces places p n has.parts_are in_places in
     let at : start_of rest + (p - start_of rest) ≡ p = omega (arith, kept.from) in
     let moved : drop (start_of rest) (put_four body p n) ≡ put_four (drop (start_of rest) body) (p - start_of rest) n =
     ap (λ (k : ℕ). drop (start_of rest) (put_four body k n)) (sym at) ∙ put_after body (start_of rest) (p - start_of rest) n has.starts in
     record {
       starts = omega (arith, has.starts, put_len body p n inside);
-      texts = kept.texts_now;
+      pieces = kept.texts_now;
       back = has.back;
-      parts = moved ∙ ap (λ (x : List ℕ). put_four x (p - start_of rest) n) has.parts ∙ put_front (concat has.texts) has.back (p - start_of rest) n kept.inside ∙ ap (λ (x : List ℕ). x ++ has.back) kept.bytes;
+      parts = moved ∙ ap (λ (x : List ℕ). put_four x (p - start_of rest) n) has.parts ∙ put_front (concat has.pieces) has.back (p - start_of rest) n kept.inside ∙ ap (λ (x : List ℕ). x ++ has.back) kept.bytes;
       parts_are = rw (stop_kept rest body p n kept.from inside) kept.parts_are;
     }
 
@@ -218,14 +218,14 @@ parts_kept rest body places p n inside in_places has =
 fixed_kept : (rest : Rest) (body fixed places : List ℕ) (p n : ℕ) → p + 4 ≤ length body → p + 4 ≤ fixed_end rest fixed → HasParts rest body places → HasParts rest (put_four body p n) places
 fixed_kept Nothing body fixed places p n inside early has = record {
   starts = omega arith;
-  texts = [];
+  pieces = [];
   back = put_four body p n;
   parts = refl;
-  parts_are = (omega arith, nothing_follows 0 has.texts places (omega arith) has.parts_are);
+  parts_are = (omega arith, nothing_follows 0 has.pieces places (omega arith) has.parts_are);
 }
 fixed_kept Containing body fixed places p n inside early has = record {
   starts = omega (arith, has.starts, put_len body p n inside);
-  texts = has.texts;
+  pieces = has.pieces;
   back = has.back;
   parts = put_before body 4 p n early has.starts ∙ has.parts;
   parts_are = has.parts_are;

@@ -66,7 +66,7 @@ numerics_hold (suc n) body at t back is (first, others, split, numeric, numerics
 
 -- ---- names
 
--- the first NUL of a text is also the first NUL of a longer text
+-- the first NUL of a list is also the first NUL of a longer list
 name_len-append : (xs ys : List ℕ) → name_len xs < length xs → name_len (xs ++ ys) ≡ name_len xs
 name_len-append xs ys below =
     position_or_len_is (λ b. b == 0) (xs ++ ys) (name_len xs) 0 (omega (arith, below, length-append xs ys))

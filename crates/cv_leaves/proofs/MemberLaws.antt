@@ -86,6 +86,6 @@ member_long t here part =
     let tail = part.virtual ++ (part.numerics ++ (part.name ++ part.padding)) in
     omega (arith, part.front_long, part.indices_long, ap length part.parts, length-append part.front (part.indices ++ tail), length-append part.indices tail)
 
--- the places of a member lie in its text
+-- the places of a member lie in its bytes
 pub member_apart : (t here : List ℕ) → IsMember t here → Apart 0 here (length t)
 member_apart t here part = rw part.places_are (indices_apart part.member.indices (length t) (member_long t here part))

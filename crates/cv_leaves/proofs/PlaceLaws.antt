@@ -114,11 +114,11 @@ part_apart_by b true Methods t here e f part = let p : (length t ≡ 12) × (her
 part_apart_by b false Methods t here e f part = let p : (length t ≡ 8) × (here ≡ 4 ∷ []) = rw f at part in rw (p.0, p.1) (omega arith, omega arith)
 part_apart_by b c Members t here e f part = member_apart t here part
 
--- the places of a part lie in its text
+-- the places of a part lie in its bytes
 pub part_apart : (rest : Rest) (t here : List ℕ) → IsPart rest t here → Apart 0 here (length t)
 part_apart rest t here part = part_apart_by (points_to_member (number_at 4 t 0)) (introduces (number_at 2 t 0)) rest t here refl refl part
 
--- the places of parts lie in their texts
+-- the places of parts lie in their bytes
 pub parts_apart : (rest : Rest) (stop at : ℕ) (texts : List (List ℕ)) (places : List ℕ) → AreParts rest stop at texts places → Apart at places (at + length (concat texts))
 parts_apart rest stop at [] places parts = rw parts.1 (omega arith)
 parts_apart rest stop at (t ∷ ts) places parts =
@@ -133,9 +133,9 @@ parts_apart rest stop at (t ∷ ts) places parts =
 -- the places after the fixed ones lie in the body
 pub rest_apart : (rest : Rest) (body places : List ℕ) → HasParts rest body places → Apart (start_of rest) places (length body)
 rest_apart rest body places has =
-    apart_longer (start_of rest) places (start_of rest + length (concat has.texts)) (length body)
-    (parts_apart rest (stop_of rest body) (start_of rest) has.texts places has.parts_are)
-    (omega (arith, has.starts, length-drop (start_of rest) body, ap length has.parts, length-append (concat has.texts) has.back))
+    apart_longer (start_of rest) places (start_of rest + length (concat has.pieces)) (length body)
+    (parts_apart rest (stop_of rest body) (start_of rest) has.pieces places has.parts_are)
+    (omega (arith, has.starts, length-drop (start_of rest) body, ap length has.parts, length-append (concat has.pieces) has.back))
 
 -- where nothing follows there are no parts
 pub nothing_follows : (stop : ℕ) (texts : List (List ℕ)) (places : List ℕ) → stop ≤ 0 → AreParts Nothing stop 0 texts places → places ≡ []
@@ -147,7 +147,7 @@ nothing_follows stop (t ∷ ts) places none parts = absurd (omega (arith, parts.
 -- the fixed places and those after them
 record_apart : (rest : Rest) (body fixed others : List ℕ) → Apart 0 fixed (fixed_end rest fixed) → AllByRecursion (λ p. p + 4 ≤ length body) fixed → HasParts rest body others → Apart 0 (fixed ++ others) (length body)
 record_apart Nothing body fixed others apart each has =
-    let none = nothing_follows 0 has.texts others (omega arith) has.parts_are in
+    let none = nothing_follows 0 has.pieces others (omega arith) has.parts_are in
     rw (none, append-nil fixed) (apart_within 0 fixed (last_end 0 fixed) (length body) apart each (omega arith))
 record_apart Containing body fixed others apart each has = apart_append 0 fixed 4 others (length body) apart (rest_apart Containing body others has)
 record_apart Indices body fixed others apart each has = apart_append 0 fixed 4 others (length body) (apart_longer 0 fixed 0 4 apart (omega arith)) (rest_apart Indices body others has)
@@ -175,11 +175,11 @@ parts_reach rest stop at (t ∷ ts) places parts =
 parts_fill : (rest : Rest) (body places : List ℕ) → start_of rest ≡ 0 → stop_of rest body ≡ length body → HasParts rest body places
     → (texts : List (List ℕ)) × (body ≡ concat texts) × AreParts rest (length body) 0 texts places
 parts_fill rest body places starts stops has =
-    let parts_are : AreParts rest (length body) 0 has.texts places = rw (starts, stops) at has.parts_are in
-    let parts : body ≡ concat has.texts ++ has.back = rw starts at has.parts in
-    let reach = parts_reach rest (length body) 0 has.texts places parts_are in
-    let none : has.back ≡ [] = no_bytes has.back (omega (arith, reach, ap length parts, length-append (concat has.texts) has.back)) in
-    (has.texts, parts ∙ ap (λ (x : List ℕ). concat has.texts ++ x) none ∙ append-nil (concat has.texts), parts_are)
+    let parts_are : AreParts rest (length body) 0 has.pieces places = rw (starts, stops) at has.parts_are in
+    let parts : body ≡ concat has.pieces ++ has.back = rw starts at has.parts in
+    let reach = parts_reach rest (length body) 0 has.pieces places parts_are in
+    let none : has.back ≡ [] = no_bytes has.back (omega (arith, reach, ap length parts, length-append (concat has.pieces) has.back)) in
+    (has.pieces, parts ∙ ap (λ (x : List ℕ). concat has.pieces ++ x) none ∙ append-nil (concat has.pieces), parts_are)
 
 -- the entries of a method list fill its body
 pub methods_fill : (body places : List ℕ) → HasParts Methods body places → (entries : List (List ℕ)) × (body ≡ concat entries) × AreParts Methods (length body) 0 entries places

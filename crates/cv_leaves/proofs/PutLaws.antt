@@ -1,4 +1,4 @@
--- A number that is written into a text: what it leaves as it is.
+-- A number that is written into a record: what it leaves as it is.
 use Rattle.std.proofs.Common.{◌≡◌, ◌<◌, ◌≤◌, ◌+◌, ◌^◌, ◌++◌, ℕ, List, length, take, drop, get_or, refl, sym, ap, arith, ◌∙◌}
 use Rattle.std.proofs.lemmas.List.{append_assoc, length-append, length-take, length-drop, get_or_append_left, get_or-take, get_or-drop, drop-drop, take-append-le, drop-append-le, drop_at, take-take, take-append-drop}
 use Rattle.std.proofs.Math.Seq.{take-append-add, drop-append-add}
@@ -61,7 +61,7 @@ read_before x p at n apart inside =
     λ i below. get_or-drop p (put_four x at n) i 0 ∙ byte_before x at n (p + i) (omega (arith, below, apart)) inside ∙ sym (get_or-drop p x i 0) in
     rw (byte 0 (omega arith), byte 1 (omega arith), byte 2 (omega arith), byte 3 (omega arith)) refl
 
--- a number that is written in the first of two texts
+-- a number that is written in the first of two pieces
 pub put_front : (a b : List ℕ) (p n : ℕ) → p + 4 ≤ length a → put_four (a ++ b) p n ≡ put_four a p n ++ b
 unfolding put_four
 put_front a b p n inside =
@@ -69,7 +69,7 @@ put_front a b p n inside =
     let d : drop (p + 4) (a ++ b) ≡ drop (p + 4) a ++ b = drop-append-le (p + 4) a b inside in
     rw (t, d) (ap (λ (xs : List ℕ). take p a ++ xs) (sym (append_assoc (four_bytes n) (drop (p + 4) a) b)) ∙ sym (append_assoc (take p a) (four_bytes n ++ drop (p + 4) a) b))
 
--- a number that is written in the second of two texts
+-- a number that is written in the second of two pieces
 pub put_back : (a b : List ℕ) (p n : ℕ) → put_four (a ++ b) (length a + p) n ≡ a ++ put_four b p n
 unfolding put_four
 put_back a b p n =
@@ -92,13 +92,13 @@ put_read x at n inside small =
     ∙ ap (λ (y : List ℕ). number_at 4 y 0) (drop_at (take at x) (four_bytes n ++ drop (at + 4) x) at long)
     ∙ number_front n (drop (at + 4) x) small
 
--- what is written where it is read changes nothing, in a text of bytes
+-- what is written where it is read changes nothing, in a list of bytes
 pub put_own : (x : List ℕ) (at : ℕ) → AreBytes x → at + 4 ≤ length x → put_four x at (number_at 4 x at) ≡ x
 unfolding put_four
 put_own x at bytes inside =
     rw (four_bytes-number_at x at bytes inside, ← drop-drop 4 at x, take-append-drop 4 (drop at x)) (take-append-drop at x)
 
--- a text of bytes stays one
+-- a list of bytes stays one
 pub put_bytes : (x : List ℕ) (at n : ℕ) → AreBytes x → AreBytes (put_four x at n)
 unfolding put_four
 put_bytes x at n bytes =

@@ -1,4 +1,4 @@
--- Texts of a body: where they begin and end, and the numbers in them.
+-- Pieces of a body: where they begin and end, and the numbers in them.
 use Rattle.std.proofs.Common.{◌≡◌, ◌≤◌, ◌<◌, ◌+◌, ◌-◌, ◌++◌, ℕ, List, [], ◌∷◌, None, length, take, drop, refl, sym, ap, arith, ◌∙◌}
 use Rattle.std.specs.Prelude.{nat_le}
 use Rattle.std.proofs.lemmas.Bool.{leb-true, le-leb}
@@ -13,11 +13,11 @@ use Rattle.cv_leaves.specs.declared.fault.LeafFault.TheVariants.{Body}
 
 -- ---- from one offset to another
 
--- the text from `at` up to `end`
+-- the bytes from `at` up to `end`
 abbrev pub text_of : List ℕ → ℕ → ℕ → List ℕ
 text_of body at end = take (end - at) (drop at body)
 
--- the bytes from `at` on are that text and the bytes from `end` on
+-- the bytes from `at` on are that piece and the bytes from `end` on
 pub cut : (body : List ℕ) (at end : ℕ) → at ≤ end → drop at body ≡ text_of body at end ++ drop end body
 cut body at end le =
     let e : at + (end - at) ≡ end = omega arith in
@@ -28,7 +28,7 @@ cut body at end le =
 pub text_len : (body : List ℕ) (at end : ℕ) → at ≤ end → end ≤ length body → length (text_of body at end) ≡ end - at
 text_len body at end le inside = omega (arith, length-take (end - at) (drop at body), length-drop at body)
 
--- it is the text up to an offset between, and the one from there on
+-- it is the piece up to an offset between, and the one from there on
 pub text_split : (body : List ℕ) (a b c : ℕ) → a ≤ b → b ≤ c → text_of body a c ≡ text_of body a b ++ text_of body b c
 text_split body a b c first second =
     let e : c - a ≡ (b - a) + (c - b) = omega arith in
@@ -46,7 +46,7 @@ second_of_text body at len long =
 
 -- ---- met at an offset
 
--- a text that is met lies within the body
+-- a piece that is met lies within the body
 pub text_inside : (body : List ℕ) (at : ℕ) (t back : List ℕ) → drop at body ≡ t ++ back → 0 < length t → at + length t ≤ length body
 text_inside body at t back is some = omega (arith, length-drop at body, ap length is, length-append t back)
 
@@ -66,7 +66,7 @@ second_met body at t back is long =
     let cut_off : take (length t) (drop at body) ≡ t = ap (λ (xs : List ℕ). take (length t) xs) is ∙ take-append_seam t back in
     sym (second_of_text body at (length t) long) ∙ ap (λ (xs : List ℕ). number_at 2 xs 2) cut_off
 
--- a text without bytes is empty
+-- a piece without bytes is empty
 pub no_bytes : (x : List ℕ) → length x ≤ 0 → x ≡ []
 no_bytes [] none = refl
 no_bytes (b ∷ x) none = absurd (omega (arith, none))

@@ -2,7 +2,7 @@
 use Rattle.std.specs.Prelude.{ℕ, ◌+◌, List, [], ◌∷◌, ◌++◌, take, drop}
 use Rattle.byte_fields.specs.Number.{four_bytes}
 
--- the text with the number n in the four bytes from `at` on
+-- the bytes with the number n in the four from `at` on
 unfoldable pub put_four : List ℕ → ℕ → ℕ → List ℕ
 put_four x at n = take at x ++ (four_bytes n ++ drop (at + 4) x)
 

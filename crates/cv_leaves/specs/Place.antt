@@ -12,74 +12,74 @@ use Rattle.cv_leaves.specs.Checks.{kind_of, body_of}
 use Rattle.cv_leaves.specs.declared.leaf.Rest.{Rest}
 use Rattle.cv_leaves.specs.declared.leaf.Rest.TheVariants.{Nothing, Containing, Indices, Methods, Members}
 
--- the text is the attributes of a pointer, and the containing class if it points to a member
+-- these bytes are the attributes of a pointer, and the containing class if it points to a member
 abbrev pub IsContaining : Bool → List ℕ → List ℕ → Type 0
-IsContaining true text places = (length text ≡ 8) × (places ≡ 4 ∷ [])
-IsContaining false text places = (length text ≡ 4) × (places ≡ [])
+IsContaining true bytes places = (length bytes ≡ 8) × (places ≡ 4 ∷ [])
+IsContaining false bytes places = (length bytes ≡ 4) × (places ≡ [])
 
--- the text is an entry of a method list: attributes, two bytes, an index, and four more bytes if it introduces a virtual
+-- these bytes are an entry of a method list: attributes, two bytes, an index, and four more bytes if it introduces a virtual
 abbrev pub IsEntry : Bool → List ℕ → List ℕ → Type 0
-IsEntry true text places = (length text ≡ 12) × (places ≡ 4 ∷ [])
-IsEntry false text places = (length text ≡ 8) × (places ≡ 4 ∷ [])
+IsEntry true bytes places = (length bytes ≡ 12) × (places ≡ 4 ∷ [])
+IsEntry false bytes places = (length bytes ≡ 8) × (places ≡ 4 ∷ [])
 
--- the text is a numeric leaf: a known one, whole
+-- these bytes are a numeric leaf: a known one, whole
 abbrev pub IsNumeric : List ℕ → Type 0
-IsNumeric text = (2 ≤ length text) × (length text ≡ numeric_len (number_at 2 text 0))
+IsNumeric bytes = (2 ≤ length bytes) × (length bytes ≡ numeric_len (number_at 2 bytes 0))
 
--- the text is this number of numeric leaves, one after the other
+-- these bytes are this number of numeric leaves, one after the other
 abbrev pub AreNumerics : ℕ → List ℕ → Type 0
-AreNumerics zero text = text ≡ []
-AreNumerics (suc n) text = (first : List ℕ) × (others : List ℕ) × (text ≡ first ++ others) × IsNumeric first × AreNumerics n others
+AreNumerics zero bytes = bytes ≡ []
+AreNumerics (suc n) bytes = (first : List ℕ) × (others : List ℕ) × (bytes ≡ first ++ others) × IsNumeric first × AreNumerics n others
 
--- if there has to be a name, the text is a name and its NUL, the only NUL in it; otherwise the text is empty
+-- if there has to be a name, the bytes are a name and its NUL, the only NUL in it; otherwise there are none
 abbrev pub IsNamed : Bool → List ℕ → Type 0
-IsNamed true text = name_len text + 1 ≡ length text
-IsNamed false text = text ≡ []
+IsNamed true bytes = name_len bytes + 1 ≡ length bytes
+IsNamed false bytes = bytes ≡ []
 
--- the text is padding: 1 to 15 bytes, the first of which is 0xF0 plus their number; or it is empty
+-- these bytes are padding: 1 to 15 bytes, the first of which is 0xF0 plus their number; or there are none
 abbrev pub IsPadding : List ℕ → Type 0
-IsPadding text = (text ≡ []) ⊎ ((0 < length text) × (length text ≤ 15) × (slice_index text 0 ≡ 0xF0 + length text))
+IsPadding bytes = (bytes ≡ []) ⊎ ((0 < length bytes) × (length bytes ≤ 15) × (slice_index bytes 0 ≡ 0xF0 + length bytes))
 
--- the text is a member of a field list with its padding: kind and two bytes, indices, four bytes if it introduces a virtual, numeric leaves, a name, padding; and these are the places in it
-pub record IsMember (text places : List ℕ) : Type 0 where
+-- these bytes are a member of a field list with its padding: kind and two bytes, indices, four bytes if it introduces a virtual, numeric leaves, a name, padding; and these are the places in it
+pub record IsMember (bytes places : List ℕ) : Type 0 where
   pub member : Member
-  pub kind : member_of (number_at 2 text 0) ≡ Some member
+  pub kind : member_of (number_at 2 bytes 0) ≡ Some member
   pub front : List ℕ
   pub indices : List ℕ
   pub virtual : List ℕ
   pub numerics : List ℕ
   pub name : List ℕ
   pub padding : List ℕ
-  pub parts : text ≡ front ++ (indices ++ (virtual ++ (numerics ++ (name ++ padding))))
+  pub parts : bytes ≡ front ++ (indices ++ (virtual ++ (numerics ++ (name ++ padding))))
   pub front_long : length front ≡ 4
   pub indices_long : length indices ≡ 4 * member.indices
-  pub virtual_long : length virtual ≡ (if has_virtual member text 0 then 4 else 0)
+  pub virtual_long : length virtual ≡ (if has_virtual member bytes 0 then 4 else 0)
   pub numerics_are : AreNumerics member.numerics numerics
   pub name_is : IsNamed member.named name
   pub padding_is : IsPadding padding
   pub places_are : places ≡ index_places member
 
--- the text is one part of what follows the fixed places, and these are the places in it
+-- these bytes are one part of what follows the fixed places, and these are the places in it
 abbrev pub IsPart : Rest → List ℕ → List ℕ → Type 0
-IsPart Nothing text places = ⊥
-IsPart Containing text places = IsContaining (points_to_member (number_at 4 text 0)) text places
-IsPart Indices text places = (length text ≡ 4) × (places ≡ 0 ∷ [])
-IsPart Methods text places = IsEntry (introduces (number_at 2 text 0)) text places
-IsPart Members text places = IsMember text places
+IsPart Nothing bytes places = ⊥
+IsPart Containing bytes places = IsContaining (points_to_member (number_at 4 bytes 0)) bytes places
+IsPart Indices bytes places = (length bytes ≡ 4) × (places ≡ 0 ∷ [])
+IsPart Methods bytes places = IsEntry (introduces (number_at 2 bytes 0)) bytes places
+IsPart Members bytes places = IsMember bytes places
 
--- the texts are parts; the first begins at `at`, the last reaches `stop`, and these are the places in them
+-- these are parts; the first begins at `at`, the last reaches `stop`, and these are the places in them
 abbrev pub AreParts : Rest → ℕ → ℕ → List (List ℕ) → List ℕ → Type 0
 AreParts rest stop at [] places = (stop ≤ at) × (places ≡ [])
-AreParts rest stop at (text ∷ texts) places =
-    (at < stop) × ((here : List ℕ) × (others : List ℕ) × IsPart rest text here × AreParts rest stop (at + length text) texts others × (places ≡ map (λ k. at + k) here ++ others))
+AreParts rest stop at (bytes ∷ pieces) places =
+    (at < stop) × ((here : List ℕ) × (others : List ℕ) × IsPart rest bytes here × AreParts rest stop (at + length bytes) pieces others × (places ≡ map (λ k. at + k) here ++ others))
 
 -- what follows the fixed places of the body is parts one after the other, and these are the places in them
 pub record HasParts (rest : Rest) (body places : List ℕ) : Type 0 where
   pub starts : start_of rest ≤ length body
-  pub texts : List (List ℕ)
+  pub pieces : List (List ℕ)
   pub back : List ℕ
-  pub parts : drop (start_of rest) body ≡ concat texts ++ back
-  pub parts_are : AreParts rest (stop_of rest body) (start_of rest) texts places
+  pub parts : drop (start_of rest) body ≡ concat pieces ++ back
+  pub parts_are : AreParts rest (stop_of rest body) (start_of rest) pieces places
 
 -- the record has its length and its kind, and a leaf of the table; its fixed places fit; and the record's places are these and those of the parts after them
 pub record HasPlaces (r places : List ℕ) : Type 0 where

@@ -16,9 +16,9 @@ use Rattle.msf_blocks.proofs.SizeLaws.{size_facts, some_bytes, place_below}
 -- ---- where a number is
 
 -- the directory is as long as the superblock says
-pub text_length : (file : List ℕ) (fields : Fields) → length (directory_contents file fields) ≡ fields.directory_bytes
+pub contents_length : (file : List ℕ) (fields : Fields) → length (directory_contents file fields) ≡ fields.directory_bytes
 unfolding directory_contents
-text_length file fields = length-map-range_with_len _ 0 fields.directory_bytes
+contents_length file fields = length-map-range_with_len _ 0 fields.directory_bytes
 
 -- the four bytes of a number of the directory are next to each other in one block
 record LiesInBlock (b d j : ℕ) : Type 0 where
@@ -63,7 +63,7 @@ pub nth_u32_is : (file : List ℕ) (fields : Fields) (j : ℕ) → IsBlockSize f
     → nth_u32 (directory_contents file fields) j ≡ number_at 4 file (word_offset file fields j)
 unfolding nth_u32 number_at
 nth_u32_is file fields j size room =
-    let fits : 4 * j + 4 ≤ fields.directory_bytes = omega (arith, text_length file fields) in
+    let fits : 4 * j + 4 ≤ fields.directory_bytes = omega (arith, contents_length file fields) in
     let b0 = byte_at file fields j 0 size (omega arith) fits in
     let b1 = byte_at file fields j 1 size (omega arith) fits in
     let b2 = byte_at file fields j 2 size (omega arith) fits in
@@ -72,7 +72,7 @@ nth_u32_is file fields j size room =
 
 -- the block map has the number of the block of each number of the directory
 pub nth_u32_block : (file : List ℕ) (fields : Fields) (j : ℕ) → IsBlockSize fields.block_size → 4 * j + 4 ≤ length (directory_contents file fields) → 4 * j / fields.block_size < directory_blocks fields
-nth_u32_block file fields j size room = (lies_in_block fields.block_size fields.directory_bytes j size (omega (arith, text_length file fields))).below
+nth_u32_block file fields j size room = (lies_in_block fields.block_size fields.directory_bytes j size (omega (arith, contents_length file fields))).below
 
 -- the blocks that the block map lists are ordinary
 pub map_is_ordinary : (file : List ℕ) (fields : Fields) (k : ℕ) → IsReadable file fields → k < directory_blocks fields → IsOrdinary fields.num_blocks (map_number file fields k)
@@ -86,40 +86,40 @@ map_is_ordinary file fields k readable lt =
 pub nth_u32_fits : (file : List ℕ) (fields : Fields) (j : ℕ) → IsBlockSize fields.block_size → IsReadable file fields → 4 * j + 4 ≤ length (directory_contents file fields)
     → word_offset file fields j + 4 ≤ length file
 nth_u32_fits file fields j size readable room =
-    let b = lies_in_block fields.block_size fields.directory_bytes j size (omega (arith, text_length file fields)) in
+    let b = lies_in_block fields.block_size fields.directory_bytes j size (omega (arith, contents_length file fields)) in
     let o = map_is_ordinary file fields (4 * j / fields.block_size) readable b.below in
     let m : (map_number file fields (4 * j / fields.block_size) + 1) * fields.block_size ≤ fields.num_blocks * fields.block_size = mul-le _ _ _ _ (omega (arith, o.1)) (omega arith) in
     omega (arith, b.inside, m, readable.whole)
 
 -- ---- where the lists of the streams are
 
-list_start-add : (b : ℕ) (text : List ℕ) (t k : ℕ) → list_start b text t ≤ list_start b text (k + t)
+list_start-add : (b : ℕ) (contents : List ℕ) (t k : ℕ) → list_start b contents t ≤ list_start b contents (k + t)
 unfolding list_start
-list_start-add b text t zero = let e : 0 + t ≡ t = omega arith in rw e (omega arith)
-list_start-add b text t (suc k) = let e : suc k + t ≡ suc (k + t) = omega arith in rw e (omega (arith, list_start-add b text t k))
+list_start-add b contents t zero = let e : 0 + t ≡ t = omega arith in rw e (omega arith)
+list_start-add b contents t (suc k) = let e : suc k + t ≡ suc (k + t) = omega arith in rw e (omega (arith, list_start-add b contents t k))
 
 -- the first list comes after the number of streams and the sizes
-pub list_start_zero : (b : ℕ) (text : List ℕ) → list_start b text 0 ≡ 1 + nth_u32 text 0
+pub list_start_zero : (b : ℕ) (contents : List ℕ) → list_start b contents 0 ≡ 1 + nth_u32 contents 0
 unfolding list_start
-list_start_zero b text = refl
+list_start_zero b contents = refl
 
 -- the next list comes after this one
-pub list_start_more : (b : ℕ) (text : List ℕ) (t : ℕ) → list_start b text (t + 1) ≡ list_start b text t + stream_blocks b text t
+pub list_start_more : (b : ℕ) (contents : List ℕ) (t : ℕ) → list_start b contents (t + 1) ≡ list_start b contents t + stream_blocks b contents t
 unfolding list_start
-list_start_more b text t = rw add-one refl
+list_start_more b contents t = rw add-one refl
 
 -- every list comes after the number of streams and the sizes
-pub list_start_first : (b : ℕ) (text : List ℕ) (n : ℕ) → 1 + nth_u32 text 0 ≤ list_start b text n
-list_start_first b text n =
+pub list_start_first : (b : ℕ) (contents : List ℕ) (n : ℕ) → 1 + nth_u32 contents 0 ≤ list_start b contents n
+list_start_first b contents n =
     let f : n ≡ n + 0 = omega arith in
-    rw f (omega (arith, list_start-add b text 0 n, list_start_zero b text))
+    rw f (omega (arith, list_start-add b contents 0 n, list_start_zero b contents))
 
 -- the list of a stream ends before those of later streams begin
-pub list_start_upto : (b : ℕ) (text : List ℕ) (t n : ℕ) → t < n → (list_start b text t + stream_blocks b text t ≤ list_start b text n) × (1 + nth_u32 text 0 ≤ list_start b text t)
-list_start_upto b text t n lt =
+pub list_start_upto : (b : ℕ) (contents : List ℕ) (t n : ℕ) → t < n → (list_start b contents t + stream_blocks b contents t ≤ list_start b contents n) × (1 + nth_u32 contents 0 ≤ list_start b contents t)
+list_start_upto b contents t n lt =
     let e : n ≡ (n - (t + 1)) + (t + 1) = omega arith in
-    let upto : list_start b text (t + 1) ≤ list_start b text n = rw e (list_start-add b text (t + 1) (n - (t + 1))) in
-    (omega (arith, upto, list_start_more b text t), list_start_first b text t)
+    let upto : list_start b contents (t + 1) ≤ list_start b contents n = rw e (list_start-add b contents (t + 1) (n - (t + 1))) in
+    (omega (arith, upto, list_start_more b contents t), list_start_first b contents t)
 
 -- ---- lists that are made by an index
 

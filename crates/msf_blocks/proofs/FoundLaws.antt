@@ -21,7 +21,7 @@ use Rattle.msf_blocks.specs.Layout.{LayoutView, HasLayout, layout_checks}
 use Rattle.msf_blocks.specs.declared.fault.MsfFault.TheVariants.{DirectoryBlock, StreamBlock}
 use Rattle.msf_blocks.proofs.SizeLaws.{size_decides, listed_short}
 use Rattle.msf_blocks.proofs.SuperblockLaws.{starts_with_magic}
-use Rattle.msf_blocks.proofs.DirectoryLaws.{text_length, list_start_zero, list_start_more}
+use Rattle.msf_blocks.proofs.DirectoryLaws.{contents_length, list_start_zero, list_start_more}
 use Rattle.msf_blocks.proofs.LayoutLaws.{stream_answer}
 
 -- a placeholder for a position where a list has no stream
@@ -34,27 +34,27 @@ fields_are file fields s =
     rw (s.block_size_is, s.free_map_block_is, s.num_blocks_is, s.directory_bytes_is, s.unknown_is, s.block_map_addr_is) refl
 
 -- the contents of a directory with a list of streams
-record IsText (fields : Fields) (text : List ℕ) (streams : List Listed) : Type 0 where
-  lists : ListsStreams fields text streams
-  short : length text < 2 ^ 32
+record IsText (fields : Fields) (contents : List ℕ) (streams : List Listed) : Type 0 where
+  lists : ListsStreams fields contents streams
+  short : length contents < 2 ^ 32
   few_blocks : fields.num_blocks < 2 ^ 32
 
-section_len : (fields : Fields) (text : List ℕ) (streams : List Listed) (h : ListsStreams fields text streams) → length text ≡ 4 * (1 + (length streams + length (flat_map (λ s. s.blocks) streams))) + length h.rest
-section_len fields text streams h =
+section_len : (fields : Fields) (contents : List ℕ) (streams : List Listed) (h : ListsStreams fields contents streams) → length contents ≡ 4 * (1 + (length streams + length (flat_map (λ s. s.blocks) streams))) + length h.rest
+section_len fields contents streams h =
     let numbers = length streams ∷ map (λ s. s.size) streams ++ flat_map (λ s. s.blocks) streams in
     ap length h.parts ∙ length-append (u32s numbers) h.rest
     ∙ rw (length-u32s numbers) (omega (arith, length-append (map (λ (s : Listed). s.size) streams) (flat_map (λ s. s.blocks) streams), length-map streams (λ (s : Listed). s.size)))
 
 -- the number of streams comes first
-count_is : (fields : Fields) (text : List ℕ) (streams : List Listed) → IsText fields text streams → nth_u32 text 0 ≡ length streams
-count_is fields text streams h =
+count_is : (fields : Fields) (contents : List ℕ) (streams : List Listed) → IsText fields contents streams → nth_u32 contents 0 ≡ length streams
+count_is fields contents streams h =
     let numbers = length streams ∷ map (λ s. s.size) streams ++ flat_map (λ s. s.blocks) streams in
     ap (λ (t : List ℕ). nth_u32 t 0) h.lists.parts
-    ∙ nth_u32-u32s numbers h.lists.rest 0 (omega arith) (omega (arith, h.short, section_len fields text streams h.lists))
+    ∙ nth_u32-u32s numbers h.lists.rest 0 (omega arith) (omega (arith, h.short, section_len fields contents streams h.lists))
 
 -- the sizes come next
-size_is : (fields : Fields) (text : List ℕ) (streams : List Listed) (t : ℕ) → IsText fields text streams → t < length streams → nth_u32 text (1 + t) ≡ (get_or streams t no_stream).size
-size_is fields text streams t h lt =
+size_is : (fields : Fields) (contents : List ℕ) (streams : List Listed) (t : ℕ) → IsText fields contents streams → t < length streams → nth_u32 contents (1 + t) ≡ (get_or streams t no_stream).size
+size_is fields contents streams t h lt =
     let sizes = map (λ (s : Listed). s.size) streams in
     let blocks = flat_map (λ (s : Listed). s.blocks) streams in
     let numbers = length streams ∷ sizes ++ blocks in
@@ -67,9 +67,9 @@ size_is fields text streams t h lt =
     ∙ nth_u32-u32s numbers h.lists.rest (1 + t) (omega (arith, length-append sizes blocks, counted)) (rw here small) ∙ here
 
 -- the lists come next: the k-th number of the list of the t-th stream
-list_is : (fields : Fields) (text : List ℕ) (streams : List Listed) (t k : ℕ) → IsText fields text streams → t < length streams → k < length (get_or streams t no_stream).blocks
-    → nth_u32 text (1 + length streams + length (flat_map (λ s. s.blocks) (take t streams)) + k) ≡ get_or (get_or streams t no_stream).blocks k 0
-list_is fields text streams t k h lt below =
+list_is : (fields : Fields) (contents : List ℕ) (streams : List Listed) (t k : ℕ) → IsText fields contents streams → t < length streams → k < length (get_or streams t no_stream).blocks
+    → nth_u32 contents (1 + length streams + length (flat_map (λ s. s.blocks) (take t streams)) + k) ≡ get_or (get_or streams t no_stream).blocks k 0
+list_is fields contents streams t k h lt below =
     let sizes = map (λ (s : Listed). s.size) streams in
     let blocks_of = λ (s : Listed). s.blocks in
     let blocks = flat_map blocks_of streams in
@@ -87,16 +87,16 @@ list_is fields text streams t k h lt below =
     ∙ nth_u32-u32s numbers h.lists.rest at (omega (arith, length-append sizes blocks, counted, within)) (rw here small) ∙ here
 
 -- a stream has as many blocks as its list has numbers
-blocks_is : (fields : Fields) (text : List ℕ) (streams : List Listed) (t : ℕ) → IsText fields text streams → t < length streams → stream_blocks fields.block_size text t ≡ length (get_or streams t no_stream).blocks
+blocks_is : (fields : Fields) (contents : List ℕ) (streams : List Listed) (t : ℕ) → IsText fields contents streams → t < length streams → stream_blocks fields.block_size contents t ≡ length (get_or streams t no_stream).blocks
 unfolding stream_blocks
-blocks_is fields text streams t h lt =
-    rw (size_is fields text streams t h lt) (sym (All-get_or (IsListed fields) streams t no_stream lt h.lists.each).count)
+blocks_is fields contents streams t h lt =
+    rw (size_is fields contents streams t h lt) (sym (All-get_or (IsListed fields) streams t no_stream lt h.lists.each).count)
 
 -- a list begins after the number of streams, the sizes and the lists before it
-start_is : (fields : Fields) (text : List ℕ) (streams : List Listed) (t : ℕ) → IsText fields text streams → t ≤ length streams
-    → list_start fields.block_size text t ≡ 1 + length streams + length (flat_map (λ s. s.blocks) (take t streams))
-start_is fields text streams zero h le = omega (arith, list_start_zero fields.block_size text, count_is fields text streams h)
-start_is fields text streams (suc t) h le =
+start_is : (fields : Fields) (contents : List ℕ) (streams : List Listed) (t : ℕ) → IsText fields contents streams → t ≤ length streams
+    → list_start fields.block_size contents t ≡ 1 + length streams + length (flat_map (λ s. s.blocks) (take t streams))
+start_is fields contents streams zero h le = omega (arith, list_start_zero fields.block_size contents, count_is fields contents streams h)
+start_is fields contents streams (suc t) h le =
     let blocks_of = λ (s : Listed). s.blocks in
     let this = get_or streams t no_stream in
     let one : suc t ≡ t + 1 = omega arith in
@@ -104,42 +104,42 @@ start_is fields text streams (suc t) h le =
     ap (flat_map blocks_of) (take-suc streams t no_stream (omega arith)) ∙ flat_map-append blocks_of (take t streams) (this ∷ []) ∙ ap (λ (x : List ℕ). flat_map blocks_of (take t streams) ++ x) (append-nil this.blocks) in
     let len : length (flat_map blocks_of (take (suc t) streams)) ≡ length (flat_map blocks_of (take t streams)) + length this.blocks =
     ap length more ∙ length-append (flat_map blocks_of (take t streams)) this.blocks in
-    let next : list_start fields.block_size text (suc t) ≡ list_start fields.block_size text t + stream_blocks fields.block_size text t = rw one (list_start_more fields.block_size text t) in
-    omega (arith, next, start_is fields text streams t h (omega arith), blocks_is fields text streams t h (omega arith), len)
+    let next : list_start fields.block_size contents (suc t) ≡ list_start fields.block_size contents t + stream_blocks fields.block_size contents t = rw one (list_start_more fields.block_size contents t) in
+    omega (arith, next, start_is fields contents streams t h (omega arith), blocks_is fields contents streams t h (omega arith), len)
 
 -- the checks of a stream hold
-stream_holds : (fields : Fields) (text : List ℕ) (streams : List Listed) (t : ℕ) → IsText fields text streams → t < length streams → first_failing (stream_checks fields text t) ≡ None
+stream_holds : (fields : Fields) (contents : List ℕ) (streams : List Listed) (t : ℕ) → IsText fields contents streams → t < length streams → first_failing (stream_checks fields contents t) ≡ None
 unfolding stream_checks
-stream_holds fields text streams t h lt =
+stream_holds fields contents streams t h lt =
     let b = fields.block_size in
     let this = get_or streams t no_stream in
-    checks_below-all (stream_block_check fields text t) (stream_blocks b text t) (λ k below.
-    let inside : k < length this.blocks = omega (arith, below, blocks_is fields text streams t h lt) in
-    let block = nth_u32 text (list_start b text t + k) in
-    let is : block ≡ get_or this.blocks k 0 = rw (start_is fields text streams t h (omega arith)) (list_is fields text streams t k h lt inside) in
+    checks_below-all (stream_block_check fields contents t) (stream_blocks b contents t) (λ k below.
+    let inside : k < length this.blocks = omega (arith, below, blocks_is fields contents streams t h lt) in
+    let block = nth_u32 contents (list_start b contents t + k) in
+    let is : block ≡ get_or this.blocks k 0 = rw (start_is fields contents streams t h (omega arith)) (list_is fields contents streams t k h lt inside) in
     let o : IsOrdinary fields.num_blocks (get_or this.blocks k 0) = All-get_or (IsOrdinary fields.num_blocks) this.blocks k 0 inside (All-get_or (IsListed fields) streams t no_stream lt h.lists.each).ordinary in
     let ordinary : IsOrdinary fields.num_blocks block = rw is o in
     check_holds (is_ordinary fields.num_blocks block) (StreamBlock t k block) (grind (arith, nat_tests)))
 
 -- the checks of the directory's length hold
-length_holds : (fields : Fields) (text : List ℕ) (streams : List Listed) → IsText fields text streams → first_failing (length_checks fields.block_size text) ≡ None
+length_holds : (fields : Fields) (contents : List ℕ) (streams : List Listed) → IsText fields contents streams → first_failing (length_checks fields.block_size contents) ≡ None
 unfolding length_checks
-length_holds fields text streams h =
+length_holds fields contents streams h =
     let n = length streams in
-    let long = section_len fields text streams h.lists in
+    let long = section_len fields contents streams h.lists in
     let whole : take n streams ≡ streams = take_all n streams (omega arith) in
-    let count = count_is fields text streams h in
-    let end : list_start fields.block_size text n ≡ 1 + n + length (flat_map (λ s. s.blocks) streams) =
-    start_is fields text streams n h (omega arith) ∙ rw whole refl in
-    let a : nat_le 4 (length text) ≡ true = grind (arith, nat_tests) in
-    let b : nat_le (4 + 4 * nth_u32 text 0) (length text) ≡ true = grind (arith, nat_tests) in
-    let c : nat_le (4 * list_start fields.block_size text (nth_u32 text 0)) (length text) ≡ true = rw count (grind (arith, nat_tests)) in
+    let count = count_is fields contents streams h in
+    let end : list_start fields.block_size contents n ≡ 1 + n + length (flat_map (λ s. s.blocks) streams) =
+    start_is fields contents streams n h (omega arith) ∙ rw whole refl in
+    let a : nat_le 4 (length contents) ≡ true = grind (arith, nat_tests) in
+    let b : nat_le (4 + 4 * nth_u32 contents 0) (length contents) ≡ true = grind (arith, nat_tests) in
+    let c : nat_le (4 * list_start fields.block_size contents (nth_u32 contents 0)) (length contents) ≡ true = rw count (grind (arith, nat_tests)) in
     rw (a, b, c) refl
 
 -- the checks of the directory's blocks hold
-blocks_hold : (file : List ℕ) (fields : Fields) (text : List ℕ) → IsDirectory file fields text → first_failing (directory_block_checks file fields) ≡ None
+blocks_hold : (file : List ℕ) (fields : Fields) (contents : List ℕ) → IsDirectory file fields contents → first_failing (directory_block_checks file fields) ≡ None
 unfolding directory_block_checks
-blocks_hold file fields text h =
+blocks_hold file fields contents h =
     checks_below-all (directory_block_check file fields) (directory_blocks fields) (λ k below.
     let block = map_number file fields k in
     let o : IsOrdinary fields.num_blocks block = h.ordinary k below in
@@ -166,15 +166,15 @@ layout_holds file layout bytes h =
     let fields = layout.superblock in
     let is = fields_are file fields h.superblock in
     let fit = h.superblock.fit in
-    let long : length h.text ≡ fields.directory_bytes = ap length h.directory.text_is ∙ text_length file fields in
-    let t : IsText fields h.text layout.streams = record {
+    let long : length h.contents ≡ fields.directory_bytes = ap length h.directory.contents_is ∙ contents_length file fields in
+    let t : IsText fields h.contents layout.streams = record {
       lists = h.lists;
       short = omega (arith, long, listed_short fields.block_size fields.directory_bytes fit.block_size_fits fit.directory_fits);
       few_blocks = rw (← h.superblock.num_blocks_is) (number_at-small file 40 bytes);
     } in
-    let blocks = blocks_hold file fields h.text h.directory in
-    let streams : first_failing (checks_below (length layout.streams) (stream_checks fields h.text)) ≡ None =
-    checks_below-all (stream_checks fields h.text) (length layout.streams) (λ k lt. stream_holds fields h.text layout.streams k t lt) in
-    stream_answer file fields h.text (length layout.streams) is h.directory.text_is (superblock_holds file fields h.superblock) blocks (length_holds fields h.text layout.streams t)
-    (sym (count_is fields h.text layout.streams t))
+    let blocks = blocks_hold file fields h.contents h.directory in
+    let streams : first_failing (checks_below (length layout.streams) (stream_checks fields h.contents)) ≡ None =
+    checks_below-all (stream_checks fields h.contents) (length layout.streams) (λ k lt. stream_holds fields h.contents layout.streams k t lt) in
+    stream_answer file fields h.contents (length layout.streams) is h.directory.contents_is (superblock_holds file fields h.superblock) blocks (length_holds fields h.contents layout.streams t)
+    (sym (count_is fields h.contents layout.streams t))
     ∙ streams

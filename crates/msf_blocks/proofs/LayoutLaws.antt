@@ -37,33 +37,33 @@ after_blocks file fields is a b =
     ap first_failing (checks_are file fields is) ∙ first_failing-append_none (superblock_checks file) _ a ∙ first_failing-append_none (directory_block_checks file fields) _ b
 
 -- after these, a fault of the length of the directory is the fault of the layout
-pub length_fault : (file : List ℕ) (fields : Fields) (text : List ℕ) (fault : MsfFault) → fields ≡ fields_of file → text ≡ directory_contents file fields → first_failing (superblock_checks file) ≡ None → first_failing (directory_block_checks file fields) ≡ None
-    → first_failing (length_checks fields.block_size text) ≡ Some fault → first_failing (layout_checks file) ≡ Some fault
-length_fault file fields text fault is text_is a b e =
-    let here : first_failing (length_checks fields.block_size (directory_contents file fields)) ≡ Some fault = rw (← text_is) e in
+pub length_fault : (file : List ℕ) (fields : Fields) (contents : List ℕ) (fault : MsfFault) → fields ≡ fields_of file → contents ≡ directory_contents file fields → first_failing (superblock_checks file) ≡ None → first_failing (directory_block_checks file fields) ≡ None
+    → first_failing (length_checks fields.block_size contents) ≡ Some fault → first_failing (layout_checks file) ≡ Some fault
+length_fault file fields contents fault is contents_is a b e =
+    let here : first_failing (length_checks fields.block_size (directory_contents file fields)) ≡ Some fault = rw (← contents_is) e in
     after_blocks file fields is a b ∙ first_failing-append_some (length_checks fields.block_size (directory_contents file fields)) _ fault here
 
 -- after these, the first fault of the layout is the first fault of its streams
-pub stream_answer : (file : List ℕ) (fields : Fields) (text : List ℕ) (n : ℕ) → fields ≡ fields_of file → text ≡ directory_contents file fields → first_failing (superblock_checks file) ≡ None → first_failing (directory_block_checks file fields) ≡ None
-    → first_failing (length_checks fields.block_size text) ≡ None → n ≡ nth_u32 text 0
-    → first_failing (layout_checks file) ≡ first_failing (checks_below n (stream_checks fields text))
-stream_answer file fields text n is text_is a b l e =
-    let here : first_failing (length_checks fields.block_size (directory_contents file fields)) ≡ None = rw (← text_is) l in
-    after_blocks file fields is a b ∙ first_failing-append_none (length_checks fields.block_size (directory_contents file fields)) _ here ∙ rw (e, text_is) refl
+pub stream_answer : (file : List ℕ) (fields : Fields) (contents : List ℕ) (n : ℕ) → fields ≡ fields_of file → contents ≡ directory_contents file fields → first_failing (superblock_checks file) ≡ None → first_failing (directory_block_checks file fields) ≡ None
+    → first_failing (length_checks fields.block_size contents) ≡ None → n ≡ nth_u32 contents 0
+    → first_failing (layout_checks file) ≡ first_failing (checks_below n (stream_checks fields contents))
+stream_answer file fields contents n is contents_is a b l e =
+    let here : first_failing (length_checks fields.block_size (directory_contents file fields)) ≡ None = rw (← contents_is) l in
+    after_blocks file fields is a b ∙ first_failing-append_none (length_checks fields.block_size (directory_contents file fields)) _ here ∙ rw (e, contents_is) refl
 
 -- ---- the streams that are listed
 
 -- a stream that was read is the stream that is listed
-pub stream_is : {A : Type 0} (b : ℕ) (text : List ℕ) (t start count : ℕ) (s : Stream A) → s.size ≡ nth_u32 text (1 + t) → start ≡ list_start b text t → count ≡ stream_blocks b text t
-    → s.blocks.items ≡ map (λ k. nth_u32 text (start + k)) (range_with_len 0 count) → listed_of s ≡ listed_at b text t
+pub stream_is : {A : Type 0} (b : ℕ) (contents : List ℕ) (t start count : ℕ) (s : Stream A) → s.size ≡ nth_u32 contents (1 + t) → start ≡ list_start b contents t → count ≡ stream_blocks b contents t
+    → s.blocks.items ≡ map (λ k. nth_u32 contents (start + k)) (range_with_len 0 count) → listed_of s ≡ listed_at b contents t
 unfolding listed_at
-stream_is b text t start count s size at long items = rw (size, items, at, long) refl
+stream_is b contents t start count s size at long items = rw (size, items, at, long) refl
 
 -- one more stream
-pub listed_more : {A : Type 0} (b : ℕ) (text : List ℕ) (t : ℕ) (xs : List (Stream A)) (s : Stream A) → map listed_of xs ≡ listed_below b text t → listed_of s ≡ listed_at b text t
-    → map listed_of (xs ++ s ∷ []) ≡ listed_below b text (t + 1)
-listed_more b text t xs s before here =
-    map-append listed_of xs (s ∷ []) ∙ rw (before, here) (sym (map_range_more (listed_at b text) t))
+pub listed_more : {A : Type 0} (b : ℕ) (contents : List ℕ) (t : ℕ) (xs : List (Stream A)) (s : Stream A) → map listed_of xs ≡ listed_below b contents t → listed_of s ≡ listed_at b contents t
+    → map listed_of (xs ++ s ∷ []) ≡ listed_below b contents (t + 1)
+listed_more b contents t xs s before here =
+    map-append listed_of xs (s ∷ []) ∙ rw (before, here) (sym (map_range_more (listed_at b contents) t))
 
 -- if all checks hold, then the checks of the blocks of the directory hold, and so do those of the streams
 pub layout_parts : (file : List ℕ) (fields : Fields) → fields ≡ fields_of file → first_failing (layout_checks file) ≡ None

@@ -33,85 +33,85 @@ shifted : (f : ℕ → ℕ) (a c n : ℕ) → map (λ k. f (a + k)) (range_with_
 shifted f a c zero = refl
 shifted f a c (suc n) = let e : a + (c + 1) ≡ a + c + 1 = omega arith in ap (λ (xs : List ℕ). f (a + c) ∷ xs) (shifted f a (c + 1) n ∙ rw e refl)
 
-sizes_from : (b : ℕ) (text : List ℕ) (a n : ℕ) → map (λ s. s.size) (map (listed_at b text) (range_with_len a n)) ≡ map (nth_u32 text) (range_with_len (1 + a) n)
+sizes_from : (b : ℕ) (contents : List ℕ) (a n : ℕ) → map (λ s. s.size) (map (listed_at b contents) (range_with_len a n)) ≡ map (nth_u32 contents) (range_with_len (1 + a) n)
 unfolding listed_at
-sizes_from b text a zero = refl
-sizes_from b text a (suc n) = let e : 1 + (a + 1) ≡ 1 + a + 1 = omega arith in ap (λ (xs : List ℕ). nth_u32 text (1 + a) ∷ xs) (sizes_from b text (a + 1) n ∙ rw e refl)
+sizes_from b contents a zero = refl
+sizes_from b contents a (suc n) = let e : 1 + (a + 1) ≡ 1 + a + 1 = omega arith in ap (λ (xs : List ℕ). nth_u32 contents (1 + a) ∷ xs) (sizes_from b contents (a + 1) n ∙ rw e refl)
 
 -- the lists of the first n streams are the numbers after the sizes, up to the position where the next list begins
-lists_are : (b : ℕ) (text : List ℕ) (n : ℕ) → (extra : ℕ) × (list_start b text n ≡ (1 + nth_u32 text 0) + extra) × (flat_map (λ s. s.blocks) (listed_below b text n) ≡ map (nth_u32 text) (range_with_len (1 + nth_u32 text 0) extra))
+lists_are : (b : ℕ) (contents : List ℕ) (n : ℕ) → (extra : ℕ) × (list_start b contents n ≡ (1 + nth_u32 contents 0) + extra) × (flat_map (λ s. s.blocks) (listed_below b contents n) ≡ map (nth_u32 contents) (range_with_len (1 + nth_u32 contents 0) extra))
 unfolding listed_at
-lists_are b text zero = (0, omega (arith, list_start_zero b text), refl)
-lists_are b text (suc n) =
-    let before = lists_are b text n in
-    let c = stream_blocks b text n in
+lists_are b contents zero = (0, omega (arith, list_start_zero b contents), refl)
+lists_are b contents (suc n) =
+    let before = lists_are b contents n in
+    let c = stream_blocks b contents n in
     let one : suc n ≡ n + 1 = omega arith in
-    let zeros : list_start b text n + 0 ≡ (1 + nth_u32 text 0) + before.0 = omega (arith, before.1) in
-    let next : (listed_at b text n).blocks ≡ map (nth_u32 text) (range_with_len ((1 + nth_u32 text 0) + before.0) c) = shifted (nth_u32 text) (list_start b text n) 0 c ∙ rw zeros refl in
-    let single : flat_map (λ s. s.blocks) (listed_at b text n ∷ []) ≡ (listed_at b text n).blocks = append-nil (listed_at b text n).blocks in
-    let both : flat_map (λ s. s.blocks) (listed_below b text (n + 1)) ≡ map (nth_u32 text) (range_with_len (1 + nth_u32 text 0) (before.0 + c)) =
-    ap (flat_map (λ s. s.blocks)) (map_range_more (listed_at b text) n) ∙ flat_map-append (λ s. s.blocks) (listed_below b text n) (listed_at b text n ∷ [])
-    ∙ rw (before.2, single, next) (sym (range_split (nth_u32 text) (1 + nth_u32 text 0) before.0 c)) in (
+    let zeros : list_start b contents n + 0 ≡ (1 + nth_u32 contents 0) + before.0 = omega (arith, before.1) in
+    let next : (listed_at b contents n).blocks ≡ map (nth_u32 contents) (range_with_len ((1 + nth_u32 contents 0) + before.0) c) = shifted (nth_u32 contents) (list_start b contents n) 0 c ∙ rw zeros refl in
+    let single : flat_map (λ s. s.blocks) (listed_at b contents n ∷ []) ≡ (listed_at b contents n).blocks = append-nil (listed_at b contents n).blocks in
+    let both : flat_map (λ s. s.blocks) (listed_below b contents (n + 1)) ≡ map (nth_u32 contents) (range_with_len (1 + nth_u32 contents 0) (before.0 + c)) =
+    ap (flat_map (λ s. s.blocks)) (map_range_more (listed_at b contents) n) ∙ flat_map-append (λ s. s.blocks) (listed_below b contents n) (listed_at b contents n ∷ [])
+    ∙ rw (before.2, single, next) (sym (range_split (nth_u32 contents) (1 + nth_u32 contents 0) before.0 c)) in (
       before.0 + c,
-      rw one (omega (arith, list_start_more b text n, before.1)),
-      subst (λ (m : ℕ). flat_map (λ s. s.blocks) (listed_below b text m) ≡ map (nth_u32 text) (range_with_len (1 + nth_u32 text 0) (before.0 + c))) (sym one) both,
+      rw one (omega (arith, list_start_more b contents n, before.1)),
+      subst (λ (m : ℕ). flat_map (λ s. s.blocks) (listed_below b contents m) ≡ map (nth_u32 contents) (range_with_len (1 + nth_u32 contents 0) (before.0 + c))) (sym one) both,
     )
 
 -- the directory is the numbers of what was read, then any rest
-listing : (b : ℕ) (text : List ℕ) → AreBytes text → 4 * list_start b text (nth_u32 text 0) ≤ length text
-    → let streams = listed_below b text (nth_u32 text 0) in
-    (rest : List ℕ) × (text ≡ u32s (length streams ∷ map (λ s. s.size) streams ++ flat_map (λ s. s.blocks) streams) ++ rest)
-listing b text bytes long =
-    let n = nth_u32 text 0 in
-    let lists = lists_are b text n in
-    let streams = listed_below b text n in
-    let sizes : map (λ s. s.size) streams ≡ map (nth_u32 text) (range_with_len 1 n) = sizes_from b text 0 n in
+listing : (b : ℕ) (contents : List ℕ) → AreBytes contents → 4 * list_start b contents (nth_u32 contents 0) ≤ length contents
+    → let streams = listed_below b contents (nth_u32 contents 0) in
+    (rest : List ℕ) × (contents ≡ u32s (length streams ∷ map (λ s. s.size) streams ++ flat_map (λ s. s.blocks) streams) ++ rest)
+listing b contents bytes long =
+    let n = nth_u32 contents 0 in
+    let lists = lists_are b contents n in
+    let streams = listed_below b contents n in
+    let sizes : map (λ s. s.size) streams ≡ map (nth_u32 contents) (range_with_len 1 n) = sizes_from b contents 0 n in
     let all = n ∷ map (λ s. s.size) streams ++ flat_map (λ s. s.blocks) streams in
-    let numbers : all ≡ map (nth_u32 text) (range_with_len 0 (1 + (n + lists.0))) =
-    rw (sizes, lists.2) (sym (range_split (nth_u32 text) 0 1 (n + lists.0) ∙ ap (λ (xs : List ℕ). n ∷ xs) (range_split (nth_u32 text) 1 n lists.0))) in
-    let counted : length streams ≡ n = length-map-range_with_len (listed_at b text) 0 n in
-    let front : u32s all ≡ take (4 * (1 + (n + lists.0))) text = ap u32s numbers ∙ u32s-nth_u32 text 0 (1 + (n + lists.0)) bytes (omega (arith, lists.1)) in
-    (drop (4 * (1 + (n + lists.0))) text, sym (rw counted (ap (λ (xs : List ℕ). xs ++ drop (4 * (1 + (n + lists.0))) text) front ∙ take-append-drop (4 * (1 + (n + lists.0))) text)))
+    let numbers : all ≡ map (nth_u32 contents) (range_with_len 0 (1 + (n + lists.0))) =
+    rw (sizes, lists.2) (sym (range_split (nth_u32 contents) 0 1 (n + lists.0) ∙ ap (λ (xs : List ℕ). n ∷ xs) (range_split (nth_u32 contents) 1 n lists.0))) in
+    let counted : length streams ≡ n = length-map-range_with_len (listed_at b contents) 0 n in
+    let front : u32s all ≡ take (4 * (1 + (n + lists.0))) contents = ap u32s numbers ∙ u32s-nth_u32 contents 0 (1 + (n + lists.0)) bytes (omega (arith, lists.1)) in
+    (drop (4 * (1 + (n + lists.0))) contents, sym (rw counted (ap (λ (xs : List ℕ). xs ++ drop (4 * (1 + (n + lists.0))) contents) front ∙ take-append-drop (4 * (1 + (n + lists.0))) contents)))
 
 -- a stream whose checks hold is listed with the blocks that it needs
-listed_holds : (fields : Fields) (text : List ℕ) (t : ℕ) → AreBytes text → first_failing (stream_checks fields text t) ≡ None → IsListed fields (listed_at fields.block_size text t)
+listed_holds : (fields : Fields) (contents : List ℕ) (t : ℕ) → AreBytes contents → first_failing (stream_checks fields contents t) ≡ None → IsListed fields (listed_at fields.block_size contents t)
 unfolding stream_checks stream_blocks listed_at nth_u32
-listed_holds fields text t bytes held =
+listed_holds fields contents t bytes held =
     let b = fields.block_size in
-    let count = stream_blocks b text t in
-    let number = λ (k : ℕ). nth_u32 text (list_start b text t + k) in
+    let count = stream_blocks b contents t in
+    let number = λ (k : ℕ). nth_u32 contents (list_start b contents t + k) in
     record {
-      short = number_at-small text (4 * (1 + t)) bytes;
+      short = number_at-small contents (4 * (1 + t)) bytes;
       count = length-map-range_with_len number 0 count;
       ordinary = All-from_get_or (IsOrdinary fields.num_blocks) (map number (range_with_len 0 count)) 0 (λ k lt.
           let below : k < count = omega (arith, lt, length-map-range_with_len number 0 count) in
-          let e : is_ordinary fields.num_blocks (number k) ≡ true = check_held (is_ordinary fields.num_blocks (number k)) (StreamBlock t k (number k)) (checks_below-each (stream_block_check fields text t) count k held below) in
+          let e : is_ordinary fields.num_blocks (number k) ≡ true = check_held (is_ordinary fields.num_blocks (number k)) (StreamBlock t k (number k)) (checks_below-each (stream_block_check fields contents t) count k held below) in
           let o : IsOrdinary fields.num_blocks (number k) = (grind (arith, nat_tests), grind (arith, nat_tests)) in
           let at : get_or (map number (range_with_len 0 count)) k 0 ≡ number k = get_or-map-range_with_len number 0 count k k 0 below (omega arith) in
           rw at o);
     }
 
 -- a directory whose checks hold lists the streams that are read from it
-pub lists_what_is_read : (fields : Fields) (text : List ℕ) → AreBytes text → 4 * list_start fields.block_size text (nth_u32 text 0) ≤ length text
-    → first_failing (checks_below (nth_u32 text 0) (stream_checks fields text)) ≡ None → ListsStreams fields text (listed_below fields.block_size text (nth_u32 text 0))
-lists_what_is_read fields text bytes long held =
+pub lists_what_is_read : (fields : Fields) (contents : List ℕ) → AreBytes contents → 4 * list_start fields.block_size contents (nth_u32 contents 0) ≤ length contents
+    → first_failing (checks_below (nth_u32 contents 0) (stream_checks fields contents)) ≡ None → ListsStreams fields contents (listed_below fields.block_size contents (nth_u32 contents 0))
+lists_what_is_read fields contents bytes long held =
     let b = fields.block_size in
-    let n = nth_u32 text 0 in
-    let list = listing b text bytes long in
-    let count : length (listed_below b text n) ≡ n = length-map-range_with_len (listed_at b text) 0 n in
+    let n = nth_u32 contents 0 in
+    let list = listing b contents bytes long in
+    let count : length (listed_below b contents n) ≡ n = length-map-range_with_len (listed_at b contents) 0 n in
     record {
       rest = list.0;
       parts = list.1;
-      each = All-from_get_or (IsListed fields) (listed_below b text n) (listed_at b text 0) (λ t lt.
+      each = All-from_get_or (IsListed fields) (listed_below b contents n) (listed_at b contents 0) (λ t lt.
           let below : t < n = omega (arith, lt, count) in
-          let at : get_or (listed_below b text n) t (listed_at b text 0) ≡ listed_at b text t = get_or-map-range_with_len (listed_at b text) 0 n t t (listed_at b text 0) below (omega arith) in
-          rw at (listed_holds fields text t bytes (checks_below-each (stream_checks fields text) n t held below)));
+          let at : get_or (listed_below b contents n) t (listed_at b contents 0) ≡ listed_at b contents t = get_or-map-range_with_len (listed_at b contents) 0 n t t (listed_at b contents 0) below (omega arith) in
+          rw at (listed_holds fields contents t bytes (checks_below-each (stream_checks fields contents) n t held below)));
     }
 
 -- the bytes of the directory are bytes of the file
-pub text_bytes : (file : List ℕ) (fields : Fields) → AreBytes file → AreBytes (directory_contents file fields)
+pub contents_bytes : (file : List ℕ) (fields : Fields) → AreBytes file → AreBytes (directory_contents file fields)
 unfolding directory_contents
-text_bytes file fields each i =
+contents_bytes file fields each i =
     let byte = λ (i : ℕ). get_or file (map_number file fields (i / fields.block_size) * fields.block_size + i % fields.block_size) 0 in
     elim (cases_lt i fields.directory_bytes) [
       | inl lt ↦ rw (get_or-map-range_with_len byte 0 fields.directory_bytes i i 0 lt (omega arith)) (each (map_number file fields (i / fields.block_size) * fields.block_size + i % fields.block_size))
@@ -119,28 +119,28 @@ text_bytes file fields each i =
     ]
 
 -- what is read from a file whose checks hold is its layout
-pub layout_is : (file : List ℕ) (fields : Fields) (text : List ℕ) (n : ℕ) (streams : List Listed) → AreBytes file → IsSuperblock file fields → fields ≡ fields_of file → text ≡ directory_contents file fields
-    → n ≡ nth_u32 text 0 → 4 * list_start fields.block_size text n ≤ length text → first_failing (layout_checks file) ≡ None → streams ≡ listed_below fields.block_size text n
+pub layout_is : (file : List ℕ) (fields : Fields) (contents : List ℕ) (n : ℕ) (streams : List Listed) → AreBytes file → IsSuperblock file fields → fields ≡ fields_of file → contents ≡ directory_contents file fields
+    → n ≡ nth_u32 contents 0 → 4 * list_start fields.block_size contents n ≤ length contents → first_failing (layout_checks file) ≡ None → streams ≡ listed_below fields.block_size contents n
     → HasLayout file (record { superblock = fields; streams = streams })
-layout_is file fields text n streams bytes super is text_is count room held read =
+layout_is file fields contents n streams bytes super is contents_is count room held read =
     let parts = layout_parts file fields is held in
-    let small : AreBytes text = rw text_is (text_bytes file fields bytes) in
-    let streams_hold : first_failing (checks_below (nth_u32 text 0) (stream_checks fields text)) ≡ None = rw text_is parts.1 in
+    let small : AreBytes contents = rw contents_is (contents_bytes file fields bytes) in
+    let streams_hold : first_failing (checks_below (nth_u32 contents 0) (stream_checks fields contents)) ≡ None = rw contents_is parts.1 in
     record {
       superblock = super;
-      text = text;
+      contents = contents;
       directory = record {
         ordinary = λ k lt. map_is_ordinary file fields k (record { whole = super.whole; blocks = parts.0 }) lt;
-        text_is = text_is;
+        contents_is = contents_is;
       };
-      lists = rw (read, count) (lists_what_is_read fields text small (rw (← count) room) streams_hold);
+      lists = rw (read, count) (lists_what_is_read fields contents small (rw (← count) room) streams_hold);
     }
 
 -- what holds of every layout holds of the layout of a file
-pub layout_fits : (file : List ℕ) (fields : Fields) (text : List ℕ) (n : ℕ) (streams : List Listed) → AreBytes file → HasLayout file (record { superblock = fields; streams = streams })
-    → text ≡ directory_contents file fields → n ≡ nth_u32 text 0 → streams ≡ listed_below fields.block_size text n → IsLayout (record { superblock = fields; streams = streams })
+pub layout_fits : (file : List ℕ) (fields : Fields) (contents : List ℕ) (n : ℕ) (streams : List Listed) → AreBytes file → HasLayout file (record { superblock = fields; streams = streams })
+    → contents ≡ directory_contents file fields → n ≡ nth_u32 contents 0 → streams ≡ listed_below fields.block_size contents n → IsLayout (record { superblock = fields; streams = streams })
 unfolding nth_u32
-layout_fits file fields text n streams bytes h text_is count read =
-    let small : AreBytes text = rw text_is (text_bytes file fields bytes) in
-    let long : length streams ≡ n = rw read (length-map-range_with_len (listed_at fields.block_size text) 0 n) in
-    record { size = h.superblock.fit.block_size_fits; few = omega (arith, long, count, number_at-small text 0 small); each = h.lists.each }
+layout_fits file fields contents n streams bytes h contents_is count read =
+    let small : AreBytes contents = rw contents_is (contents_bytes file fields bytes) in
+    let long : length streams ≡ n = rw read (length-map-range_with_len (listed_at fields.block_size contents) 0 n) in
+    record { size = h.superblock.fit.block_size_fits; few = omega (arith, long, count, number_at-small contents 0 small); each = h.lists.each }

@@ -49,27 +49,27 @@ unfolding directory_block_checks
 block_others file fields = others_below (directory_blocks fields) (directory_block_check file fields) (λ k. (refl, tt))
 
 -- so do the checks of its length
-length_others : (block_size : ℕ) (text : List ℕ) → Others (length_checks block_size text)
+length_others : (block_size : ℕ) (contents : List ℕ) → Others (length_checks block_size contents)
 unfolding length_checks
-length_others block_size text = (refl, (refl, (refl, tt)))
+length_others block_size contents = (refl, (refl, (refl, tt)))
 
 -- so do the checks of a stream
-stream_others : (fields : Fields) (text : List ℕ) (t : ℕ) → Others (stream_checks fields text t)
+stream_others : (fields : Fields) (contents : List ℕ) (t : ℕ) → Others (stream_checks fields contents t)
 unfolding stream_checks
-stream_others fields text t = others_below (stream_blocks fields.block_size text t) (stream_block_check fields text t) (λ k. (refl, tt))
+stream_others fields contents t = others_below (stream_blocks fields.block_size contents t) (stream_block_check fields contents t) (λ k. (refl, tt))
 
 -- the first fault of a layout is not out of memory
 pub layout_wants_none : (file : List ℕ) → first_failing (layout_checks file) ≡ Some Memory → ⊥
 unfolding layout_checks
 layout_wants_none file is =
     let fields = fields_of file in
-    let text = directory_contents file fields in
-    let lists = checks_below (nth_u32 text 0) (stream_checks fields text) in
-    let lengths = length_checks fields.block_size text in
+    let contents = directory_contents file fields in
+    let lists = checks_below (nth_u32 contents 0) (stream_checks fields contents) in
+    let lengths = length_checks fields.block_size contents in
     let blocks = directory_block_checks file fields in
     never (fails_other (superblock_checks file ++ (blocks ++ (lengths ++ lists))) Memory
     (others_append (superblock_checks file) (blocks ++ (lengths ++ lists)) (superblock_others file)
-    (others_append blocks (lengths ++ lists) (block_others file fields) (others_append lengths lists (length_others fields.block_size text) (others_below (nth_u32 text 0) (stream_checks fields text) (λ t. stream_others fields text t))))) is)
+    (others_append blocks (lengths ++ lists) (block_others file fields) (others_append lengths lists (length_others fields.block_size contents) (others_below (nth_u32 contents 0) (stream_checks fields contents) (λ t. stream_others fields contents t))))) is)
   where
     never : true ≡ false → ⊥
     never e = absurd cc

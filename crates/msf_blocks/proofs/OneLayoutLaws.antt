@@ -12,7 +12,7 @@ use Rattle.msf_blocks.specs.Superblock.{Fields}
 use Rattle.msf_blocks.specs.Directory.{Listed, IsListed, ListsStreams, bytes_of, directory_contents}
 use Rattle.msf_blocks.specs.Layout.{LayoutView, HasLayout}
 use Rattle.msf_blocks.proofs.FoundLaws.{fields_are}
-use Rattle.msf_blocks.proofs.DirectoryLaws.{text_length}
+use Rattle.msf_blocks.proofs.DirectoryLaws.{contents_length}
 
 -- numbers of four bytes
 abbrev IsSmall : ℕ → Type 0
@@ -76,28 +76,28 @@ lists_same fields (s ∷ ss) (t ∷ ts) xs ys few each_s each_t sizes e =
     rw (head, rest) refl
 
 -- a directory is the number of streams, the sizes and the lists
-text_parts : (streams : List Listed) (xs : List ℕ)
+contents_parts : (streams : List Listed) (xs : List ℕ)
     → u32s (length streams ∷ map (λ s. s.size) streams ++ flat_map (λ s. s.blocks) streams) ++ xs ≡ u32s (length streams ∷ []) ++ (u32s (map (λ s. s.size) streams) ++ (lists_of streams ++ xs))
-text_parts streams xs =
+contents_parts streams xs =
     let sizes = map (λ (s : Listed). s.size) streams in
     let blocks = flat_map (λ (s : Listed). s.blocks) streams in
     u32s_first (length streams) (sizes ++ blocks) xs
     ∙ ap (λ (t : List ℕ). u32s (length streams ∷ []) ++ t) (ap (λ (t : List ℕ). t ++ xs) (flat_map-append four_bytes sizes blocks) ∙ append_assoc (u32s sizes) (u32s blocks) xs)
 
 -- the number of streams of a directory fits in four bytes
-count_small : (fields : Fields) (text : List ℕ) (streams : List Listed) → length text < 2 ^ 32 → ListsStreams fields text streams → IsSmall (length streams)
-count_small fields text streams short h =
+count_small : (fields : Fields) (contents : List ℕ) (streams : List Listed) → length contents < 2 ^ 32 → ListsStreams fields contents streams → IsSmall (length streams)
+count_small fields contents streams short h =
     let numbers = length streams ∷ map (λ s. s.size) streams ++ flat_map (λ s. s.blocks) streams in
-    let long : length text ≡ 4 * length numbers + length h.rest = ap length h.parts ∙ length-append (u32s numbers) h.rest ∙ rw (length-u32s numbers) refl in
+    let long : length contents ≡ 4 * length numbers + length h.rest = ap length h.parts ∙ length-append (u32s numbers) h.rest ∙ rw (length-u32s numbers) refl in
     omega (arith, long, short, length-append (map (λ (s : Listed). s.size) streams) (flat_map (λ (s : Listed). s.blocks) streams), length-map streams (λ (s : Listed). s.size))
 
 -- a directory lists at most one list of streams
-pub streams_same : (fields : Fields) (text : List ℕ) (ss ts : List Listed) → fields.num_blocks < 2 ^ 32 → length text < 2 ^ 32 → ListsStreams fields text ss → ListsStreams fields text ts → ss ≡ ts
-streams_same fields text ss ts few short lists_s lists_t =
+pub streams_same : (fields : Fields) (contents : List ℕ) (ss ts : List Listed) → fields.num_blocks < 2 ^ 32 → length contents < 2 ^ 32 → ListsStreams fields contents ss → ListsStreams fields contents ts → ss ≡ ts
+streams_same fields contents ss ts few short lists_s lists_t =
     let sizes_s = map (λ (s : Listed). s.size) ss in
     let sizes_t = map (λ (s : Listed). s.size) ts in
-    let e = sym (text_parts ss lists_s.rest) ∙ sym lists_s.parts ∙ lists_t.parts ∙ text_parts ts lists_t.rest in
-    let first = first_same (length ss) (length ts) (u32s sizes_s ++ (lists_of ss ++ lists_s.rest)) (u32s sizes_t ++ (lists_of ts ++ lists_t.rest)) (count_small fields text ss short lists_s) (count_small fields text ts short lists_t) e in
+    let e = sym (contents_parts ss lists_s.rest) ∙ sym lists_s.parts ∙ lists_t.parts ∙ contents_parts ts lists_t.rest in
+    let first = first_same (length ss) (length ts) (u32s sizes_s ++ (lists_of ss ++ lists_s.rest)) (u32s sizes_t ++ (lists_of ts ++ lists_t.rest)) (count_small fields contents ss short lists_s) (count_small fields contents ts short lists_t) e in
     let many : length sizes_s ≡ length sizes_t = length-map ss (λ (s : Listed). s.size) ∙ first.0 ∙ sym (length-map ts (λ (s : Listed). s.size)) in
     let sizes = numbers_same sizes_s sizes_t (lists_of ss ++ lists_s.rest) (lists_of ts ++ lists_t.rest) many (sizes_small fields ss lists_s.each) (sizes_small fields ts lists_t.each) first.1 in
     lists_same fields ss ts lists_s.rest lists_t.rest few lists_s.each lists_t.each sizes.0 sizes.1
@@ -106,10 +106,10 @@ streams_same fields text ss ts few short lists_s lists_t =
 pub one_layout_short : (file : List ℕ) (some other : LayoutView) → some.superblock.num_blocks < 2 ^ 32 → some.superblock.directory_bytes < 2 ^ 32 → HasLayout file some → HasLayout file other → some ≡ other
 one_layout_short file some other few bytes has_s has_o =
     let fields : some.superblock ≡ other.superblock = fields_are file some.superblock has_s.superblock ∙ sym (fields_are file other.superblock has_o.superblock) in
-    let text : has_o.text ≡ has_s.text = has_o.directory.text_is ∙ ap (directory_contents file) (sym fields) ∙ sym has_s.directory.text_is in
-    let short : length has_s.text < 2 ^ 32 = rw (ap length has_s.directory.text_is ∙ text_length file some.superblock) bytes in
-    let lists : ListsStreams some.superblock has_s.text other.streams = rw (fields, ← text) has_o.lists in
-    let streams = streams_same some.superblock has_s.text some.streams other.streams few short has_s.lists lists in
+    let contents : has_o.contents ≡ has_s.contents = has_o.directory.contents_is ∙ ap (directory_contents file) (sym fields) ∙ sym has_s.directory.contents_is in
+    let short : length has_s.contents < 2 ^ 32 = rw (ap length has_s.directory.contents_is ∙ contents_length file some.superblock) bytes in
+    let lists : ListsStreams some.superblock has_s.contents other.streams = rw (fields, ← contents) has_o.lists in
+    let streams = streams_same some.superblock has_s.contents some.streams other.streams few short has_s.lists lists in
     rw (fields, streams) refl
 
 -- a file of bytes has at most one layout

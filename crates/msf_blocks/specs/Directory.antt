@@ -22,9 +22,9 @@ directory_contents file fields =
     map (λ i. slice_index file (map_number file fields (i / fields.block_size) * fields.block_size + i % fields.block_size)) (range_with_len 0 fields.directory_bytes)
 
 -- these are the contents of the directory of the file, and its blocks are ordinary
-pub record IsDirectory (file : List ℕ) (fields : Fields) (text : List ℕ) : Type 0 where
+pub record IsDirectory (file : List ℕ) (fields : Fields) (contents : List ℕ) : Type 0 where
   pub ordinary : (k : ℕ) → k < directory_blocks fields → IsOrdinary fields.num_blocks (map_number file fields k)
-  pub text_is : text ≡ directory_contents file fields
+  pub contents_is : contents ≡ directory_contents file fields
 
 -- a stream as the directory lists it: its size, which is 0xFFFFFFFF for a nil stream, and the numbers of its blocks
 pub record Listed : Type 0 where
@@ -42,9 +42,9 @@ pub record IsListed (fields : Fields) (stream : Listed) : Type 0 where
   pub ordinary : All (IsOrdinary fields.num_blocks) stream.blocks
 
 -- the directory is the number of streams, then their sizes, then their lists of blocks in turn, then any rest
-pub record ListsStreams (fields : Fields) (text : List ℕ) (streams : List Listed) : Type 0 where
+pub record ListsStreams (fields : Fields) (contents : List ℕ) (streams : List Listed) : Type 0 where
   pub rest : List ℕ
-  pub parts : text ≡ u32s (length streams ∷ map (λ s. s.size) streams ++ flat_map (λ s. s.blocks) streams) ++ rest
+  pub parts : contents ≡ u32s (length streams ∷ map (λ s. s.size) streams ++ flat_map (λ s. s.blocks) streams) ++ rest
   pub each : All (IsListed fields) streams
 
 -- ---- the checks
@@ -60,37 +60,37 @@ directory_block_checks file fields = checks_below (directory_blocks fields) (dir
 
 -- how many blocks stream t has, computed from its listed size
 unfoldable pub stream_blocks : ℕ → List ℕ → ℕ → ℕ
-stream_blocks block_size text t = blocks_for block_size (bytes_of (nth_u32 text (1 + t)))
+stream_blocks block_size contents t = blocks_for block_size (bytes_of (nth_u32 contents (1 + t)))
 
 -- the position where the list of stream t begins: after the number of streams, the sizes, and the lists of the streams before it
 unfoldable pub list_start : ℕ → List ℕ → ℕ → ℕ
-list_start block_size text zero = 1 + nth_u32 text 0
-list_start block_size text (suc t) = list_start block_size text t + stream_blocks block_size text t
+list_start block_size contents zero = 1 + nth_u32 contents 0
+list_start block_size contents (suc t) = list_start block_size contents t + stream_blocks block_size contents t
 
 -- the checks of the length of the directory: it is long enough for the number of streams, for the sizes, and for the lists
 unfoldable pub length_checks : ℕ → List ℕ → List (Check MsfFault)
-length_checks block_size text =
-    record { holds = nat_le 4 (length text); fault = DirectoryShort 4 (length text) }
-    ∷ record { holds = nat_le (4 + 4 * nth_u32 text 0) (length text); fault = DirectoryShort (4 + 4 * nth_u32 text 0) (length text) }
-    ∷ record { holds = nat_le (4 * list_start block_size text (nth_u32 text 0)) (length text); fault = DirectoryShort (4 * list_start block_size text (nth_u32 text 0)) (length text) }
+length_checks block_size contents =
+    record { holds = nat_le 4 (length contents); fault = DirectoryShort 4 (length contents) }
+    ∷ record { holds = nat_le (4 + 4 * nth_u32 contents 0) (length contents); fault = DirectoryShort (4 + 4 * nth_u32 contents 0) (length contents) }
+    ∷ record { holds = nat_le (4 * list_start block_size contents (nth_u32 contents 0)) (length contents); fault = DirectoryShort (4 * list_start block_size contents (nth_u32 contents 0)) (length contents) }
     ∷ []
 
 -- the check of block k of stream t
 abbrev pub stream_block_check : Fields → List ℕ → ℕ → ℕ → List (Check MsfFault)
-stream_block_check fields text t k =
-    let block = nth_u32 text (list_start fields.block_size text t + k) in
+stream_block_check fields contents t k =
+    let block = nth_u32 contents (list_start fields.block_size contents t + k) in
     record { holds = is_ordinary fields.num_blocks block; fault = StreamBlock t k block } ∷ []
 
 -- the checks of the blocks of stream t, in order
 unfoldable pub stream_checks : Fields → List ℕ → ℕ → List (Check MsfFault)
-stream_checks fields text t = checks_below (stream_blocks fields.block_size text t) (stream_block_check fields text t)
+stream_checks fields contents t = checks_below (stream_blocks fields.block_size contents t) (stream_block_check fields contents t)
 
 -- ---- the directory during reading
 
 -- contracts see a directory whose blocks were checked as its superblock and its contents
 pub record DirectoryView : Type 0 where
   pub superblock : Fields
-  pub text : List ℕ
+  pub contents : List ℕ
 
 -- the blocks of the directory are in the file
 pub record IsReadable (file : List ℕ) (fields : Fields) : Type 0 where
@@ -99,11 +99,11 @@ pub record IsReadable (file : List ℕ) (fields : Fields) : Type 0 where
 
 -- stream t, read at the positions of its numbers
 unfoldable pub listed_at : ℕ → List ℕ → ℕ → Listed
-listed_at block_size text t = record {
-  size = nth_u32 text (1 + t);
-  blocks = map (λ k. nth_u32 text (list_start block_size text t + k)) (range_with_len 0 (stream_blocks block_size text t));
+listed_at block_size contents t = record {
+  size = nth_u32 contents (1 + t);
+  blocks = map (λ k. nth_u32 contents (list_start block_size contents t + k)) (range_with_len 0 (stream_blocks block_size contents t));
 }
 
 -- the first streams, read at the positions of their numbers
 abbrev pub listed_below : ℕ → List ℕ → ℕ → List Listed
-listed_below block_size text count = map (listed_at block_size text) (range_with_len 0 count)
+listed_below block_size contents count = map (listed_at block_size contents) (range_with_len 0 count)

@@ -15,9 +15,9 @@ pub record LayoutView : Type 0 where
 -- the file has this layout: it begins with the superblock, and its directory lists the streams
 pub record HasLayout (file : List ℕ) (layout : LayoutView) : Type 0 where
   pub superblock : IsSuperblock file layout.superblock
-  pub text : List ℕ
-  pub directory : IsDirectory file layout.superblock text
-  pub lists : ListsStreams layout.superblock text layout.streams
+  pub contents : List ℕ
+  pub directory : IsDirectory file layout.superblock contents
+  pub lists : ListsStreams layout.superblock contents layout.streams
 
 -- what holds of every layout
 pub record IsLayout (layout : LayoutView) : Type 0 where
@@ -38,5 +38,5 @@ block_of streams s k = block_in (slice_get streams s) k
 unfoldable pub layout_checks : List ℕ → List (Check MsfFault)
 layout_checks file =
     let fields = fields_of file in
-    let text = directory_contents file fields in
-    superblock_checks file ++ (directory_block_checks file fields ++ (length_checks fields.block_size text ++ checks_below (nth_u32 text 0) (stream_checks fields text)))
+    let contents = directory_contents file fields in
+    superblock_checks file ++ (directory_block_checks file fields ++ (length_checks fields.block_size contents ++ checks_below (nth_u32 contents 0) (stream_checks fields contents)))

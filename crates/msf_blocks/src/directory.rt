@@ -38,7 +38,7 @@ impl<'a> Model for Directory<'a> {
 
     ghost Value = { DirectoryView };
 
-    ghost view = { λ d. record { superblock = d.superblock; text = directory_contents d.file.now d.superblock } };
+    ghost view = { λ d. record { superblock = d.superblock; contents = directory_contents d.file.now d.superblock } };
 
     ghost invariant = { λ d. IsReadable d.file.now d.superblock };
 }
@@ -72,12 +72,12 @@ fn check_block_map(file: &[u8], superblock: &Superblock) -> Result<(), MsfFault>
 impl<'a> Directory<'a> {
     /// Finds the directory of a file that begins with this superblock, and checks the numbers of
     /// the directory's blocks.
-    #[tactic(auto, using(crate::proofs::DirectoryLaws::text_length))]
+    #[tactic(auto, using(crate::proofs::DirectoryLaws::contents_length))]
     pub fn find(file: &'a [u8], superblock: Superblock) -> Result<Directory<'a>, MsfFault>
         requires { superblock.num_blocks * superblock.block_size ≤ length file.now }
         ensures superblock { IfOk result (λ d. d.superblock ≡ superblock) }
-        ensures text { IfOk result (λ d. d.text ≡ directory_contents file.now superblock) }
-        ensures short { IfOk result (λ d. length d.text < 2 ^ 32) }
+        ensures contents { IfOk result (λ d. d.contents ≡ directory_contents file.now superblock) }
+        ensures short { IfOk result (λ d. length d.contents < 2 ^ 32) }
         ensures first { Makes result (directory_block_checks file.now superblock) }
     {
         check_block_map(file, &superblock)?;
@@ -85,19 +85,19 @@ impl<'a> Directory<'a> {
     }
 
     /// The superblock of the file.
-    #[tactic(auto, using(crate::proofs::DirectoryLaws::text_length))]
+    #[tactic(auto, using(crate::proofs::DirectoryLaws::contents_length))]
     pub fn superblock(&self) -> Superblock
         ensures value { result ≡ self.now.superblock }
-        ensures len { length self.now.text ≡ result.directory_bytes }
+        ensures len { length self.now.contents ≡ result.directory_bytes }
     {
         self.superblock
     }
 
     /// The number at a position of the directory. The directory is a list of four-byte numbers.
-    #[tactic(auto, using(crate::proofs::DirectoryLaws::text_length, crate::proofs::DirectoryLaws::nth_u32_is, crate::proofs::DirectoryLaws::nth_u32_block, crate::proofs::DirectoryLaws::nth_u32_fits, crate::proofs::SizeLaws::size_facts))]
+    #[tactic(auto, using(crate::proofs::DirectoryLaws::contents_length, crate::proofs::DirectoryLaws::nth_u32_is, crate::proofs::DirectoryLaws::nth_u32_block, crate::proofs::DirectoryLaws::nth_u32_fits, crate::proofs::SizeLaws::size_facts))]
     pub fn number(&self, position: u32) -> u32
-        requires { 4 * position + 4 ≤ length self.now.text }
-        ensures { result ≡ nth_u32 self.now.text position }
+        requires { 4 * position + 4 ≤ length self.now.contents }
+        ensures { result ≡ nth_u32 self.now.contents position }
     {
         let block_size = self.superblock.block_size();
         let offset = 4 * position;
@@ -109,9 +109,9 @@ impl<'a> Directory<'a> {
 
     /// The listed size of a stream in bytes: 0xFFFFFFFF for a nil stream.
     pub fn size(&self, stream: u32) -> u32
-        requires there { 4 * (1 + stream) + 4 ≤ length self.now.text }
-        requires short { length self.now.text < 2 ^ 32 }
-        ensures { result ≡ nth_u32 self.now.text (1 + stream) }
+        requires there { 4 * (1 + stream) + 4 ≤ length self.now.contents }
+        requires short { length self.now.contents < 2 ^ 32 }
+        ensures { result ≡ nth_u32 self.now.contents (1 + stream) }
     {
         self.number(1 + stream)
     }
@@ -119,8 +119,8 @@ impl<'a> Directory<'a> {
     /// How many blocks a stream has.
     #[tactic(auto, unfolding(crate::specs::Directory::stream_blocks))]
     pub fn stream_blocks(&self, stream: u32) -> u32
-        requires { 4 * (1 + stream) + 4 ≤ length self.now.text }
-        ensures value { result ≡ stream_blocks self.now.superblock.block_size self.now.text stream }
+        requires { 4 * (1 + stream) + 4 ≤ length self.now.contents }
+        ensures value { result ≡ stream_blocks self.now.superblock.block_size self.now.contents stream }
         ensures few { result ≤ 2 ^ 23 }
     {
         blocks_for(self.superblock().block_size(), bytes_of(self.size(stream)))
@@ -129,9 +129,9 @@ impl<'a> Directory<'a> {
     /// The position after the last list of blocks, computed from the sizes of the streams.
     #[tactic(auto, unfolding(crate::specs::Directory::list_start))]
     fn lists_end(&self, streams: u32) -> u64
-        requires streams { streams ≡ nth_u32 self.now.text 0 }
-        requires room { 4 * (1 + streams) ≤ length self.now.text }
-        ensures value { result ≡ list_start self.now.superblock.block_size self.now.text streams }
+        requires streams { streams ≡ nth_u32 self.now.contents 0 }
+        requires room { 4 * (1 + streams) ≤ length self.now.contents }
+        ensures value { result ≡ list_start self.now.superblock.block_size self.now.contents streams }
         ensures few { result < 2 ^ 60 }
     {
         let mut end = 1 + u64::from(streams);
@@ -145,9 +145,9 @@ impl<'a> Directory<'a> {
     /// streams it lists.
     #[tactic(auto, unfolding(crate::specs::Directory::length_checks))]
     pub fn check_length(&self) -> Result<u32, MsfFault>
-        ensures streams { IfOk result (λ n. n ≡ nth_u32 self.now.text 0) }
-        ensures room { IfOk result (λ n. 4 * list_start self.now.superblock.block_size self.now.text n ≤ length self.now.text) }
-        ensures first { Makes result (length_checks self.now.superblock.block_size self.now.text) }
+        ensures streams { IfOk result (λ n. n ≡ nth_u32 self.now.contents 0) }
+        ensures room { IfOk result (λ n. 4 * list_start self.now.superblock.block_size self.now.contents n ≤ length self.now.contents) }
+        ensures first { Makes result (length_checks self.now.superblock.block_size self.now.contents) }
     {
         let have = u64::from(self.superblock().directory_bytes());
         if have < 4 {
@@ -170,10 +170,10 @@ impl<'a> Directory<'a> {
     /// `start`.
     #[tactic(auto, unfolding(crate::specs::Directory::stream_checks))]
     fn check_stream(&self, stream: u32, start: u32, count: u32) -> Result<(), MsfFault>
-        requires start { start ≡ list_start self.now.superblock.block_size self.now.text stream }
-        requires count { count ≡ stream_blocks self.now.superblock.block_size self.now.text stream }
-        requires room { 4 * (start + count) ≤ length self.now.text }
-        ensures { Makes result (stream_checks self.now.superblock self.now.text stream) }
+        requires start { start ≡ list_start self.now.superblock.block_size self.now.contents stream }
+        requires count { count ≡ stream_blocks self.now.superblock.block_size self.now.contents stream }
+        requires room { 4 * (start + count) ≤ length self.now.contents }
+        ensures { Makes result (stream_checks self.now.superblock self.now.contents stream) }
     {
         let num_blocks = self.superblock().num_blocks();
         for at in 0..count {
@@ -188,10 +188,10 @@ impl<'a> Directory<'a> {
     /// Checks the block numbers of all streams. `streams` says how many streams there are.
     #[tactic(auto, unfolding(crate::specs::Directory::list_start))]
     pub fn check_streams(&self, streams: u32) -> Result<(), MsfFault>
-        requires streams { streams ≡ nth_u32 self.now.text 0 }
-        requires room { 4 * list_start self.now.superblock.block_size self.now.text streams ≤ length self.now.text }
-        requires short { length self.now.text < 2 ^ 32 }
-        ensures { Makes result (checks_below streams (stream_checks self.now.superblock self.now.text)) }
+        requires streams { streams ≡ nth_u32 self.now.contents 0 }
+        requires room { 4 * list_start self.now.superblock.block_size self.now.contents streams ≤ length self.now.contents }
+        requires short { length self.now.contents < 2 ^ 32 }
+        ensures { Makes result (checks_below streams (stream_checks self.now.superblock self.now.contents)) }
     {
         let mut start = 1 + streams;
         for stream in 0..streams {
@@ -211,9 +211,9 @@ impl<'a> Directory<'a> {
         start: u32,
         count: u32,
     ) -> Result<Vec<u32, A>, AllocError>
-        requires room { 4 * (start + count) ≤ length self.now.text }
-        requires short { length self.now.text < 2 ^ 32 }
-        ensures { IfOk result (λ v. v.items ≡ map (λ k. nth_u32 self.now.text (start + k)) (range_with_len 0 count)) }
+        requires room { 4 * (start + count) ≤ length self.now.contents }
+        requires short { length self.now.contents < 2 ^ 32 }
+        ensures { IfOk result (λ v. v.items ≡ map (λ k. nth_u32 self.now.contents (start + k)) (range_with_len 0 count)) }
     {
         let mut numbers = Vec::with_capacity(alloc, count as usize)?;
         for k in 0..count {

@@ -51,10 +51,10 @@ impl<A: Allocator> Model for Layout<A> {
 fn check(file: &[u8]) -> Result<(Directory<'_>, u32), MsfFault>
     ensures found { IfOk result (λ r. IsSuperblock file.now r.0.superblock) }
     ensures fields { IfOk result (λ r. r.0.superblock ≡ fields_of file.now) }
-    ensures text { IfOk result (λ r. r.0.text ≡ directory_contents file.now r.0.superblock) }
-    ensures short { IfOk result (λ r. length r.0.text < 2 ^ 32) }
-    ensures streams { IfOk result (λ r. r.1 ≡ nth_u32 r.0.text 0) }
-    ensures room { IfOk result (λ r. 4 * list_start r.0.superblock.block_size r.0.text r.1 ≤ length r.0.text) }
+    ensures contents { IfOk result (λ r. r.0.contents ≡ directory_contents file.now r.0.superblock) }
+    ensures short { IfOk result (λ r. length r.0.contents < 2 ^ 32) }
+    ensures streams { IfOk result (λ r. r.1 ≡ nth_u32 r.0.contents 0) }
+    ensures room { IfOk result (λ r. 4 * list_start r.0.superblock.block_size r.0.contents r.1 ≤ length r.0.contents) }
     ensures first { Makes result (layout_checks file.now) }
 {
     let superblock = Superblock::read(file)?;
@@ -71,10 +71,10 @@ fn listed<A: Allocator + Copy>(
     directory: &Directory<'_>,
     streams: u32,
 ) -> Result<Vec<Stream<A>, A>, MsfFault>
-    requires streams { streams ≡ nth_u32 directory.now.text 0 }
-    requires room { 4 * list_start directory.now.superblock.block_size directory.now.text streams ≤ length directory.now.text }
-    requires short { length directory.now.text < 2 ^ 32 }
-    ensures value { IfOk result (λ v. map listed_of v.items ≡ listed_below directory.now.superblock.block_size directory.now.text streams) }
+    requires streams { streams ≡ nth_u32 directory.now.contents 0 }
+    requires room { 4 * list_start directory.now.superblock.block_size directory.now.contents streams ≤ length directory.now.contents }
+    requires short { length directory.now.contents < 2 ^ 32 }
+    ensures value { IfOk result (λ v. map listed_of v.items ≡ listed_below directory.now.superblock.block_size directory.now.contents streams) }
     ensures memory { IfErr result (λ fault. fault ≡ MsfFault.Memory) }
 {
     let mut listed = Vec::with_capacity(alloc, streams as usize)?;

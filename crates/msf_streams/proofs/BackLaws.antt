@@ -16,7 +16,7 @@ use Rattle.msf_blocks.specs.Superblock.{Fields, IsSuperblock, magic}
 use Rattle.msf_blocks.specs.Directory.{IsListed, IsDirectory, directory_contents, map_number, bytes_of}
 use Rattle.msf_blocks.proofs.BlockLaws.{nth_zero, nth_ge}
 use Rattle.msf_blocks.proofs.SizeLaws.{size_facts, big_enough, next_row, ceil_ge, place_below}
-use Rattle.msf_streams.specs.Streams.{gathered, text_of}
+use Rattle.msf_streams.specs.Streams.{gathered, listed_contents}
 use Rattle.msf_blocks.specs.BlockNumber.{numbers}
 use Rattle.msf_streams.specs.Image.{filled, laid_out, superblock_numbers, listed_from, blocks_of_all, directory_len, directory_count, data_count, image_blocks, superblock_part, block_map_part, directory_part, parts, image, Fits, image_fields, ReadsBack}
 use Rattle.msf_streams.proofs.RangeLaws.{map-range_with_len_parts, map-same_ranges}
@@ -50,7 +50,7 @@ listed_count b f (k ∷ ks) = ap suc (listed_count b (f + blocks_for b k) ks)
 
 -- the parts after the first ones read back as streams, in order
 pub streams_back : (b m : ℕ) (all front ts : List (List ℕ)) → 3 < b → all ≡ front ++ ts → sum_by (blocks_for b) (map length all) ≡ m + 1 → All (λ t. length t < 0xFFFFFFFF) ts
-    → map (text_of (laid_out b (nth_block b m + 1) (flat_map (filled b) all)) b) (listed_from b (sum_by (blocks_for b) (map length front)) (map length ts)) ≡ ts
+    → map (listed_contents (laid_out b (nth_block b m + 1) (flat_map (filled b) all)) b) (listed_from b (sum_by (blocks_for b) (map length front)) (map length ts)) ≡ ts
 unfolding listed_from
 streams_back b m all front [] big e count short = refl
 streams_back b m all front (t ∷ ts) big e count short =
@@ -278,7 +278,7 @@ dir_back b ts size fits =
           let below = nth_below b (data_count b sizes - 1) (2 + k) big (omega arith) in
           let ge = nth_ge b (2 + k) big in
           (omega (arith, e, ge), omega (arith, e, below));
-      text_is = sym here ∙ map-same_ranges (λ i. get_or x (get_or ns (i / b) 0 * b + i % b) 0) (λ i. get_or x (map_number x (image_fields b sizes) (i / b) * b + i % b) 0) 0 0 d (λ i lt.
+      contents_is = sym here ∙ map-same_ranges (λ i. get_or x (get_or ns (i / b) 0 * b + i % b) 0) (λ i. get_or x (map_number x (image_fields b sizes) (i / b) * b + i % b) 0) 0 0 d (λ i lt.
           let same : 0 + i ≡ i = omega arith in
           let below = place_below b d i (omega (arith, big)) lt in
           let e = map_number_back b ts (i / b) size fits below in
@@ -348,12 +348,12 @@ reads_back b ts size fits =
     let three : sum_by (blocks_for b) (map length front) ≡ f =
     omega (arith, sum_by-cons (blocks_for b) sb (bm ∷ dir ∷ []), sum_by-cons (blocks_for b) bm (dir ∷ []), sum_by-cons (blocks_for b) dir [], p.0, p.1, p.2) in
     let all = streams_back b m (parts b ts) front ts big refl (all_blocks b ts size fits) (all_lengths ts short) in
-    let back : map (text_of (image b ts) b) (listed_from b f sizes) ≡ ts = rw (image_is b ts) (rw three at all) in
+    let back : map (listed_contents (image b ts) b) (listed_from b f sizes) ≡ ts = rw (image_is b ts) (rw three at all) in
     record {
       long = image_long_as_said b ts size fits;
       layout = record {
         superblock = super_back b ts size fits;
-        text = directory_part b sizes;
+        contents = directory_part b sizes;
         directory = dir_back b ts size fits;
         lists = record {
           rest = [];
@@ -361,5 +361,5 @@ reads_back b ts size fits =
           each = each_listed b f (q + 1) m sizes big (omega arith) (omega arith) h.0 short (image_fields b sizes) refl refl;
         };
       };
-      streams = λ s. sym (slice_get-map (text_of (image b ts) b) (listed_from b f sizes) s) ∙ ap (λ (texts : List (List ℕ)). slice_get texts s) back;
+      streams = λ s. sym (slice_get-map (listed_contents (image b ts) b) (listed_from b f sizes) s) ∙ ap (λ (contents : List (List ℕ)). slice_get contents s) back;
     }

@@ -12,7 +12,7 @@ use Rattle.msf_blocks.specs.BlockNumber.{is_map_block, blocks_for, data_blocks}
 use Rattle.msf_blocks.specs.Superblock.{magic}
 use Rattle.msf_blocks.specs.Directory.{Listed, bytes_of}
 use Rattle.msf_blocks.specs.Layout.{LayoutView}
-use Rattle.msf_streams.specs.Streams.{gathered, text_of, stream_contents}
+use Rattle.msf_streams.specs.Streams.{gathered, listed_contents, stream_contents}
 use Rattle.msf_blocks.specs.FreeMap.{map_byte, map_block}
 use Rattle.msf_blocks.specs.BlockNumber.{numbers}
 use Rattle.msf_streams.specs.Image.{filled, data_block, image_block, laid_out, superblock_numbers, superblock_part, block_map_part, directory_part, directory_count, blocks_of_all, parts, image, image_blocks}
@@ -58,16 +58,16 @@ map_are_bytes b n k = elim (cases_Bool (nat_eq (k % b) 1)) [
   | inr other ↦ rw other (bytes_replicate b 255 (omega arith))
 ]
 
-block_is_bytes : (b n : ℕ) (text : List ℕ) (k : ℕ) → AreBytes text → AreBytes (image_block b n text k)
+block_is_bytes : (b n : ℕ) (bytes : List ℕ) (k : ℕ) → AreBytes bytes → AreBytes (image_block b n bytes k)
 unfolding image_block data_block
-block_is_bytes b n text k each = elim (cases_Bool (is_map_block b k)) [
+block_is_bytes b n bytes k each = elim (cases_Bool (is_map_block b k)) [
   | inl one ↦ rw one (map_are_bytes b n k)
-  | inr other ↦ rw other (bytes_take b (drop (length (data_blocks b k) * b) text) (bytes_drop (length (data_blocks b k) * b) text each))
+  | inr other ↦ rw other (bytes_take b (drop (length (data_blocks b k) * b) bytes) (bytes_drop (length (data_blocks b k) * b) bytes each))
 ]
 
-laid_are_bytes : (b n : ℕ) (text : List ℕ) → AreBytes text → AreBytes (laid_out b n text)
+laid_are_bytes : (b n : ℕ) (bytes : List ℕ) → AreBytes bytes → AreBytes (laid_out b n bytes)
 unfolding laid_out
-laid_are_bytes b n text each = bytes_flat_map (image_block b n text) (range_with_len 0 n) (λ k. block_is_bytes b n text k each)
+laid_are_bytes b n bytes each = bytes_flat_map (image_block b n bytes) (range_with_len 0 n) (λ k. block_is_bytes b n bytes k each)
 
 filled_are_bytes : (b : ℕ) (part : List ℕ) → AreBytes part → AreBytes (filled b part)
 unfolding filled
@@ -92,12 +92,12 @@ unfolding directory_part
 directory_is_bytes b sizes = u32s_are_bytes (length sizes ∷ sizes ++ numbers b (2 + directory_count b sizes) (blocks_of_all b sizes))
 
 -- the image of streams of bytes is made of bytes
-pub image_is_bytes : (b : ℕ) (texts : List (List ℕ)) → AllByRecursion AreBytes texts → AreBytes (image b texts)
+pub image_is_bytes : (b : ℕ) (contents : List (List ℕ)) → AllByRecursion AreBytes contents → AreBytes (image b contents)
 unfolding image parts
-image_is_bytes b texts each =
-    let sizes = map length texts in
-    laid_are_bytes b (image_blocks b sizes) (flat_map (filled b) (parts b texts))
-    (all_are_bytes b (parts b texts) (superblock_is_bytes b sizes, (block_map_is_bytes b sizes, (directory_is_bytes b sizes, each))))
+image_is_bytes b contents each =
+    let sizes = map length contents in
+    laid_are_bytes b (image_blocks b sizes) (flat_map (filled b) (parts b contents))
+    (all_are_bytes b (parts b contents) (superblock_is_bytes b sizes, (block_map_is_bytes b sizes, (directory_is_bytes b sizes, each))))
 
 -- ---- a stream
 
@@ -107,12 +107,12 @@ gathered_are_bytes file b blocks size each =
     bytes_map (λ i. get_or file (get_or blocks (i / b) 0 * b + i % b) 0) (range_with_len 0 size) (λ i. each (get_or blocks (i / b) 0 * b + i % b))
 
 -- a stream of a file of bytes is made of bytes, if there is such a stream
-some_are_bytes : (file : List ℕ) (b : ℕ) (stream : Option Listed) (text : List ℕ) → AreBytes file → option_map (text_of file b) stream ≡ Some text → AreBytes text
-some_are_bytes file b None text each e = absurd cc
-some_are_bytes file b (Some stream) text each e =
-    let is : text_of file b stream ≡ text = cc in
+some_are_bytes : (file : List ℕ) (b : ℕ) (stream : Option Listed) (bytes : List ℕ) → AreBytes file → option_map (listed_contents file b) stream ≡ Some bytes → AreBytes bytes
+some_are_bytes file b None bytes each e = absurd cc
+some_are_bytes file b (Some stream) bytes each e =
+    let is : listed_contents file b stream ≡ bytes = cc in
     rw (← is) (gathered_are_bytes file b stream.blocks (bytes_of stream.size) each)
 
 -- each stream of a file of bytes is made of bytes
-pub stream_is_bytes : (file : List ℕ) (layout : LayoutView) (s : ℕ) (text : List ℕ) → AreBytes file → stream_contents file layout s ≡ Some text → AreBytes text
-stream_is_bytes file layout s text each e = some_are_bytes file layout.superblock.block_size (slice_get layout.streams s) text each e
+pub stream_is_bytes : (file : List ℕ) (layout : LayoutView) (s : ℕ) (bytes : List ℕ) → AreBytes file → stream_contents file layout s ≡ Some bytes → AreBytes bytes
+stream_is_bytes file layout s bytes each e = some_are_bytes file layout.superblock.block_size (slice_get layout.streams s) bytes each e

@@ -53,12 +53,12 @@ pub short_pushed : {X : Type 0} (f : X → ℕ) (xs : List X) (i size : ℕ) (d 
 short_pushed f xs i size d so_far lt is small = rw (take_more xs i d lt) (All-push (λ x. f x < 2 ^ 32) (take i xs) (get_or xs i d) so_far (rw (← is) small))
 
 -- all streams are short
-pub all_short : {X : Type 0} (f : X → List ℕ) (xs : List X) (i : ℕ) → length xs ≤ i → All (λ x. length (f x) < 2 ^ 32) (take i xs) → All (λ text. length text < 2 ^ 32) (map f xs)
-all_short f xs i le so_far = All-map (λ text. length text < 2 ^ 32) f xs (rw (take_all i xs le) at so_far)
+pub all_short : {X : Type 0} (f : X → List ℕ) (xs : List X) (i : ℕ) → length xs ≤ i → All (λ x. length (f x) < 2 ^ 32) (take i xs) → All (λ bytes. length bytes < 2 ^ 32) (map f xs)
+all_short f xs i le so_far = All-map (λ bytes. length bytes < 2 ^ 32) f xs (rw (take_all i xs le) at so_far)
 
 -- one stream is not short
-pub not_short : {X : Type 0} (f : X → List ℕ) (xs : List X) (i : ℕ) (d : X) → i < length xs → 2 ^ 32 ≤ length (f (get_or xs i d)) → All (λ text. length text < 2 ^ 32) (map f xs) → ⊥
+pub not_short : {X : Type 0} (f : X → List ℕ) (xs : List X) (i : ℕ) (d : X) → i < length xs → 2 ^ 32 ≤ length (f (get_or xs i d)) → All (λ bytes. length bytes < 2 ^ 32) (map f xs) → ⊥
 not_short f xs i d lt long short =
-    let here = All-get_or (λ text. length text < 2 ^ 32) (map f xs) i (f d) (rw (length-map xs f) lt) short in
+    let here = All-get_or (λ bytes. length bytes < 2 ^ 32) (map f xs) i (f d) (rw (length-map xs f) lt) short in
     let same : get_or (map f xs) i (f d) ≡ f (get_or xs i d) = get_or-map f xs i d (f d) lt in
     omega (arith, long, rw same at here)

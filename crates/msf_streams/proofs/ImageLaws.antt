@@ -129,9 +129,9 @@ pub part_at : (b : ℕ) (front : List (List ℕ)) (t : List ℕ) (back : List (L
 part_at b front t back pos =
     rw (flat_map-append (filled b) front (t ∷ back)) (drop_at (flat_map (filled b) front) (flat_map (filled b) (t ∷ back)) _ (length_parts b front pos))
 
-pub text_back : (b : ℕ) (t rest : List ℕ) → take (length t) (filled b t ++ rest) ≡ t
+pub bytes_back : (b : ℕ) (t rest : List ℕ) → take (length t) (filled b t ++ rest) ≡ t
 unfolding filled
-text_back b t rest = rw (append_assoc t (replicate (blocks_for b (length t) * b - length t) 0) rest) (take_at t _ (length t) refl)
+bytes_back b t rest = rw (append_assoc t (replicate (blocks_for b (length t) * b - length t) 0) rest) (take_at t _ (length t) refl)
 
 -- each part of an image reads back through the blocks that follow those of the earlier parts
 pub part_back : (b m : ℕ) (front : List (List ℕ)) (t : List ℕ) (back : List (List ℕ)) → 3 < b
@@ -147,7 +147,7 @@ part_back b m front t back big count =
     let within : f + blocks_for b (length t) ≤ m + 1 = omega (arith, count, sums) in
     let ends : (f + blocks_for b (length t)) * b ≤ (m + 1) * b = mul-le (f + blocks_for b (length t)) b (m + 1) b within (omega arith) in
     let fits : f * b + length t ≤ length all = omega (arith, long, ends, ceil_ge b (length t) (omega arith)) in
-    stretch b m f (length t) all big long within fits ∙ rw (part_at b front t back (omega arith)) (text_back b t (flat_map (filled b) back))
+    stretch b m f (length t) all big long within fits ∙ rw (part_at b front t back (omega arith)) (bytes_back b t (flat_map (filled b) back))
 
 -- ---- the length of an image
 

@@ -86,7 +86,7 @@ concat-pieces file block_size size (block ∷ blocks) some long whole =
       | inr le ↦
           let least : min block_size size ≡ block_size = omega arith in
           let fewer : length blocks ≡ blocks_for block_size (size - block_size) = omega (arith, long, one_more_for block_size size some le) in
-          rw least (ap (λ (text : List ℕ). take block_size (drop (block * block_size) file) ++ text) (concat-pieces file block_size (size - block_size) blocks some fewer others)
+          rw least (ap (λ (bytes : List ℕ). take block_size (drop (block * block_size) file) ++ bytes) (concat-pieces file block_size (size - block_size) blocks some fewer others)
           ∙ sym (gathered_more file block_size block size blocks some le here))
     ]
 
@@ -184,15 +184,15 @@ blocks_fit file fields stream whole fits = All-from_get_or (IsWhole file fields.
 -- ---- the pieces of a stream
 
 -- the joined pieces of a stream are its contents
-pub pieces_text : (file : List ℕ) (layout : LayoutView) (s : ℕ) (found : Option (List (List ℕ))) → IsLayout layout
+pub pieces_bytes : (file : List ℕ) (layout : LayoutView) (s : ℕ) (found : Option (List (List ℕ))) → IsLayout layout
     → layout.superblock.num_blocks * layout.superblock.block_size ≤ length file → found ≡ stream_pieces file layout s → IfSome found (λ p. stream_contents file layout s ≡ Some (concat p))
-pieces_text file layout s found holds whole e = elim (cases_lt s (length layout.streams)) [
+pieces_bytes file layout s found holds whole e = elim (cases_lt s (length layout.streams)) [
   | inl below ↦
       let stream = get_or layout.streams s no_stream in
       let is_stream = stream_at layout s holds below in
       let joined = concat-pieces file layout.superblock.block_size (bytes_of stream.size) stream.blocks (some_bytes layout.superblock.block_size holds.size) is_stream.fits.count
       (blocks_fit file layout.superblock stream whole is_stream.fits) in
-      rw (e, is_stream.here) (ap (λ (text : List ℕ). Some text) (sym joined))
+      rw (e, is_stream.here) (ap (λ (bytes : List ℕ). Some bytes) (sym joined))
   | inr past ↦ let none : slice_get layout.streams s ≡ None = slice_get_past layout.streams s past in rw (e, none) tt
 ]
 

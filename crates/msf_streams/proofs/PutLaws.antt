@@ -196,8 +196,8 @@ pub none_left : {X : Type 0} (h : X → List ℕ) (xs : List X) (i : ℕ) → le
 none_left h xs i le = rw (drop_all i xs le) refl
 
 -- at the start nothing was taken
-pub at_start : (old : Option (List ℕ)) (b n p : ℕ) (text : List ℕ) → Halfway old old b n (woven b n p text) p text
-at_start old b n p text = record { taken = []; split = refl; appends = Appends-nil old }
+pub at_start : (old : Option (List ℕ)) (b n p : ℕ) (bytes : List ℕ) → Halfway old old b n (woven b n p bytes) p bytes
+at_start old b n p bytes = record { taken = []; split = refl; appends = Appends-nil old }
 
 -- the first of the remaining data was not taken as a whole
 pub first_fails : (old between new : Option (List ℕ)) (b n p : ℕ) (all first rest : List ℕ) → Halfway old between b n all p (first ++ rest)

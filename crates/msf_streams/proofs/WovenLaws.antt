@@ -67,22 +67,22 @@ next_room b p some long more = elim (cases_lt p b) [
 ]
 
 -- bytes without map blocks before or between them
-plain : (b n p : ℕ) (text : List ℕ) → 0 < b → 0 < stretch b → follows_maps b p ≡ false → length text ≤ room b p → woven b n p text ≡ text
+plain : (b n p : ℕ) (bytes : List ℕ) → 0 < b → 0 < stretch b → follows_maps b p ≡ false → length bytes ≤ room b p → woven b n p bytes ≡ bytes
 unfolding woven maps_before
 plain b n p [] some long first fits = refl
 plain b n p (byte ∷ []) some long first fits = rw first refl
-plain b n p (byte ∷ next ∷ text) some long first fits =
+plain b n p (byte ∷ next ∷ bytes) some long first fits =
     let step = next_room b p some long (omega arith) in
-    rw first (ap (λ (t : List ℕ). byte ∷ t) (plain b n (p + 1) (next ∷ text) some long step.0 (omega (arith, step.1))))
+    rw first (ap (λ (t : List ℕ). byte ∷ t) (plain b n (p + 1) (next ∷ bytes) some long step.0 (omega (arith, step.1))))
 
 -- the bytes up to the next map blocks are next to each other
-pub woven_run : (b n p : ℕ) (text : List ℕ) → 0 < b → 0 < stretch b → 0 < length text → length text ≤ room b p → woven b n p text ≡ maps_before b n p ++ text
+pub woven_run : (b n p : ℕ) (bytes : List ℕ) → 0 < b → 0 < stretch b → 0 < length bytes → length bytes ≤ room b p → woven b n p bytes ≡ maps_before b n p ++ bytes
 unfolding woven
 woven_run b n p [] some long more fits = absurd (omega arith)
 woven_run b n p (byte ∷ []) some long more fits = refl
-woven_run b n p (byte ∷ next ∷ text) some long more fits =
+woven_run b n p (byte ∷ next ∷ bytes) some long more fits =
     let step = next_room b p some long (omega arith) in
-    ap (λ (t : List ℕ). maps_before b n p ++ byte ∷ t) (plain b n (p + 1) (next ∷ text) some long step.0 (omega (arith, step.1)))
+    ap (λ (t : List ℕ). maps_before b n p ++ byte ∷ t) (plain b n (p + 1) (next ∷ bytes) some long step.0 (omega (arith, step.1)))
 
 -- ---- block by block
 
@@ -165,68 +165,68 @@ three_more f k =
     let second : flat_map f (range_with_len 0 (k + 2)) ≡ flat_map f (range_with_len 0 (k + 1)) ++ f (k + 1) = rw one (blocks_more f (k + 1)) in
     blocks_more f (k + 3) ∙ rw (third, second) (simp append_assoc)
 
-data_here : (b n j : ℕ) (text : List ℕ) → 3 < b → image_block b n text (nth_block b j) ≡ data_block b text j
+data_here : (b n j : ℕ) (bytes : List ℕ) → 3 < b → image_block b n bytes (nth_block b j) ≡ data_block b bytes j
 unfolding image_block
-data_here b n j text big = rw (nth_is_data b j big, rank_is b j big) refl
+data_here b n j bytes big = rw (nth_is_data b j big, rank_is b j big) refl
 
-map_here : (b n k : ℕ) (text : List ℕ) → is_map_block b k ≡ true → image_block b n text k ≡ map_block b n k
+map_here : (b n k : ℕ) (bytes : List ℕ) → is_map_block b k ≡ true → image_block b n bytes k ≡ map_block b n k
 unfolding image_block
-map_here b n k text is = rw is refl
+map_here b n k bytes is = rw is refl
 
-take_more : (m n : ℕ) (text : List ℕ) → take (m + n) text ≡ take m text ++ take n (drop m text)
-take_more m n text =
-    let front : take m (take (m + n) text) ≡ take m text = take-take m (m + n) text (omega arith) in
-    sym (take-append-drop m (take (m + n) text)) ∙ rw (front, drop-take m n text) refl
+take_more : (m n : ℕ) (bytes : List ℕ) → take (m + n) bytes ≡ take m bytes ++ take n (drop m bytes)
+take_more m n bytes =
+    let front : take m (take (m + n) bytes) ≡ take m bytes = take-take m (m + n) bytes (omega arith) in
+    sym (take-append-drop m (take (m + n) bytes)) ∙ rw (front, drop-take m n bytes) refl
 
 -- the next block of the data
-one_more : (b n j : ℕ) (text : List ℕ) → 3 < b → (j + 2) * b ≤ length text
-    → woven b n 0 (take ((j + 2) * b) text) ≡ woven b n 0 (take ((j + 1) * b) text) ++ (maps_before b n ((j + 1) * b) ++ data_block b text (j + 1))
+one_more : (b n j : ℕ) (bytes : List ℕ) → 3 < b → (j + 2) * b ≤ length bytes
+    → woven b n 0 (take ((j + 2) * b) bytes) ≡ woven b n 0 (take ((j + 1) * b) bytes) ++ (maps_before b n ((j + 1) * b) ++ data_block b bytes (j + 1))
 unfolding data_block
-one_more b n j text big long =
+one_more b n j bytes big long =
     let split : (j + 2) * b ≡ (j + 1) * b + b = omega arith in
-    let front : length (take ((j + 1) * b) text) ≡ (j + 1) * b = omega (arith, length-take ((j + 1) * b) text) in
-    let size : length (take b (drop ((j + 1) * b) text)) ≡ b = omega (arith, length-take b (drop ((j + 1) * b) text), length-drop ((j + 1) * b) text) in
-    let at : 0 + length (take ((j + 1) * b) text) ≡ (j + 1) * b = omega (arith, front) in
-    let run = woven_run b n ((j + 1) * b) (take b (drop ((j + 1) * b) text)) (omega arith) (some_stretch b big) (omega (arith, size)) (omega (arith, size, block_room b j big)) in
-    rw split (ap (woven b n 0) (take_more ((j + 1) * b) b text) ∙ woven_parts b n 0 (take ((j + 1) * b) text) (take b (drop ((j + 1) * b) text)) ∙ rw (at, run) refl)
+    let front : length (take ((j + 1) * b) bytes) ≡ (j + 1) * b = omega (arith, length-take ((j + 1) * b) bytes) in
+    let size : length (take b (drop ((j + 1) * b) bytes)) ≡ b = omega (arith, length-take b (drop ((j + 1) * b) bytes), length-drop ((j + 1) * b) bytes) in
+    let at : 0 + length (take ((j + 1) * b) bytes) ≡ (j + 1) * b = omega (arith, front) in
+    let run = woven_run b n ((j + 1) * b) (take b (drop ((j + 1) * b) bytes)) (omega arith) (some_stretch b big) (omega (arith, size)) (omega (arith, size, block_room b j big)) in
+    rw split (ap (woven b n 0) (take_more ((j + 1) * b) b bytes) ∙ woven_parts b n 0 (take ((j + 1) * b) bytes) (take b (drop ((j + 1) * b) bytes)) ∙ rw (at, run) refl)
 
-first_block : (b n : ℕ) (text : List ℕ) → 3 < b → b ≤ length text → flat_map (image_block b n text) (range_with_len 0 (nth_block b 0 + 1)) ≡ woven b n 0 (take ((0 + 1) * b) text)
+first_block : (b n : ℕ) (bytes : List ℕ) → 3 < b → b ≤ length bytes → flat_map (image_block b n bytes) (range_with_len 0 (nth_block b 0 + 1)) ≡ woven b n 0 (take ((0 + 1) * b) bytes)
 unfolding data_block
-first_block b n text big long =
+first_block b n bytes big long =
     let zeroth = nth_zero b big in
-    let here : image_block b n text 0 ≡ take b (drop (0 * b) text) = rw zeroth at (data_here b n 0 text big) in
+    let here : image_block b n bytes 0 ≡ take b (drop (0 * b) bytes) = rw zeroth at (data_here b n 0 bytes big) in
     let none : 0 * b ≡ 0 = omega arith in
     let one : (0 + 1) * b ≡ b = omega arith in
-    let run = plain b n 0 (take b text) (omega arith) (some_stretch b big) (behind_early b 0 (omega arith)) (omega (arith, room_early b 0 (omega arith), length-take b text)) in
-    rw (zeroth, one, here, none, run) (append-nil (take b text))
+    let run = plain b n 0 (take b bytes) (omega arith) (some_stretch b big) (behind_early b 0 (omega arith)) (omega (arith, room_early b 0 (omega arith), length-take b bytes)) in
+    rw (zeroth, one, here, none, run) (append-nil (take b bytes))
 
 -- the blocks of the file up to a data block are the data so far, with its map blocks
-woven_blocks : (b n j : ℕ) (text : List ℕ) → 3 < b → (j + 1) * b ≤ length text
-    → flat_map (image_block b n text) (range_with_len 0 (nth_block b j + 1)) ≡ woven b n 0 (take ((j + 1) * b) text)
-woven_blocks b n zero text big long = first_block b n text big (omega arith)
-woven_blocks b n (suc j) text big long =
-    let f = image_block b n text in
-    let before = woven_blocks b n j text big (omega arith) in
+woven_blocks : (b n j : ℕ) (bytes : List ℕ) → 3 < b → (j + 1) * b ≤ length bytes
+    → flat_map (image_block b n bytes) (range_with_len 0 (nth_block b j + 1)) ≡ woven b n 0 (take ((j + 1) * b) bytes)
+woven_blocks b n zero bytes big long = first_block b n bytes big (omega arith)
+woven_blocks b n (suc j) bytes big long =
+    let f = image_block b n bytes in
+    let before = woven_blocks b n j bytes big (omega arith) in
     let one : suc j ≡ j + 1 = omega arith in
     let two : j + 1 + 1 ≡ j + 2 = omega arith in
-    let here = data_here b n (j + 1) text big in
-    let next : flat_map f (range_with_len 0 (nth_block b (j + 1) + 1)) ≡ woven b n 0 (take ((j + 2) * b) text) = elim (begins_at b n j big) [
+    let here = data_here b n (j + 1) bytes big in
+    let next : flat_map f (range_with_len 0 (nth_block b (j + 1) + 1)) ≡ woven b n 0 (take ((j + 2) * b) bytes) = elim (begins_at b n j big) [
       | inl beside ↦
-          blocks_more f (nth_block b (j + 1)) ∙ rw (here, beside.0, before) (sym (one_more b n j text big (omega arith) ∙ rw beside.1 refl))
+          blocks_more f (nth_block b (j + 1)) ∙ rw (here, beside.0, before) (sym (one_more b n j bytes big (omega arith) ∙ rw beside.1 refl))
       | inr behind ↦
           let k = behind.0 * b in
-          let last : f (k + 3) ≡ data_block b text (j + 1) = rw behind.2 at here in
-          let map_1 : f (k + 1) ≡ map_block b n (k + 1) = map_here b n (k + 1) text (map_at b behind.0 1 (omega arith) (inl refl)) in
-          let map_2 : f (k + 2) ≡ map_block b n (k + 2) = map_here b n (k + 2) text (map_at b behind.0 2 (omega arith) (inr refl)) in
-          let so_far : flat_map f (range_with_len 0 (k + 1)) ≡ woven b n 0 (take ((j + 1) * b) text) = rw behind.1 at before in
-          rw behind.2 (three_more f k ∙ rw (last, map_1, map_2, so_far) (sym (one_more b n j text big (omega arith) ∙ rw behind.3 refl)))
+          let last : f (k + 3) ≡ data_block b bytes (j + 1) = rw behind.2 at here in
+          let map_1 : f (k + 1) ≡ map_block b n (k + 1) = map_here b n (k + 1) bytes (map_at b behind.0 1 (omega arith) (inl refl)) in
+          let map_2 : f (k + 2) ≡ map_block b n (k + 2) = map_here b n (k + 2) bytes (map_at b behind.0 2 (omega arith) (inr refl)) in
+          let so_far : flat_map f (range_with_len 0 (k + 1)) ≡ woven b n 0 (take ((j + 1) * b) bytes) = rw behind.1 at before in
+          rw behind.2 (three_more f k ∙ rw (last, map_1, map_2, so_far) (sym (one_more b n j bytes big (omega arith) ∙ rw behind.3 refl)))
     ] in
     rw one (rw two next)
 
 -- the file that is made block by block is the data with map blocks between its bytes
-pub woven_is : (b m : ℕ) (text : List ℕ) → 3 < b → length text ≡ (m + 1) * b → laid_out b (nth_block b m + 1) text ≡ woven b (nth_block b m + 1) 0 text
+pub woven_is : (b m : ℕ) (bytes : List ℕ) → 3 < b → length bytes ≡ (m + 1) * b → laid_out b (nth_block b m + 1) bytes ≡ woven b (nth_block b m + 1) 0 bytes
 unfolding laid_out
-woven_is b m text big long = woven_blocks b (nth_block b m + 1) m text big (omega (arith, long)) ∙ rw (← long) (ap (woven b (nth_block b m + 1) 0) (take_all (length text) text (omega arith)))
+woven_is b m bytes big long = woven_blocks b (nth_block b m + 1) m bytes big (omega (arith, long)) ∙ rw (← long) (ap (woven b (nth_block b m + 1) 0) (take_all (length bytes) bytes (omega arith)))
 
 -- ---- the image
 

@@ -19,16 +19,16 @@ filled block_size part = part ++ replicate (blocks_for block_size (length part) 
 
 -- block j of the data, from 0
 unfoldable pub data_block : ℕ → List ℕ → ℕ → List ℕ
-data_block block_size text j = take block_size (drop (j * block_size) text)
+data_block block_size bytes j = take block_size (drop (j * block_size) bytes)
 
 -- block k of the file: a map block, or the next block of the data
 unfoldable pub image_block : ℕ → ℕ → List ℕ → ℕ → List ℕ
-image_block block_size num_blocks text k =
-    if is_map_block block_size k then map_block block_size num_blocks k else data_block block_size text (length (data_blocks block_size k))
+image_block block_size num_blocks bytes k =
+    if is_map_block block_size k then map_block block_size num_blocks k else data_block block_size bytes (length (data_blocks block_size k))
 
 -- the file whose data blocks hold this data in rising order, with the map blocks between them
 unfoldable pub laid_out : ℕ → ℕ → List ℕ → List ℕ
-laid_out block_size num_blocks text = flat_map (image_block block_size num_blocks text) (range_with_len 0 num_blocks)
+laid_out block_size num_blocks bytes = flat_map (image_block block_size num_blocks bytes) (range_with_len 0 num_blocks)
 
 -- ---- the parts of a file, by the sizes of its streams
 
@@ -76,17 +76,17 @@ directory_part block_size sizes =
 
 -- the parts of the file that holds these streams
 unfoldable pub parts : ℕ → List (List ℕ) → List (List ℕ)
-parts block_size texts =
-    let sizes = map length texts in
-    superblock_part block_size sizes ∷ block_map_part block_size sizes ∷ directory_part block_size sizes ∷ texts
+parts block_size contents =
+    let sizes = map length contents in
+    superblock_part block_size sizes ∷ block_map_part block_size sizes ∷ directory_part block_size sizes ∷ contents
 
 -- the image of these streams
 unfoldable pub image : ℕ → List (List ℕ) → List ℕ
-image block_size texts = laid_out block_size (image_blocks block_size (map length texts)) (flat_map (filled block_size) (parts block_size texts))
+image block_size contents = laid_out block_size (image_blocks block_size (map length contents)) (flat_map (filled block_size) (parts block_size contents))
 
 -- the contents of the streams that are lent to a writer
-abbrev pub texts_of : List (Bor (List ℕ)) → List (List ℕ)
-texts_of streams = map (λ s. s.now) streams
+abbrev pub contents_of : List (Bor (List ℕ)) → List (List ℕ)
+contents_of streams = map (λ s. s.now) streams
 
 -- the contents of a stream that is lent in parts: the parts one after the other
 abbrev pub joined : List (Bor (List ℕ)) → List ℕ
@@ -102,9 +102,9 @@ pub record Fits (block_size : ℕ) (sizes : List ℕ) : Type 0 where
   pub short : image_length block_size sizes < 2 ^ 32
 
 -- streams with these contents can be written: each length is a number of four bytes, and streams of these sizes fit in a file
-pub record Writable (block_size : ℕ) (texts : List (List ℕ)) : Type 0 where
-  pub short : All (λ text. length text < 2 ^ 32) texts
-  pub fits : Fits block_size (map length texts)
+pub record Writable (block_size : ℕ) (contents : List (List ℕ)) : Type 0 where
+  pub short : All (λ bytes. length bytes < 2 ^ 32) contents
+  pub fits : Fits block_size (map length contents)
 
 -- ---- reading back
 
@@ -133,7 +133,7 @@ image_layout block_size sizes = record {
 }
 
 -- the image of these streams has a layout whose streams are just these streams
-pub record ReadsBack (block_size : ℕ) (texts : List (List ℕ)) : Type 0 where
-  pub long : length (image block_size texts) ≡ image_length block_size (map length texts)
-  pub layout : HasLayout (image block_size texts) (image_layout block_size (map length texts))
-  pub streams : (s : ℕ) → stream_contents (image block_size texts) (image_layout block_size (map length texts)) s ≡ slice_get texts s
+pub record ReadsBack (block_size : ℕ) (contents : List (List ℕ)) : Type 0 where
+  pub long : length (image block_size contents) ≡ image_length block_size (map length contents)
+  pub layout : HasLayout (image block_size contents) (image_layout block_size (map length contents))
+  pub streams : (s : ℕ) → stream_contents (image block_size contents) (image_layout block_size (map length contents)) s ≡ slice_get contents s

@@ -9,7 +9,7 @@ use Rattle.msf_streams.specs.Streams.{stream_contents}
 
 -- the image of streams that fit reads back
 abbrev pub ImagesReadBack : Type 0
-ImagesReadBack = (block_size : ℕ) (texts : List (List ℕ)) → IsBlockSize block_size → Fits block_size (map length texts) → ReadsBack block_size texts
+ImagesReadBack = (block_size : ℕ) (contents : List (List ℕ)) → IsBlockSize block_size → Fits block_size (map length contents) → ReadsBack block_size contents
 
 -- five streams fit in a file if one block can list the blocks of their directory, and they have at most 1 GiB and 128 KiB together, each padded to whole blocks
 abbrev pub FewBlocksFit : Type 0
@@ -19,8 +19,8 @@ FewBlocksFit =
 
 -- the image of streams of bytes is made of bytes
 abbrev pub ImagesAreBytes : Type 0
-ImagesAreBytes = (block_size : ℕ) (texts : List (List ℕ)) → IsBlockSize block_size → AllByRecursion AreBytes texts → AreBytes (image block_size texts)
+ImagesAreBytes = (block_size : ℕ) (contents : List (List ℕ)) → IsBlockSize block_size → AllByRecursion AreBytes contents → AreBytes (image block_size contents)
 
 -- each stream of a file of bytes is made of bytes
 abbrev pub StreamsAreBytes : Type 0
-StreamsAreBytes = (file : List ℕ) (layout : LayoutView) (s : ℕ) (text : List ℕ) → AreBytes file → stream_contents file layout s ≡ Some text → AreBytes text
+StreamsAreBytes = (file : List ℕ) (layout : LayoutView) (s : ℕ) (bytes : List ℕ) → AreBytes file → stream_contents file layout s ≡ Some bytes → AreBytes bytes

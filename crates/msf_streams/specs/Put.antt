@@ -24,7 +24,7 @@ maps_before block_size num_blocks p =
 -- the data from byte p on, with the map blocks that come before its bytes
 unfoldable pub woven : ℕ → ℕ → ℕ → List ℕ → List ℕ
 woven block_size num_blocks p [] = []
-woven block_size num_blocks p (byte ∷ text) = maps_before block_size num_blocks p ++ byte ∷ woven block_size num_blocks (p + 1) text
+woven block_size num_blocks p (byte ∷ bytes) = maps_before block_size num_blocks p ++ byte ∷ woven block_size num_blocks (p + 1) bytes
 
 -- how many bytes of data there are from byte p on, up to the next map blocks
 unfoldable pub room : ℕ → ℕ → ℕ

@@ -10,12 +10,12 @@ gathered file block_size blocks size =
     map (λ i. slice_index file (get_or blocks (i / block_size) 0 * block_size + i % block_size)) (range_with_len 0 size)
 
 -- the contents of a stream
-abbrev pub text_of : List ℕ → ℕ → Listed → List ℕ
-text_of file block_size stream = gathered file block_size stream.blocks (bytes_of stream.size)
+abbrev pub listed_contents : List ℕ → ℕ → Listed → List ℕ
+listed_contents file block_size stream = gathered file block_size stream.blocks (bytes_of stream.size)
 
 -- the contents of the s-th stream, from 0; None where s is not a stream
 abbrev pub stream_contents : List ℕ → LayoutView → ℕ → Option (List ℕ)
-stream_contents file layout s = option_map (text_of file layout.superblock.block_size) (slice_get layout.streams s)
+stream_contents file layout s = option_map (listed_contents file layout.superblock.block_size) (slice_get layout.streams s)
 
 -- the contents of a stream in pieces: one piece for each block, and the last piece is what remains of the stream's size
 unfoldable pub pieces : List ℕ → ℕ → List ℕ → ℕ → List (List ℕ)

@@ -30,7 +30,7 @@ use std::marker::Model;
 /// `file`, and `layout` has to be the layout of that file. A nil stream and an empty stream have no
 /// pieces. `None` where `s` is not a stream. This does not allocate. ("The MSF File Format", "The
 /// Stream Directory".)
-#[tactic(auto, using(crate::proofs::PieceLaws::pieces_text, crate::proofs::PieceLaws::pieces_none))]
+#[tactic(auto, using(crate::proofs::PieceLaws::pieces_bytes, crate::proofs::PieceLaws::pieces_none))]
 pub fn pieces<'a, A: Allocator>(
     file: &'a [u8],
     layout: &'a Layout<A>,
@@ -38,7 +38,7 @@ pub fn pieces<'a, A: Allocator>(
 ) -> Option<StreamPieces<'a, A>>
     requires { layout.now.superblock.num_blocks * layout.now.superblock.block_size ≤ length file.now }
     ensures value { result ≡ stream_pieces file.now layout.now s }
-    ensures text { IfSome result (λ p. stream_contents file.now layout.now s ≡ Some (concat p)) }
+    ensures bytes { IfSome result (λ p. stream_contents file.now layout.now s ≡ Some (concat p)) }
     ensures count { IfSome result (λ p. IfSome (slice_get layout.now.streams s) (λ stream.
         length p ≡ blocks_for layout.now.superblock.block_size (bytes_of stream.size))) }
     ensures none { IsNone result ↔ (length layout.now.streams ≤ s) }
@@ -71,11 +71,11 @@ pub fn gather<A: Allocator + Copy, L: Allocator>(
     let (Some(size), Some(found)) = (layout.size(s), pieces(file, layout, s)) else {
         return Err(StreamFault::NoStream(s));
     };
-    let mut text = Vec::with_capacity(alloc, size as usize)?;
+    let mut bytes = Vec::with_capacity(alloc, size as usize)?;
     for piece in found {
-        text.extend_from_slice(piece)?;
+        bytes.extend_from_slice(piece)?;
     }
-    Ok(text)
+    Ok(bytes)
 }
 
 /// The pieces of a stream that are still to come, in order. [`pieces`] makes it.

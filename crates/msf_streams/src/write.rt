@@ -3,7 +3,7 @@
 ghost use Rattle.std.specs.Prelude.{◌≡◌, ◌≢◌, ◌⊎◌, ◌<◌, ◌≤◌, ◌^◌, true, All, length, map, IfSome, IfNone, IfErr, OnOk, OnErr};
 ghost use Rattle.std.specs.Io.KnownBytes.{Appends};
 ghost use Rattle.msf_blocks.specs.BlockNumber.{IsBlockSize};
-ghost use Rattle.msf_streams.specs.Image.{Writable, image, texts_of, joined, joined_of};
+ghost use Rattle.msf_streams.specs.Image.{Writable, image, contents_of, joined, joined_of};
 ghost use Rattle.msf_streams.specs.Put.{AppendsPart, IsFront};
 
 use crate::fault::WriteFault;
@@ -14,11 +14,11 @@ use byte_io::{NotTaken, Sink};
 use std::alloc::Allocator;
 
 /// The length of some bytes. `None` where it does not fit in a `u32`.
-fn size_of(text: &[u8]) -> Option<u32>
-    ensures some { IfSome result (λ size. size ≡ length text.now) }
-    ensures none { IfNone result (2 ^ 32 ≤ length text.now) }
+fn size_of(bytes: &[u8]) -> Option<u32>
+    ensures some { IfSome result (λ size. size ≡ length bytes.now) }
+    ensures none { IfNone result (2 ^ 32 ≤ length bytes.now) }
 {
-    u32::try_from(text.len()).ok()
+    u32::try_from(bytes.len()).ok()
 }
 
 /// The length of a stream that is lent in parts. `None` where it does not fit in a `u32`.
@@ -36,8 +36,8 @@ fn joined_len(parts: &[&[u8]]) -> Option<u32>
 /// The sizes of streams that are lent in parts, in bytes. `None` where one does not fit in a `u32`.
 fn sizes_of(streams: &[&[&[u8]]; 5]) -> Option<[u32; 5]>
     ensures some { IfSome result (λ sizes. sizes ≡ map length (joined_of streams.now)) }
-    ensures short { IfSome result (λ _. All (λ text. length text < 2 ^ 32) (joined_of streams.now)) }
-    ensures none { IfNone result (All (λ text. length text < 2 ^ 32) (joined_of streams.now) → ⊥) }
+    ensures short { IfSome result (λ _. All (λ bytes. length bytes < 2 ^ 32) (joined_of streams.now)) }
+    ensures none { IfNone result (All (λ bytes. length bytes < 2 ^ 32) (joined_of streams.now) → ⊥) }
 {
     let mut sizes = [0; 5];
     for i in 0..5 {
@@ -124,12 +124,12 @@ pub fn write_image<W: Sink, A: Allocator + Copy>(
     out: &mut W,
 ) -> Result<(), WriteFault>
     requires { IsBlockSize block_size }
-    ensures value { OnOk result (Appends (W.taken out.old) (W.taken out.new) (image block_size (texts_of streams.now))) }
-    ensures image { IfErr result (λ fault. fault ≡ WriteFault.Image → Writable block_size (texts_of streams.now) → ⊥) }
-    ensures found { Writable block_size (texts_of streams.now) → IfErr result (λ fault. (fault ≡ WriteFault.Memory) ⊎ (fault ≡ WriteFault.Write)) }
-    ensures writable { (result ≡ Err WriteFault.Image) ⊎ Writable block_size (texts_of streams.now) }
+    ensures value { OnOk result (Appends (W.taken out.old) (W.taken out.new) (image block_size (contents_of streams.now))) }
+    ensures image { IfErr result (λ fault. fault ≡ WriteFault.Image → Writable block_size (contents_of streams.now) → ⊥) }
+    ensures found { Writable block_size (contents_of streams.now) → IfErr result (λ fault. (fault ≡ WriteFault.Memory) ⊎ (fault ≡ WriteFault.Write)) }
+    ensures writable { (result ≡ Err WriteFault.Image) ⊎ Writable block_size (contents_of streams.now) }
     ensures write { IfErr result (λ fault. fault ≡ WriteFault.Write → (W.is_broken out.new ≡ true)
-        × AppendsPart (W.taken out.old) (W.taken out.new) (image block_size (texts_of streams.now))) }
+        × AppendsPart (W.taken out.old) (W.taken out.new) (image block_size (contents_of streams.now))) }
     ensures untouched { IfErr result (λ fault. fault ≢ WriteFault.Write → out.new ≡ out.old) }
 {
     let [first, second, third, fourth, fifth] = *streams;

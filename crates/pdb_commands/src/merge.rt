@@ -2,7 +2,7 @@
 
 ghost use Rattle.std.specs.Prelude.{◌≡◌, ◌≢◌, ◌⊎◌, ◌++◌, true, ℕ, List, OnOk, IfOk, IfErr, string_bytes};
 ghost use Rattle.std.specs.Io.KnownBytes.{Appends};
-ghost use Rattle.msf_streams.specs.Image.{texts_of};
+ghost use Rattle.msf_streams.specs.Image.{contents_of};
 ghost use Rattle.msf_streams.specs.Put.{AppendsPart};
 ghost use Rattle.pdb_info.specs.Settings.{record_limit};
 ghost use Rattle.pdb_merge.specs.Merged.{WrotePart};
@@ -64,18 +64,18 @@ pub fn run_merge<W: Sink, V: Sink, S: BuildHasher + Drop, A: Allocator + Copy>(
     report: &mut V,
     hasher: S,
 ) -> Result<(), RunFault<A>>
-    ensures value { OnOk result (WroteAndReported (texts_of files.now) settings.now (W.taken out.old) (W.taken out.new) (V.taken report.old) (V.taken report.new)) }
-    ensures can { OnOk result (CanMerge (texts_of files.now) (record_limit settings.now)) }
+    ensures value { OnOk result (WroteAndReported (contents_of files.now) settings.now (W.taken out.old) (W.taken out.new) (V.taken report.old) (V.taken report.new)) }
+    ensures can { OnOk result (CanMerge (contents_of files.now) (record_limit settings.now)) }
     // Files that can be merged are refused only when out of memory, or by a sink.
-    ensures found { CanMerge (texts_of files.now) (record_limit settings.now) → IfErr result (λ fault. (fault ≡ RunFault.Memory) ⊎ (fault ≡ RunFault.Write)) }
-    ensures first { IfErr result (IsNotMerged (texts_of files.now) (record_limit settings.now)) }
+    ensures found { CanMerge (contents_of files.now) (record_limit settings.now) → IfErr result (λ fault. (fault ≡ RunFault.Memory) ⊎ (fault ≡ RunFault.Write)) }
+    ensures first { IfErr result (IsNotMerged (contents_of files.now) (record_limit settings.now)) }
     // Files that are refused in one order are refused in any order.
     ensures any_order { IfErr result (λ fault. (inner : MergeFault A) → fault ≡ RunFault.Merge inner
-        → (others : List (List ℕ)) → SameFiles (texts_of files.now) others → CanMerge others (record_limit settings.now) → ⊥) }
-    ensures write { result ≡ Err RunFault.Write → ((W.is_broken out.new ≡ true) × WrotePart (texts_of files.now) settings.now (W.taken out.old) (W.taken out.new) × (report.new ≡ report.old))
-        ⊎ ((V.is_broken report.new ≡ true) × WroteAndBrokeOff (texts_of files.now) settings.now (W.taken out.old) (W.taken out.new) (V.taken report.old) (V.taken report.new)) }
+        → (others : List (List ℕ)) → SameFiles (contents_of files.now) others → CanMerge others (record_limit settings.now) → ⊥) }
+    ensures write { result ≡ Err RunFault.Write → ((W.is_broken out.new ≡ true) × WrotePart (contents_of files.now) settings.now (W.taken out.old) (W.taken out.new) × (report.new ≡ report.old))
+        ⊎ ((V.is_broken report.new ≡ true) × WroteAndBrokeOff (contents_of files.now) settings.now (W.taken out.old) (W.taken out.new) (V.taken report.old) (V.taken report.new)) }
     // After `Memory`, nothing was written, or the whole file and no report.
-    ensures memory { result ≡ Err RunFault.Memory → (report.new ≡ report.old) × ((out.new ≡ out.old) ⊎ WroteWhole (texts_of files.now) settings.now (W.taken out.old) (W.taken out.new)) }
+    ensures memory { result ≡ Err RunFault.Memory → (report.new ≡ report.old) × ((out.new ≡ out.old) ⊎ WroteWhole (contents_of files.now) settings.now (W.taken out.old) (W.taken out.new)) }
     ensures untouched { IfErr result (λ fault. (inner : MergeFault A) → fault ≡ RunFault.Merge inner → (out.new ≡ out.old) × (report.new ≡ report.old)) }
 {
     let summary = merge_to(alloc, files, settings, out, hasher)?;

@@ -9,7 +9,7 @@ use Rattle.pdb_info.specs.Guid.{stored_guid}
 use Rattle.pdb_info.specs.Header.{HasInfoHeader}
 use Rattle.pdb_info.specs.Names.{HasNames, HasName, present_buckets}
 use Rattle.pdb_info.specs.Info.{HasInfo}
-use Rattle.pdb_info.specs.Written.{info_text, info_view}
+use Rattle.pdb_info.specs.Written.{info_contents, info_view}
 
 -- the numbers before the GUID, and the numbers after it
 front : ℕ → List ℕ
@@ -74,14 +74,14 @@ names_back age stored long =
     }
 
 -- the written stream has the values that were written
-pub has_info : (age : ℕ) (guid : List ℕ) → length (stored_guid guid) ≡ 16 → stored_guid (stored_guid guid) ≡ guid → age < 2 ^ 32 → HasInfo (info_text age guid) (info_view age guid)
-unfolding info_text front back
+pub has_info : (age : ℕ) (guid : List ℕ) → length (stored_guid guid) ≡ 16 → stored_guid (stored_guid guid) ≡ guid → age < 2 ^ 32 → HasInfo (info_contents age guid) (info_view age guid)
+unfolding info_contents front back
 has_info age guid long undone short = record { header = header_back age guid long undone short; names = names_back age (stored_guid guid) long }
 
 -- the stream that is made field by field is the written stream
 pub info_is : (age found : ℕ) (guid given stored bytes : List ℕ) → bytes ≡ u32s (20000404 ∷ 0 ∷ found ∷ []) ++ (stored ++ u32s (0 ∷ 0 ∷ 8 ∷ 0 ∷ 0 ∷ 0 ∷ [])) → stored ≡ stored_guid given → given ≡ guid → found ≡ age
-    → bytes ≡ info_text age guid
-unfolding info_text
+    → bytes ≡ info_contents age guid
+unfolding info_contents
 info_is age found guid given stored bytes e is same years = e ∙ rw (is, same, years) refl
 
 -- the stream that is made field by field has the values that were written

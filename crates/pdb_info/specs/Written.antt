@@ -6,8 +6,8 @@ use Rattle.pdb_info.specs.Info.{InfoView}
 
 -- the info stream of a file with this age and GUID: version VC70 and signature 0; an empty buffer of names, Size 0, Capacity 8, no
 -- present words, no deleted words, the closing word; no feature codes
-unfoldable pub info_text : ℕ → List ℕ → List ℕ
-info_text age guid = u32s (20000404 ∷ 0 ∷ age ∷ []) ++ (stored_guid guid ++ u32s (0 ∷ 0 ∷ 8 ∷ 0 ∷ 0 ∷ 0 ∷ []))
+unfoldable pub info_contents : ℕ → List ℕ → List ℕ
+info_contents age guid = u32s (20000404 ∷ 0 ∷ age ∷ []) ++ (stored_guid guid ++ u32s (0 ∷ 0 ∷ 8 ∷ 0 ∷ 0 ∷ 0 ∷ []))
 
 -- the values of this info stream
 abbrev pub info_view : ℕ → List ℕ → InfoView

@@ -3,7 +3,7 @@
 ghost use Rattle.std.specs.Prelude.{◌≡◌, [], ◌∷◌, ◌++◌, length};
 ghost use Rattle.byte_fields.specs.Number.{u32s};
 ghost use Rattle.pdb_info.specs.Info.{HasInfo};
-ghost use Rattle.pdb_info.specs.Written.{info_text, info_view};
+ghost use Rattle.pdb_info.specs.Written.{info_contents, info_view};
 
 use crate::guid::guid_bytes;
 use crate::header::{LENGTH, header_bytes};
@@ -33,7 +33,7 @@ fn stream_of(age: u32, stored: [u8; 16]) -> [u8; 52]
 /// There are no named streams and no feature codes. The stream reads back as these values. This
 /// does not allocate. ("The PDB Info Stream".)
 pub fn info_bytes(settings: &Settings) -> [u8; 52]
-    ensures value { result ≡ info_text settings.now.age settings.now.guid }
+    ensures value { result ≡ info_contents settings.now.age settings.now.guid }
     ensures read_back { HasInfo result (info_view settings.now.age settings.now.guid) }
 {
     stream_of(settings.age(), guid_bytes(settings.guid()))

@@ -9,16 +9,16 @@ use Rattle.cv_leaves.proofs.FilledLaws.{filled_bytes, blanked_bytes}
 use Rattle.msf_streams.proofs.BytesLaws.{image_is_bytes, stream_is_bytes}
 use Rattle.pdb_info.specs.Guid.{stored_guid}
 use Rattle.pdb_info.specs.Settings.{SettingsView, AreSettings}
-use Rattle.pdb_info.specs.Written.{info_text}
+use Rattle.pdb_info.specs.Written.{info_contents}
 use Rattle.tpi_records.specs.Records.{HasRecords}
-use Rattle.tpi_records.specs.Written.{header_numbers, header_text}
+use Rattle.tpi_records.specs.Written.{header_numbers, header_bytes}
 use Rattle.type_trees.specs.Tree.{Tree, tree, nothing, Stands, blank_of, branches_of}
 use Rattle.type_trees.specs.Canon.{numbers, text}
 use Rattle.type_trees.specs.Finish.{IsCanonOf}
 use Rattle.type_trees.proofs.TreeLaws.{at_position}
 use Rattle.pdb_merge.specs.Read.{IsAccepted}
 use Rattle.pdb_merge.specs.Union.{HasType}
-use Rattle.pdb_merge.specs.Merged.{type_stream, merged_texts, merged_file}
+use Rattle.pdb_merge.specs.Merged.{type_stream, merged_contents, merged_file}
 
 -- ---- the types of files
 
@@ -34,7 +34,7 @@ accepted_bytes file records is = records_bytes is.has.lists.stream records (stre
 standing_bytes : (records : List (List ℕ)) (i : ℕ) (t : Tree) → AllByRecursion AreBytes records → Stands records i t → AreBytes (blank_of t)
 standing_bytes records i (tree b bs) bytes (inside, blank, branches) = rw (← blank) (blanked_bytes (get_or records i []) (at_position AreBytes records i bytes inside))
 
--- the text of a tree is made of bytes if its blank is
+-- the record of a tree is made of bytes if its blank is
 text_bytes : (l : List Tree) (t : Tree) → AreBytes (blank_of t) → AreBytes (text l t)
 unfolding text
 text_bytes l t bytes = filled_bytes (blank_of t) (numbers l (branches_of t)) bytes
@@ -53,8 +53,8 @@ canon_bytes files records (l, canonical, are, members) =
 
 -- ---- the file
 
-info_bytes : (settings : SettingsView) → AreSettings settings → AreBytes (info_text settings.age settings.guid)
-unfolding info_text
+info_bytes : (settings : SettingsView) → AreSettings settings → AreBytes (info_contents settings.age settings.guid)
+unfolding info_contents
 info_bytes settings are =
     let guid = settings.guid in
     let first = bytes_reverse (take 4 guid) (bytes_take 4 guid are.guid_bytes) in
@@ -65,7 +65,7 @@ info_bytes settings are =
     (bytes_append (stored_guid guid) (u32s (0 ∷ 0 ∷ 8 ∷ 0 ∷ 0 ∷ 0 ∷ [])) stored (u32s_are_bytes (0 ∷ 0 ∷ 8 ∷ 0 ∷ 0 ∷ 0 ∷ [])))
 
 types_bytes : (records : List (List ℕ)) → AllByRecursion AreBytes records → AreBytes (type_stream records)
-unfolding type_stream header_text
+unfolding type_stream header_bytes
 types_bytes records each =
     let header = header_numbers (length records) (length (concat records)) in
     bytes_append (u32s header) (concat records) (u32s_are_bytes header) (bytes_concat records each)
@@ -77,4 +77,4 @@ no_bytes i = omega arith
 pub merged_bytes : (settings : SettingsView) (records : List (List ℕ)) → AreSettings settings → AllByRecursion AreBytes records → AreBytes (merged_file settings records)
 unfolding merged_file
 merged_bytes settings records are each =
-    image_is_bytes settings.block_size (merged_texts settings records) (no_bytes, (info_bytes settings are, (types_bytes records each, (no_bytes, (no_bytes, tt)))))
+    image_is_bytes settings.block_size (merged_contents settings records) (no_bytes, (info_bytes settings are, (types_bytes records each, (no_bytes, (no_bytes, tt)))))

@@ -7,9 +7,9 @@ use Rattle.std.proofs.lemmas.List.Elements.{Contains-get_or}
 use Rattle.msf_streams.specs.Image.{ReadsBack, image_layout, image_length}
 use Rattle.msf_streams.proofs.BackLaws.{reads_back}
 use Rattle.pdb_info.specs.Settings.{SettingsView, AreSettings, record_limit}
-use Rattle.pdb_info.specs.Written.{info_text}
+use Rattle.pdb_info.specs.Written.{info_contents}
 use Rattle.tpi_records.specs.Records.{IsRecord, HasRecords}
-use Rattle.tpi_records.specs.Written.{header_text}
+use Rattle.tpi_records.specs.Written.{header_bytes}
 use Rattle.tpi_records.proofs.WrittenLaws.{heads_records}
 use Rattle.tpi_records.proofs.CutLaws.{many_bytes}
 use Rattle.type_trees.specs.Tree.{Tree, IsType, nothing}
@@ -22,14 +22,14 @@ use Rattle.type_trees.proofs.ReadLaws.{canonical_reads_back}
 use Rattle.type_trees.proofs.WeightLaws.{weight_of_texts, weight_grows}
 use Rattle.cv_leaves.specs.Place.{IsChecked}
 use Rattle.pdb_merge.specs.Union.{HasType, Within}
-use Rattle.pdb_merge.specs.Merged.{StandOnce, type_stream, merged_texts, merged_file}
+use Rattle.pdb_merge.specs.Merged.{StandOnce, type_stream, merged_contents, merged_file}
 use Rattle.byte_fields.specs.Bytes.{AreBytes}
 use Rattle.pdb_merge.proofs.BytesLaws.{canon_bytes, merged_bytes}
 use Rattle.pdb_merge.proofs.FitLaws.{length-info, merged_fits, sizes_are}
 
 pub merged_back : (settings : SettingsView) (records : List (List ℕ)) → AreSettings settings → length (concat records) ≤ record_limit settings
-    → ReadsBack settings.block_size (merged_texts settings records)
-merged_back settings records are few = reads_back settings.block_size (merged_texts settings records) are.size_fits (merged_fits settings records are few)
+    → ReadsBack settings.block_size (merged_contents settings records)
+merged_back settings records are few = reads_back settings.block_size (merged_contents settings records) are.size_fits (merged_fits settings records are few)
 
 pub merged_length : (settings : SettingsView) (records : List (List ℕ)) → AreSettings settings → length (concat records) ≤ record_limit settings
     → length (merged_file settings records) ≡ image_length settings.block_size (0 ∷ 52 ∷ (56 + length (concat records)) ∷ 0 ∷ 0 ∷ [])
@@ -41,7 +41,7 @@ pub stream_holds : (records : List (List ℕ)) → AllByRecursion IsRecord recor
 unfolding type_stream
 stream_holds records each few =
     let count : 4 * length records ≤ length (concat records) = many_bytes records each in
-    let has = heads_records (length records) (length (concat records)) (header_text (length records) (length (concat records))) refl (omega (arith, count, few)) (omega (arith, few)) records [] each refl refl in
+    let has = heads_records (length records) (length (concat records)) (header_bytes (length records) (length (concat records))) refl (omega (arith, count, few)) (omega (arith, few)) records [] each refl refl in
     let same = rw (append-nil (concat records)) at has in same
 
 -- the file is accepted with these records
@@ -50,11 +50,11 @@ accepted_back : (settings : SettingsView) (records : List (List ℕ)) → AreSet
 unfolding merged_file
 accepted_back settings records are few each bytes types =
     let back = merged_back settings records are few in
-    let info = info_text settings.age settings.guid in
+    let info = info_contents settings.age settings.guid in
     record {
       bytes = merged_bytes settings records are bytes;
       has = record {
-        layout = image_layout settings.block_size (map length (merged_texts settings records));
+        layout = image_layout settings.block_size (map length (merged_contents settings records));
         has_layout = back.layout;
         lists = record { stream = type_stream records; is_stream = back.streams 2; has_records = stream_holds records each (omega (arith, few, are.limit_fits)) };
       };
@@ -72,7 +72,7 @@ all_positions P (r ∷ records) each = (each 0 (omega arith), all_positions P re
 in_range : (r : List (List ℕ)) (i : ℕ) (t : Tree) → Stands r i t → i < length r
 in_range r i (tree b bs) h = h.0
 
--- the texts of a canonical list of trees are records, are types, and have just these trees as types
+-- the records of a canonical list of trees are records, are types, and have just these trees as types
 pub record AreCanon (P : Tree → Type 0) (records : List (List ℕ)) : Type 0 where
   pub types : AreTypes records
   pub just : (t : Tree) → IsType records t ↔ P t

@@ -5,18 +5,18 @@ use Rattle.std.proofs.lemmas.Option.{slice_get_cases}
 use Rattle.std.proofs.lemmas.List.FromFn.{length-map-range_with_len}
 use Rattle.msf_blocks.specs.Directory.{Listed, bytes_of}
 use Rattle.msf_blocks.specs.Layout.{LayoutView}
-use Rattle.msf_streams.specs.Streams.{stream_contents, text_of, gathered}
+use Rattle.msf_streams.specs.Streams.{stream_contents, listed_contents, gathered}
 use Rattle.pdb_merge.specs.Read.{HasLongInfo, HasShortInfo}
 
-length-text : (file : List ℕ) (block_size : ℕ) (stream : Listed) → length (text_of file block_size stream) ≡ bytes_of stream.size
+length-text : (file : List ℕ) (block_size : ℕ) (stream : Listed) → length (listed_contents file block_size stream) ≡ bytes_of stream.size
 unfolding gathered
 length-text file block_size stream = length-map-range_with_len _ 0 (bytes_of stream.size)
 
--- a stream that is listed has a text, which has the listed size
+-- a stream that is listed has contents, of the listed size
 text_there : (file : List ℕ) (block_size size : ℕ) (found : Option Listed) → option_map (λ s. bytes_of s.size) found ≡ Some size
-    → (text : List ℕ) × (option_map (text_of file block_size) found ≡ Some text) × (length text ≡ size)
+    → (text : List ℕ) × (option_map (listed_contents file block_size) found ≡ Some text) × (length text ≡ size)
 text_there file block_size size None is = absurd cc
-text_there file block_size size (Some stream) is = (text_of file block_size stream, refl, (length-text file block_size stream ∙ cc))
+text_there file block_size size (Some stream) is = (listed_contents file block_size stream, refl, (length-text file block_size stream ∙ cc))
 
 -- a stream 1 of at least 28 bytes
 pub long_info : (file : List ℕ) (layout : LayoutView) (size : ℕ) → option_map (λ s. bytes_of s.size) (slice_get layout.streams 1) ≡ Some size → 28 ≤ size → HasLongInfo file layout
@@ -37,7 +37,7 @@ not_listed found streams s is none = elim (slice_get_cases streams s).1 [
   | inr (le, e) ↦ omega arith
 ]
 
--- a stream that has a text is listed
+-- a stream that has contents is listed
 pub is_listed : (file : List ℕ) (layout : LayoutView) (s : ℕ) (text : List ℕ) → stream_contents file layout s ≡ Some text → s < length layout.streams
 is_listed file layout s text is = elim (slice_get_cases layout.streams s).1 [
   | inl (stream, lt, e, at) ↦ lt

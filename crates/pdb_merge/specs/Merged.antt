@@ -5,8 +5,8 @@ use Rattle.std.specs.Io.KnownBytes.{Appends}
 use Rattle.msf_streams.specs.Image.{image}
 use Rattle.msf_streams.specs.Put.{AppendsPart}
 use Rattle.pdb_info.specs.Settings.{SettingsView, record_limit}
-use Rattle.pdb_info.specs.Written.{info_text}
-use Rattle.tpi_records.specs.Written.{header_text}
+use Rattle.pdb_info.specs.Written.{info_contents}
+use Rattle.tpi_records.specs.Written.{header_bytes}
 use Rattle.type_trees.specs.Tree.{Tree, Stands, IsType}
 use Rattle.type_trees.specs.Finish.{IsCanonOf}
 use Rattle.pdb_merge.specs.Read.{IsAccepted}
@@ -17,23 +17,23 @@ use Rattle.pdb_merge.specs.declared.summary.Summary.{Summary}
 
 -- the TPI stream of these records: a header, and the records one after the other
 unfoldable pub type_stream : List (List ℕ) → List ℕ
-type_stream records = header_text (length records) (length (concat records)) ++ concat records
+type_stream records = header_bytes (length records) (length (concat records)) ++ concat records
 
--- the texts of a file with this info stream and a TPI stream of this header and these records
-abbrev pub parts_texts : List ℕ → List ℕ → List ℕ → List (List ℕ)
-parts_texts info header records = [] ∷ info ∷ (header ++ records) ∷ [] ∷ [] ∷ []
+-- the streams of a file with this info stream and a TPI stream of this header and these records
+abbrev pub parts_contents : List ℕ → List ℕ → List ℕ → List (List ℕ)
+parts_contents info header records = [] ∷ info ∷ (header ++ records) ∷ [] ∷ [] ∷ []
 
--- the texts of a file with these settings and these records: an empty text, the info stream, the TPI stream, and two empty texts
-abbrev pub merged_texts : SettingsView → List (List ℕ) → List (List ℕ)
-merged_texts settings records = [] ∷ info_text settings.age settings.guid ∷ type_stream records ∷ [] ∷ [] ∷ []
+-- the streams of a file with these settings and these records: an empty stream, the info stream, the TPI stream, and two empty streams
+abbrev pub merged_contents : SettingsView → List (List ℕ) → List (List ℕ)
+merged_contents settings records = [] ∷ info_contents settings.age settings.guid ∷ type_stream records ∷ [] ∷ [] ∷ []
 
--- the lengths of these texts, where the records have `bytes` bytes together
+-- the lengths of these streams, where the records have `bytes` bytes together
 abbrev pub merged_sizes : ℕ → List ℕ
 merged_sizes bytes = 0 ∷ 52 ∷ (56 + bytes) ∷ 0 ∷ 0 ∷ []
 
 -- the file with these settings and these records
 unfoldable pub merged_file : SettingsView → List (List ℕ) → List ℕ
-merged_file settings records = image settings.block_size (merged_texts settings records)
+merged_file settings records = image settings.block_size (merged_contents settings records)
 
 -- x is the file with these settings for the canonical list of the types that have P
 abbrev pub Merged : (Tree → Type 0) → SettingsView → List ℕ → Type 0

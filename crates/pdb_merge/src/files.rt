@@ -1,7 +1,7 @@
 //! The types of several files, each once.
 
 ghost use Rattle.std.specs.Prelude.{◌≡◌, ◌≢◌, ◌<◌, [], ℕ, List, length, get_or, IfOk, IfErr};
-ghost use Rattle.msf_streams.specs.Image.{texts_of};
+ghost use Rattle.msf_streams.specs.Image.{contents_of};
 ghost use Rattle.type_trees.specs.Finish.{IsCanonOf};
 ghost use Rattle.pdb_info.specs.Settings.{record_limit};
 ghost use Rattle.pdb_merge.specs.Fault.{of_add};
@@ -30,7 +30,7 @@ fn at_file<A: Allocator>(file: usize, fault: AddFault<A>) -> MergeFault<A>
 /// The file at a position.
 fn file_at<'a>(files: &[&'a [u8]], position: usize) -> &'a [u8]
     requires { position < length files.now }
-    ensures { get_or (texts_of files.now) position [] ≡ result.now }
+    ensures { get_or (contents_of files.now) position [] ≡ result.now }
 {
     files[position]
 }
@@ -42,10 +42,10 @@ fn add_all<S: BuildHasher, A: Allocator + Copy>(
     merge: &mut Merge<S, A>,
 ) -> Result<(), MergeFault<A>>
     requires { HasTaken merge.old [] }
-    ensures value { IfOk result (λ _. HasTaken merge.new (texts_of files.now)) }
+    ensures value { IfOk result (λ _. HasTaken merge.new (contents_of files.now)) }
     ensures limit { merge.new.limit ≡ merge.old.limit }
-    ensures found { CanMerge (texts_of files.now) merge.old.limit → IfErr result (λ fault. fault ≡ MergeFault.Memory) }
-    ensures first { IfErr result (Stops (texts_of files.now) merge.old.limit) }
+    ensures found { CanMerge (contents_of files.now) merge.old.limit → IfErr result (λ fault. fault ≡ MergeFault.Memory) }
+    ensures first { IfErr result (Stops (contents_of files.now) merge.old.limit) }
 {
     let mut buffer = Buffer::new(alloc);
     for file in 0..files.len() {
@@ -63,10 +63,10 @@ fn list_all<S: BuildHasher + Drop, A: Allocator + Copy>(
     limit: u32,
     hasher: S,
 ) -> Result<Canon<A>, MergeFault<A>>
-    ensures value { IfOk result (λ canon. IsCanonOf canon (HasType (texts_of files.now))) }
-    ensures can { IfOk result (λ _. CanMerge (texts_of files.now) limit) }
-    ensures found { CanMerge (texts_of files.now) limit → IfErr result (λ fault. fault ≡ MergeFault.Memory) }
-    ensures first { IfErr result (Stops (texts_of files.now) limit) }
+    ensures value { IfOk result (λ canon. IsCanonOf canon (HasType (contents_of files.now))) }
+    ensures can { IfOk result (λ _. CanMerge (contents_of files.now) limit) }
+    ensures found { CanMerge (contents_of files.now) limit → IfErr result (λ fault. fault ≡ MergeFault.Memory) }
+    ensures first { IfErr result (Stops (contents_of files.now) limit) }
 {
     let mut merge = Merge::new(alloc, limit, hasher);
     add_all(alloc, files, &mut merge)?;
@@ -88,13 +88,13 @@ pub fn merge_files<S: BuildHasher + Drop, A: Allocator + Copy>(
     settings: &Settings,
     hasher: S,
 ) -> Result<Canon<A>, MergeFault<A>>
-    ensures value { IfOk result (λ canon. IsCanonOf canon (HasType (texts_of files.now))) }
-    ensures can { IfOk result (λ _. CanMerge (texts_of files.now) (record_limit settings.now)) }
+    ensures value { IfOk result (λ canon. IsCanonOf canon (HasType (contents_of files.now))) }
+    ensures can { IfOk result (λ _. CanMerge (contents_of files.now) (record_limit settings.now)) }
     // Files that can be merged are refused only when out of memory.
-    ensures found { CanMerge (texts_of files.now) (record_limit settings.now) → IfErr result (λ fault. fault ≡ MergeFault.Memory) }
-    ensures first { IfErr result (Stops (texts_of files.now) (record_limit settings.now)) }
+    ensures found { CanMerge (contents_of files.now) (record_limit settings.now) → IfErr result (λ fault. fault ≡ MergeFault.Memory) }
+    ensures first { IfErr result (Stops (contents_of files.now) (record_limit settings.now)) }
     // Files that are refused in one order are refused in any order.
-    ensures any_order { IfErr result (λ fault. fault ≢ MergeFault.Memory → (others : List (List ℕ)) → SameFiles (texts_of files.now) others → CanMerge others (record_limit settings.now) → ⊥) }
+    ensures any_order { IfErr result (λ fault. fault ≢ MergeFault.Memory → (others : List (List ℕ)) → SameFiles (contents_of files.now) others → CanMerge others (record_limit settings.now) → ⊥) }
 {
     list_all(alloc, files, settings.record_limit(), hasher)
 }

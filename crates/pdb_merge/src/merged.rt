@@ -2,7 +2,7 @@
 
 ghost use Rattle.std.specs.Prelude.{◌≡◌, ◌≢◌, ◌⊎◌, ◌≤◌, true, ℕ, List, length, IfOk, IfErr};
 ghost use Rattle.std.specs.List.{concat};
-ghost use Rattle.msf_streams.specs.Image.{texts_of};
+ghost use Rattle.msf_streams.specs.Image.{contents_of};
 ghost use Rattle.msf_streams.specs.Put.{AppendsPart};
 ghost use Rattle.pdb_info.specs.Settings.{AreSettings, record_limit};
 ghost use Rattle.pdb_merge.specs.Merged.{merged_file, WroteFile, Wrote, WrotePart};
@@ -73,16 +73,16 @@ pub fn merge_to<W: Sink, S: BuildHasher + Drop, A: Allocator + Copy>(
     out: &mut W,
     hasher: S,
 ) -> Result<Summary, OutFault<A>>
-    ensures value { IfOk result (Wrote (texts_of files.now) settings.now (W.taken out.old) (W.taken out.new)) }
-    ensures can { IfOk result (λ _. CanMerge (texts_of files.now) (record_limit settings.now)) }
+    ensures value { IfOk result (Wrote (contents_of files.now) settings.now (W.taken out.old) (W.taken out.new)) }
+    ensures can { IfOk result (λ _. CanMerge (contents_of files.now) (record_limit settings.now)) }
     // Files that can be merged are refused only when out of memory, or by the sink.
-    ensures found { CanMerge (texts_of files.now) (record_limit settings.now) → IfErr result (λ fault. (fault ≡ OutFault.Merge MergeFault.Memory) ⊎ (fault ≡ OutFault.Memory) ⊎ (fault ≡ OutFault.Write)) }
-    ensures first { IfErr result (λ fault. (inner : MergeFault A) → fault ≡ OutFault.Merge inner → Stops (texts_of files.now) (record_limit settings.now) inner) }
+    ensures found { CanMerge (contents_of files.now) (record_limit settings.now) → IfErr result (λ fault. (fault ≡ OutFault.Merge MergeFault.Memory) ⊎ (fault ≡ OutFault.Memory) ⊎ (fault ≡ OutFault.Write)) }
+    ensures first { IfErr result (λ fault. (inner : MergeFault A) → fault ≡ OutFault.Merge inner → Stops (contents_of files.now) (record_limit settings.now) inner) }
     // Files that are refused in one order are refused in any order.
     ensures any_order { IfErr result (λ fault. (inner : MergeFault A) → fault ≡ OutFault.Merge inner → inner ≢ MergeFault.Memory
-        → (others : List (List ℕ)) → SameFiles (texts_of files.now) others → CanMerge others (record_limit settings.now) → ⊥) }
+        → (others : List (List ℕ)) → SameFiles (contents_of files.now) others → CanMerge others (record_limit settings.now) → ⊥) }
     ensures write { IfErr result (λ fault. fault ≡ OutFault.Write → (W.is_broken out.new ≡ true)
-        × WrotePart (texts_of files.now) settings.now (W.taken out.old) (W.taken out.new)) }
+        × WrotePart (contents_of files.now) settings.now (W.taken out.old) (W.taken out.new)) }
     ensures untouched { IfErr result (λ fault. fault ≢ OutFault.Write → out.new ≡ out.old) }
 {
     let canon = merge_files(alloc, files, settings, hasher)?;

@@ -7,8 +7,8 @@ ghost use Rattle.msf_streams.specs.Image.{Fits, Writable, image, image_length};
 ghost use Rattle.msf_streams.specs.Put.{AppendsPart};
 ghost use Rattle.msf_blocks.specs.BlockNumber.{IsBlockSize};
 ghost use Rattle.pdb_info.specs.Settings.{AreSettings, record_limit};
-ghost use Rattle.tpi_records.specs.Written.{header_text};
-ghost use Rattle.pdb_merge.specs.Merged.{parts_texts, merged_sizes, merged_texts, merged_file};
+ghost use Rattle.tpi_records.specs.Written.{header_bytes};
+ghost use Rattle.pdb_merge.specs.Merged.{parts_contents, merged_sizes, merged_contents, merged_file};
 
 use byte_io::Sink;
 use msf_streams::{WriteFault, image_len, write_parts};
@@ -20,7 +20,7 @@ use type_trees::Canon;
 /// The header of the TPI stream of a canonical list.
 #[tactic(auto, using(type_trees::proofs::CanonTableLaws::canon_short))]
 fn header_of<A: Allocator>(canon: &Canon<A>) -> [u8; 56]
-    ensures { result ≡ header_text (length canon.now) (length (concat canon.now)) }
+    ensures { result ≡ header_bytes (length canon.now) (length (concat canon.now)) }
 {
     let count = canon.len();
     tpi_header_bytes(count as u32, canon.bytes_len())
@@ -36,11 +36,11 @@ fn write_streams<'a, W: Sink, A: Allocator + Copy>(
     out: &mut W,
 ) -> Result<(), WriteFault>
     requires { IsBlockSize block_size }
-    ensures value { OnOk result (Appends (W.taken out.old) (W.taken out.new) (image block_size (parts_texts info.now header.now records.now))) }
-    ensures found { Writable block_size (parts_texts info.now header.now records.now) → IfErr result (λ fault. (fault ≡ WriteFault.Memory) ⊎ (fault ≡ WriteFault.Write)) }
-    ensures image { IfErr result (λ fault. fault ≡ WriteFault.Image → Writable block_size (parts_texts info.now header.now records.now) → ⊥) }
+    ensures value { OnOk result (Appends (W.taken out.old) (W.taken out.new) (image block_size (parts_contents info.now header.now records.now))) }
+    ensures found { Writable block_size (parts_contents info.now header.now records.now) → IfErr result (λ fault. (fault ≡ WriteFault.Memory) ⊎ (fault ≡ WriteFault.Write)) }
+    ensures image { IfErr result (λ fault. fault ≡ WriteFault.Image → Writable block_size (parts_contents info.now header.now records.now) → ⊥) }
     ensures write { IfErr result (λ fault. fault ≡ WriteFault.Write → (W.is_broken out.new ≡ true)
-        × AppendsPart (W.taken out.old) (W.taken out.new) (image block_size (parts_texts info.now header.now records.now))) }
+        × AppendsPart (W.taken out.old) (W.taken out.new) (image block_size (parts_contents info.now header.now records.now))) }
     ensures untouched { IfErr result (λ fault. fault ≢ WriteFault.Write → out.new ≡ out.old) }
 {
     write_parts(
@@ -80,10 +80,10 @@ pub fn write_merged<W: Sink, A: Allocator + Copy>(
     out: &mut W,
 ) -> Result<(), WriteFault>
     ensures value { OnOk result (Appends (W.taken out.old) (W.taken out.new) (merged_file settings.now canon.now)) }
-    ensures image { IfErr result (λ fault. fault ≡ WriteFault.Image → Writable settings.now.block_size (merged_texts settings.now canon.now) → ⊥) }
+    ensures image { IfErr result (λ fault. fault ≡ WriteFault.Image → Writable settings.now.block_size (merged_contents settings.now canon.now) → ⊥) }
     ensures found { length (concat canon.now) ≤ record_limit settings.now → IfErr result (λ fault. (fault ≡ WriteFault.Memory) ⊎ (fault ≡ WriteFault.Write)) }
     // Every answer except `Image` comes only where there is such a file.
-    ensures writable { (result ≡ Err WriteFault.Image) ⊎ Writable settings.now.block_size (merged_texts settings.now canon.now) }
+    ensures writable { (result ≡ Err WriteFault.Image) ⊎ Writable settings.now.block_size (merged_contents settings.now canon.now) }
     ensures write { IfErr result (λ fault. fault ≡ WriteFault.Write → (W.is_broken out.new ≡ true)
         × AppendsPart (W.taken out.old) (W.taken out.new) (merged_file settings.now canon.now)) }
     ensures untouched { IfErr result (λ fault. fault ≢ WriteFault.Write → out.new ≡ out.old) }

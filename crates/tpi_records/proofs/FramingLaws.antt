@@ -18,12 +18,12 @@ AllByRecursion-push P (x ∷ xs) y each this = (each.0, AllByRecursion-push P xs
 
 -- bytes whose length is the one in their length field are a record
 pub is_record : (bytes : List ℕ) (start whole : ℕ) → whole ≡ number_at 2 bytes start + 2 → 4 ≤ whole → whole ≤ 65536 → whole % 4 ≡ 0 → start + whole ≤ length bytes → IsRecord (take whole (drop start bytes))
-is_record bytes start whole field long short u32s inside =
+is_record bytes start whole field long short padded inside =
     let all : length (take whole (drop start bytes)) ≡ whole = omega (arith, length-take whole (drop start bytes), length-drop start bytes) in
     record {
       long = omega (arith, all);
       short = omega (arith, all, short);
-      padded = rw all u32s;
+      padded = rw all padded;
       len = omega (arith, all, number_at-take 2 bytes start whole (omega arith));
     }
 

@@ -12,8 +12,8 @@ header_numbers count bytes =
     20040203 ∷ 56 ∷ first_index ∷ (first_index + count) ∷ bytes ∷ 0xFFFFFFFF ∷ 4 ∷ 0x3FFFF ∷ 0 ∷ 0 ∷ 0 ∷ 0 ∷ 0 ∷ 0 ∷ []
 
 -- the header of a stream with `count` records, which have `bytes` bytes together
-unfoldable pub header_text : ℕ → ℕ → List ℕ
-header_text count bytes = u32s (header_numbers count bytes)
+unfoldable pub header_bytes : ℕ → ℕ → List ℕ
+header_bytes count bytes = u32s (header_numbers count bytes)
 
 -- a stream that begins with this header and continues with `count` records of `bytes` bytes together has these records
 abbrev pub HeadsRecords : List ℕ → ℕ → ℕ → Type 0

@@ -3,7 +3,7 @@
 ghost use Rattle.std.specs.Prelude.{◌≡◌, ◌≢◌, ◌+◌, ◌<◌, ◌^◌, IsOk, IfOk, IfErr};
 ghost use Rattle.byte_fields.specs.Check.{Makes};
 ghost use Rattle.tpi_records.specs.Header.{Header, HasTpiHeader, header_checks};
-ghost use Rattle.tpi_records.specs.Written.{header_text, HeadsRecords};
+ghost use Rattle.tpi_records.specs.Written.{header_bytes, HeadsRecords};
 
 use crate::fault::TpiFault;
 use byte_fields::u32_at;
@@ -132,10 +132,10 @@ impl TpiHeader {
 }
 
 /// Makes the header, field by field.
-#[tactic(auto, unfolding(crate::specs::Written::header_text, byte_fields::specs::Number::four_bytes))]
+#[tactic(auto, unfolding(crate::specs::Written::header_bytes, byte_fields::specs::Number::four_bytes))]
 fn header_of(count: u32, bytes: u32) -> [u8; LENGTH]
     requires { FIRST_INDEX + count < 2 ^ 32 }
-    ensures { result ≡ header_text count bytes }
+    ensures { result ≡ header_bytes count bytes }
 {
     let end = FIRST_INDEX + count;
     let mut header = [0; LENGTH];
@@ -158,7 +158,7 @@ fn header_of(count: u32, bytes: u32) -> [u8; LENGTH]
 /// records. This does not allocate. ("The PDB TPI and IPI Streams", "Stream Header".)
 pub fn tpi_header_bytes(count: u32, bytes: u32) -> [u8; 56]
     requires { FIRST_INDEX + count < 2 ^ 32 }
-    ensures value { result ≡ header_text count bytes }
+    ensures value { result ≡ header_bytes count bytes }
     ensures read_back { HeadsRecords result count bytes }
 {
     header_of(count, bytes)

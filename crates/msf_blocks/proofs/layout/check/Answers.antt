@@ -8,4 +8,4 @@ returns-in_err-streams-clause-first c =
     let s = c.in_ok-superblock.ensures in
     let d = c.in_ok-directory.ensures in
     rw (p.1, p.2)
-    (length_fault c.args.file.now c.in_ok-superblock.superblock c.in_ok-directory.directory.text _ s.fields d.text s.first d.first (rw d.superblock at c.in_err-streams.ensures.first))
+    (length_fault c.args.file.now c.in_ok-superblock.superblock c.in_ok-directory.directory.contents _ s.fields d.contents s.first d.first (rw d.superblock at c.in_err-streams.ensures.first))

@@ -5,5 +5,5 @@ use Rattle.msf_blocks.proofs.layout.listed.Given as goal
 
 abbrev pub invariant-loop-stream : goal.invariant-loop-stream
 invariant-loop-stream g l =
-    (l.start ≡ list_start l.directory.superblock.block_size l.directory.text l.stream)
-    × (map listed_of l.listed.items ≡ listed_below l.directory.superblock.block_size l.directory.text l.stream)
+    (l.start ≡ list_start l.directory.superblock.block_size l.directory.contents l.stream)
+    × (map listed_of l.listed.items ≡ listed_below l.directory.superblock.block_size l.directory.contents l.stream)

@@ -1,12 +1,12 @@
 use Rattle.std.proofs.Common.{◌≡◌, ◌<◌, ◌∙◌, Bor, List, ℕ, [], length, take, rules, arith}
 use Rattle.std.proofs.lemmas.List.{length-map, take_more}
-use Rattle.msf_streams.specs.Image.{texts_of}
+use Rattle.msf_streams.specs.Image.{contents_of}
 use Rattle.pdb_merge.proofs.MergingLaws.{stops_whole, alone_whole}
 use Rattle.pdb_merge.proofs.files.add_all.Goals as goal
 
 pub loop-file-preserved : goal.loop-file-preserved
 loop-file-preserved g c =
-    let files = texts_of c.args.files.now in
+    let files = contents_of c.args.files.now in
     let k = c.loop-file.file in
     let many : length files ≡ length c.args.files.now = length-map c.args.files.now (λ (s : Bor (List ℕ)). s.now) in
     let below : k < length c.args.files.now = search rules in
@@ -17,7 +17,7 @@ loop-file-preserved g c =
 
 pub returns-in-Err-clause-first : goal.returns-in-Err-clause-first
 returns-in-Err-clause-first g c =
-    let files = texts_of c.args.files.now in
+    let files = contents_of c.args.files.now in
     let k = c.loop-file.file in
     let many : length files ≡ length c.args.files.now = length-map c.args.files.now (λ (s : Bor (List ℕ)). s.now) in
     let below : k < length c.args.files.now = search rules in
@@ -26,7 +26,7 @@ returns-in-Err-clause-first g c =
 
 pub returns-in-Err-clause-found : goal.returns-in-Err-clause-found
 returns-in-Err-clause-found g c = λ can.
-    let files = texts_of c.args.files.now in
+    let files = contents_of c.args.files.now in
     let k = c.loop-file.file in
     let many : length files ≡ length c.args.files.now = length-map c.args.files.now (λ (s : Bor (List ℕ)). s.now) in
     let below : k < length c.args.files.now = search rules in

@@ -1,6 +1,6 @@
 use Rattle.std.proofs.Common.{◌≡◌, ◌∙◌, sym, true}
 use Rattle.std.proofs.lemmas.Result.{err_from_is_err_and}
-use Rattle.msf_streams.specs.Image.{texts_of}
+use Rattle.msf_streams.specs.Image.{contents_of}
 use Rattle.pdb_merge.specs.Union.{HasType}
 use Rattle.pdb_info.specs.Settings.{record_limit}
 use Rattle.pdb_merge.proofs.ReadBackLaws.{canon_within}
@@ -15,17 +15,17 @@ merge_injective a b same = cc
 
 pub write_canon-requires : goal.write_canon-requires
 write_canon-requires g c =
-    let P = HasType (texts_of c.args.files.now) in
+    let P = HasType (contents_of c.args.files.now) in
     canon_within P c.in_ok-canon.canon (record_limit c.args.settings.now) c.in_ok-canon.ensures.value c.in_ok-canon.ensures.can.within
 
 pub returns-clause-value : goal.returns-clause-value
 returns-clause-value g c =
-    wrote (texts_of c.args.files.now) c.args.settings.now c.in_ok-canon.canon (g.W.Sink.taken c.args.out.now) (g.W.Sink.taken c.write_canon.new.out) c.write_canon.result
+    wrote (contents_of c.args.files.now) c.args.settings.now c.in_ok-canon.canon (g.W.Sink.taken c.args.out.now) (g.W.Sink.taken c.write_canon.new.out) c.write_canon.result
     c.write_canon.ensures.settings c.in_ok-canon.ensures.can.within c.in_ok-canon.ensures.value c.write_canon.ensures.value
 
 pub returns-clause-write : goal.returns-clause-write
 returns-clause-write g c =
-    wrote_part (texts_of c.args.files.now) c.args.settings.now c.in_ok-canon.canon (g.W.Sink.taken c.args.out.now) (g.W.Sink.taken c.write_canon.new.out) (g.W.Sink.is_broken c.write_canon.new.out ≡ true) _ c.write_canon.result
+    wrote_part (contents_of c.args.files.now) c.args.settings.now c.in_ok-canon.canon (g.W.Sink.taken c.args.out.now) (g.W.Sink.taken c.write_canon.new.out) (g.W.Sink.is_broken c.write_canon.new.out ≡ true) _ c.write_canon.result
     c.write_canon.ensures.settings c.in_ok-canon.ensures.can.within c.in_ok-canon.ensures.value c.write_canon.ensures.write
 
 pub returns-in_err-canon-clause-any_order : goal.returns-in_err-canon-clause-any_order

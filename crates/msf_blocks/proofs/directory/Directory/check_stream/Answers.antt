@@ -10,18 +10,18 @@ pub returns-then-not-is_ordinary : goal.returns-then-not-is_ordinary
 unfolding stream_checks
 returns-then-not-is_ordinary c =
     let fields = c.args.self.now.superblock in
-    let text = c.args.self.now.text in
+    let contents = c.args.self.now.contents in
     let stream = c.args.stream in
     let at = c.loop-at.at in
-    checks_below-stop (stream_block_check fields text stream) at (stream_blocks fields.block_size text stream) (StreamBlock stream at c.number-n.result) c.loop-at.invariant
-    (check_fails (is_ordinary fields.num_blocks (nth_u32 text (list_start fields.block_size text stream + at))) _ _ (grind arith) (ap (StreamBlock stream at) (grind arith)))
+    checks_below-stop (stream_block_check fields contents stream) at (stream_blocks fields.block_size contents stream) (StreamBlock stream at c.number-n.result) c.loop-at.invariant
+    (check_fails (is_ordinary fields.num_blocks (nth_u32 contents (list_start fields.block_size contents stream + at))) _ _ (grind arith) (ap (StreamBlock stream at) (grind arith)))
     (omega (arith, c.requires.count, c.loop-at-test.true))
 
 pub loop-at-preserved : goal.loop-at-preserved
 unfolding stream_checks
 loop-at-preserved c =
     let fields = c.args.self.now.superblock in
-    let text = c.args.self.now.text in
+    let contents = c.args.self.now.contents in
     let at = c.loop-at.at in
-    checks_below-more (stream_block_check fields text c.args.stream) at c.loop-at.invariant
-    (check_holds (is_ordinary fields.num_blocks (nth_u32 text (list_start fields.block_size text c.args.stream + at))) _ (grind arith))
+    checks_below-more (stream_block_check fields contents c.args.stream) at c.loop-at.invariant
+    (check_holds (is_ordinary fields.num_blocks (nth_u32 contents (list_start fields.block_size contents c.args.stream + at))) _ (grind arith))

@@ -4,4 +4,4 @@ use Rattle.byte_fields.specs.Number.{nth_u32}
 use Rattle.msf_blocks.proofs.directory.Directory.numbers.Given as goal
 
 abbrev pub invariant-loop-k : goal.invariant-loop-k
-invariant-loop-k g l = l.numbers.items ≡ map (λ k. nth_u32 l.self.text (l.fn.start + k)) (range_with_len 0 l.k)
+invariant-loop-k g l = l.numbers.items ≡ map (λ k. nth_u32 l.self.contents (l.fn.start + k)) (range_with_len 0 l.k)

@@ -14,12 +14,12 @@ returns-clause-value g c =
     let d = c.in_ok-directory.ensures in
     let directory = c.in_ok-directory.directory in
     rw c.superblock-superblock.ensures.value
-    (layout_is c.args.file.now directory.superblock directory.text c.in_ok-directory.streams _ (λ i. omega (arith, c.type_inv.file i)) d.found d.fields d.text d.streams d.room d.first c.in_ok-streams.ensures.value)
+    (layout_is c.args.file.now directory.superblock directory.contents c.in_ok-directory.streams _ (λ i. omega (arith, c.type_inv.file i)) d.found d.fields d.contents d.streams d.room d.first c.in_ok-streams.ensures.value)
 
 pub invariant_of-result : goal.invariant_of-result
 invariant_of-result g c =
     let d = c.in_ok-directory.ensures in
     let directory = c.in_ok-directory.directory in
-    let has = layout_is c.args.file.now directory.superblock directory.text c.in_ok-directory.streams _ (λ i. omega (arith, c.type_inv.file i)) d.found d.fields d.text d.streams d.room d.first c.in_ok-streams.ensures.value in
+    let has = layout_is c.args.file.now directory.superblock directory.contents c.in_ok-directory.streams _ (λ i. omega (arith, c.type_inv.file i)) d.found d.fields d.contents d.streams d.room d.first c.in_ok-streams.ensures.value in
     rw c.superblock-superblock.ensures.value
-    (layout_fits c.args.file.now directory.superblock directory.text c.in_ok-directory.streams _ (λ i. omega (arith, c.type_inv.file i)) has d.text d.streams c.in_ok-streams.ensures.value)
+    (layout_fits c.args.file.now directory.superblock directory.contents c.in_ok-directory.streams _ (λ i. omega (arith, c.type_inv.file i)) has d.contents d.streams c.in_ok-streams.ensures.value)
