@@ -3,8 +3,8 @@
 ghost use Rattle.std.specs.Prelude.{◌+◌, ◌≤◌, length};
 
 use msf_blocks::Layout;
-use msf_streams::{StreamFault, gather, pieces};
-use samples::refusals;
+use msf_streams::{StreamFault, contents, gather, lent, pieces};
+use samples::{offset, refusals, sample};
 use std::test::Fail;
 
 /// The size of a block, in bytes.
@@ -87,7 +87,7 @@ fn pieces_are_lent_in_the_order_of_the_list(rt: HostRuntime) -> Result<(), Fail>
 }
 
 #[test]
-fn a_text_is_gathered_whole(rt: HostRuntime) -> Result<(), Fail> {
+fn a_stream_is_gathered_whole(rt: HostRuntime) -> Result<(), Fail> {
     let file = container();
     let layout = Layout::read(rt.alloc(), &file)?;
     let text = gather(rt.alloc(), &file, &layout, 0)?;
@@ -99,6 +99,52 @@ fn a_text_is_gathered_whole(rt: HostRuntime) -> Result<(), Fail> {
         assert_eq!(rt; text.as_slice(), &file[24576..24576 + size], "stream {s}");
     }
     let fault = gather(rt.alloc(), &file, &layout, 5).err();
+    assert_eq!(rt; fault, Some(StreamFault::NoStream(5)));
+    Ok(())
+}
+
+#[test]
+fn consecutive_blocks_are_lent(rt: HostRuntime) -> Result<(), Fail> {
+    let file = container();
+    let layout = Layout::read(rt.alloc(), &file)?;
+    assert_eq!(rt; lent(&file, &layout, 0), None);
+    for (s, size) in [(1, 0), (2, 0), (3, 10), (4, 4096)] {
+        assert_eq!(rt;
+            lent(&file, &layout, s),
+            file.get(24576..24576 + size),
+            "stream {s}"
+        );
+    }
+    assert_eq!(rt; lent(&file, &layout, 5), None);
+    // With the blocks 8 and 9 stream 0 is one part of the file, over the end of a block.
+    let mut file = file;
+    put(&mut file, 4 * BLOCK + 24, 8);
+    put(&mut file, 4 * BLOCK + 28, 9);
+    let layout = Layout::read(rt.alloc(), &file)?;
+    assert_eq!(rt; lent(&file, &layout, 0), file.get(32768..36865));
+    let file = sample(rt.alloc())?;
+    let layout = Layout::read(rt.alloc(), &file)?;
+    assert_eq!(rt; lent(&file, &layout, 0), Some(&[][..]));
+    assert_eq!(rt;
+        lent(&file, &layout, 2),
+        file.get(offset::TYPES..offset::TYPES + 80)
+    );
+    assert_eq!(rt; lent(&file, &layout, 5), None);
+    Ok(())
+}
+
+#[test]
+fn only_scattered_blocks_are_gathered(rt: HostRuntime) -> Result<(), Fail> {
+    let file = container();
+    let layout = Layout::read(rt.alloc(), &file)?;
+    let mut buffer = Vec::new(rt.alloc());
+    for s in [3, 0, 4, 0] {
+        let want = gather(rt.alloc(), &file, &layout, s)?;
+        let bytes = contents(rt.alloc(), &file, &layout, s, &mut buffer)?;
+        assert!(rt; bytes == want.as_slice(), "stream {s}");
+    }
+    assert_eq!(rt; buffer.len(), 4097);
+    let fault = contents(rt.alloc(), &file, &layout, 5, &mut buffer).err();
     assert_eq!(rt; fault, Some(StreamFault::NoStream(5)));
     Ok(())
 }

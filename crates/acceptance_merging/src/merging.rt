@@ -3,10 +3,10 @@
 
 mod forward;
 mod merging;
+mod scattered;
 mod sizes;
 
 use cv_leaves::LeafFault;
-use linked_list_allocator::LocalHeap;
 use msf_blocks::MsfFault;
 use msf_streams::StreamFault;
 use pdb_info::InfoFault;
@@ -162,19 +162,5 @@ fn growth_is_refused(rt: HostRuntime) -> Result<(), Fail> {
         assert_eq!(rt; again.ok(), Some((2, 24, 1)));
         Ok(false)
     })?;
-    Ok(())
-}
-
-#[test]
-fn a_buffer_grows_in_its_own_memory(rt: HostRuntime) -> Result<(), Fail> {
-    let file = sample(rt.alloc())?;
-    let none = LocalHeap::new(rt.alloc(), 0)?;
-    let own = LocalHeap::new(rt.alloc(), 256)?;
-    let ample = LocalHeap::new(rt.alloc(), 4096)?;
-    // A buffer whose heap is empty cannot hold the stream, however much memory the call has.
-    let refused = read(&ample, &file, &mut Buffer::new(&none));
-    assert!(rt; matches!(refused, Err(PdbFault::Memory)));
-    let read = read(&ample, &file, &mut Buffer::new(&own));
-    assert_eq!(rt; read.ok(), Some((2, 24, 1)));
     Ok(())
 }

@@ -136,16 +136,16 @@ bytes_short : (size : ℕ) → size < 2 ^ 32 → bytes_of size < 2 ^ 32
 bytes_short size short = grind (arith, nat_tests)
 
 -- a placeholder for a position where a list has no stream
-no_stream : Listed
+pub no_stream : Listed
 no_stream = record { size = 0; blocks = [] }
 
 -- a stream of the layout, and what the layout promises of it
-record IsStream (layout : LayoutView) (s : ℕ) (stream : Listed) : Type 0 where
-  here : slice_get layout.streams s ≡ Some stream
-  fits : IsListed layout.superblock stream
+pub record IsStream (layout : LayoutView) (s : ℕ) (stream : Listed) : Type 0 where
+  pub here : slice_get layout.streams s ≡ Some stream
+  pub fits : IsListed layout.superblock stream
 
 -- each number below the number of streams is the number of a stream
-stream_at : (layout : LayoutView) (s : ℕ) → IsLayout layout → s < length layout.streams → IsStream layout s (get_or layout.streams s no_stream)
+pub stream_at : (layout : LayoutView) (s : ℕ) → IsLayout layout → s < length layout.streams → IsStream layout s (get_or layout.streams s no_stream)
 stream_at layout s holds below = record {
   here = slice_get-get_or layout.streams s no_stream below;
   fits = All-get_or (IsListed layout.superblock) layout.streams s no_stream below holds.each;

@@ -1,5 +1,5 @@
 -- The contents of a stream, which are in its blocks ("The MSF File Format", "The Stream Directory").
-use Rattle.std.specs.Prelude.{ℕ, ◌+◌, ◌-◌, ◌*◌, ◌/◌, ◌%◌, min, List, [], ◌∷◌, Option, Some, None, map, take, drop, get_or, slice_index, slice_get, option_map}
+use Rattle.std.specs.Prelude.{ℕ, ◌≡◌, ◌+◌, ◌-◌, ◌*◌, ◌/◌, ◌%◌, ◌<◌, min, length, List, [], ◌∷◌, Option, Some, None, map, take, drop, get_or, slice_index, slice_get, option_map}
 use Rattle.std.specs.List.{range_with_len}
 use Rattle.msf_blocks.specs.Directory.{Listed, bytes_of}
 use Rattle.msf_blocks.specs.Layout.{LayoutView}
@@ -27,12 +27,20 @@ abbrev pub stream_pieces : List ℕ → LayoutView → ℕ → Option (List (Lis
 stream_pieces file layout s =
     option_map (λ stream. pieces file layout.superblock.block_size stream.blocks (bytes_of stream.size)) (slice_get layout.streams s)
 
--- ---- the pieces during iteration
-
 -- the blocks of a stream, and no blocks where there is no stream
 abbrev pub blocks_in : Option Listed → List ℕ
 blocks_in None = []
 blocks_in (Some stream) = stream.blocks
+
+-- each block is the one after the block before it in the list
+abbrev pub AreConsecutive : List ℕ → Type 0
+AreConsecutive blocks = (k : ℕ) → k < length blocks → get_or blocks k 0 ≡ get_or blocks 0 0 + k
+
+-- s is the number of a stream, and its blocks are consecutive: its contents are one part of the file
+abbrev pub IsOnePart : LayoutView → ℕ → Type 0
+IsOnePart layout s = (s < length layout.streams) × AreConsecutive (blocks_in (slice_get layout.streams s))
+
+-- ---- the pieces during iteration
 
 -- the pieces of the s-th stream from this position of its list on, where `left` of its bytes are still to come
 abbrev pub pieces_from : List ℕ → LayoutView → ℕ → ℕ → ℕ → List (List ℕ)

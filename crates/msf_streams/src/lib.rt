@@ -6,8 +6,12 @@
 //!
 //! - [`pieces`] lends the contents from the file, in one piece for each block. It does not
 //!   allocate, so it reads streams of any size.
+//! - [`lent`] lends the contents as one part of the file, where the blocks are consecutive. Most
+//!   files keep their long streams so. It does not allocate either.
 //! - [`gather`] copies the contents into one buffer, for a reader of fields that cross from one
 //!   block into the next. It allocates the whole buffer before it copies anything.
+//! - [`contents`] lends the contents where they are one part of the file, and gathers them
+//!   otherwise.
 //! - [`write_image`] writes the *image* of five streams: the container that holds just these
 //!   streams. [`write_parts`] does the same for streams that are lent in several parts.
 //! - [`image_len`] computes the length of an image, or says that there is none.
@@ -45,5 +49,5 @@ mod write;
 
 pub use fault::{StreamFault, WriteFault};
 pub use image::image_len;
-pub use streams::{StreamPieces as Pieces, gather, pieces};
+pub use streams::{StreamPieces as Pieces, contents, gather, lent, pieces};
 pub use write::{write_image, write_parts};

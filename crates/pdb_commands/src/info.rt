@@ -13,7 +13,7 @@ use crate::show::{Show, run};
 use crate::streams::read_layout;
 use crate::text::{push_index, push_named, push_quoted};
 use byte_io::{Sink, Source};
-use msf_streams::gather;
+use msf_streams::contents;
 use pdb_info::{InfoHeader, Name};
 use pdb_merge::PdbFault;
 use std::alloc::{AllocError, Allocator};
@@ -89,13 +89,18 @@ fn push_features<A: Allocator>(text: &mut String<A>, features: &[u32]) -> Result
     Ok(())
 }
 
-/// The bytes of stream 1 of a file.
-fn info_stream<A: Allocator + Copy>(alloc: A, file: &[u8]) -> Result<Vec<u8, A>, PdbFault<A>>
-    ensures value { IfOk result (λ stream. (layout : LayoutView) × HasLayout file.now layout × (stream_contents file.now layout 1 ≡ Some stream.items)) }
+/// The bytes of stream 1 of a file. They are lent from the file where its blocks are consecutive,
+/// and gathered into the buffer otherwise.
+fn info_stream<'a, A: Allocator + Copy>(
+    alloc: A,
+    file: &'a [u8],
+    buffer: &'a mut Vec<u8, A>,
+) -> Result<&'a [u8], PdbFault<A>>
+    ensures value { IfOk result (λ stream. (layout : LayoutView) × HasLayout file.now layout × (stream_contents file.now layout 1 ≡ Some stream.now)) }
     ensures first { IfErr result (λ fault. HasNoInfoStream file.now fault ⊎ (fault ≡ PdbFault.Memory)) }
 {
     let layout = read_layout(alloc, file)?;
-    Ok(gather(alloc, file, &layout, INFO_STREAM)?)
+    Ok(contents(alloc, file, &layout, INFO_STREAM, buffer)?)
 }
 
 /// The command `info`.
@@ -108,8 +113,9 @@ impl<A: Allocator + Copy> Show<A> for Info {
     ghost refuses = { λ _. HasNoInfo };
 
     fn text(&self, alloc: A, file: &[u8]) -> Result<String<A>, RunFault<A>> {
-        let stream = info_stream(alloc, file)?;
-        let info = pdb_info::Info::read(alloc, &stream)?;
+        let mut buffer = Vec::new(alloc);
+        let stream = info_stream(alloc, file, &mut buffer)?;
+        let info = pdb_info::Info::read(alloc, stream)?;
         let mut text = String::new(alloc);
         push_header(&mut text, info.header())?;
         push_names(&mut text, info.names())?;

@@ -13,7 +13,7 @@ use std::marker::Model;
 use uuid::Uuid;
 
 /// The length of a header, in bytes.
-pub(crate) const LENGTH: usize = 28;
+pub const HEADER_LENGTH: usize = 28;
 
 // The offsets of the fields, in bytes from the front of the stream.
 const VERSION: usize = 0;
@@ -50,11 +50,11 @@ impl Model for InfoHeader {
 
 /// The GUID in the last 16 bytes of the header.
 fn guid_at_end(stream: &[u8]) -> Uuid
-    requires { LENGTH ≤ length stream.now }
+    requires { HEADER_LENGTH ≤ length stream.now }
     ensures { result ≡ stored_guid (take 16 (drop 12 stream.now)) }
 {
     let mut bytes = [0; 16];
-    bytes.copy_from_slice(&stream[GUID..LENGTH]);
+    bytes.copy_from_slice(&stream[GUID..HEADER_LENGTH]);
     guid_of(bytes)
 }
 
@@ -71,7 +71,7 @@ impl InfoHeader {
         ensures first { Makes result (header_checks stream.now) }
         ensures checked { IfErr result (λ fault. fault ≢ InfoFault.Memory) }
     {
-        if stream.len() < LENGTH {
+        if stream.len() < HEADER_LENGTH {
             return Err(InfoFault::InfoShort);
         }
         Ok(InfoHeader {
@@ -114,11 +114,11 @@ impl InfoHeader {
 /// The header of an info stream of version VC70, with the signature 0, this age and this stored
 /// GUID.
 #[tactic(auto, unfolding(byte_fields::specs::Number::four_bytes))]
-pub(crate) fn header_bytes(age: u32, stored: [u8; 16]) -> [u8; LENGTH]
+pub(crate) fn header_bytes(age: u32, stored: [u8; 16]) -> [u8; HEADER_LENGTH]
     ensures value { result ≡ u32s (20000404 ∷ 0 ∷ age ∷ []) ++ stored }
     ensures long { length stored ≡ 16 }
 {
-    let mut header = [0; LENGTH];
+    let mut header = [0; HEADER_LENGTH];
     header[VERSION..SIGNATURE].copy_from_slice(&VC70.to_le_bytes());
     header[AGE..GUID].copy_from_slice(&age.to_le_bytes());
     header[GUID..].copy_from_slice(&stored);

@@ -6,7 +6,7 @@ ghost use Rattle.byte_fields.specs.Check.{Makes};
 ghost use Rattle.pdb_info.specs.Names.{IsMap, numbers_at, present_count, map_checks};
 
 use crate::fault::InfoFault;
-use crate::header::LENGTH;
+use crate::header::HEADER_LENGTH;
 use byte_fields::{fits, u32_at};
 
 /// How many bytes Size, Capacity and the number of present words take together.
@@ -71,9 +71,9 @@ impl NameMap {
         ensures value { IfOk result (IsMap stream.now) }
         ensures first { Makes result (map_checks stream.now) }
     {
-        let buffer_len = number(stream, LENGTH)? as usize;
-        check_fits(stream, LENGTH + 4, buffer_len)?;
-        let size_offset = LENGTH + 4 + buffer_len;
+        let buffer_len = number(stream, HEADER_LENGTH)? as usize;
+        check_fits(stream, HEADER_LENGTH + 4, buffer_len)?;
+        let size_offset = HEADER_LENGTH + 4 + buffer_len;
         let size = number(stream, size_offset)?;
         // Capacity must fit in the stream, but its value is not used.
         number(stream, size_offset + 4)?;

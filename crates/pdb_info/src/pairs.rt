@@ -5,7 +5,7 @@ ghost use Rattle.byte_fields.specs.Check.{Makes, checks_below};
 ghost use Rattle.pdb_info.specs.Names.{IsMap, is_present, present_of, present_buckets, pair_offset, pairs_offset, pair_checks, size_of, buffer_of};
 
 use crate::fault::InfoFault;
-use crate::header::LENGTH;
+use crate::header::HEADER_LENGTH;
 use crate::map::{COUNTS, NameMap, check_fits};
 use byte_fields::{name_at, u32_at};
 
@@ -16,7 +16,7 @@ impl NameMap {
         requires map { IsMap stream.now self.now }
         ensures { result.now ≡ buffer_of stream.now }
     {
-        &stream[LENGTH + 4..self.size_offset]
+        &stream[HEADER_LENGTH + 4..self.size_offset]
     }
 
     /// Whether a bucket is present.

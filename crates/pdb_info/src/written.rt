@@ -6,12 +6,12 @@ ghost use Rattle.pdb_info.specs.Info.{HasInfo};
 ghost use Rattle.pdb_info.specs.Written.{info_contents, info_view};
 
 use crate::guid::guid_bytes;
-use crate::header::{LENGTH, header_bytes};
+use crate::header::{HEADER_LENGTH, header_bytes};
 use crate::settings::Settings;
 
 /// The offset of Capacity in a stream without names: the length of the buffer and Size come
 /// between the header and it.
-const CAPACITY: usize = LENGTH + 8;
+const CAPACITY: usize = HEADER_LENGTH + 8;
 
 /// How many buckets a map without names has.
 const BUCKETS: u32 = 8;
@@ -23,7 +23,7 @@ fn stream_of(age: u32, stored: [u8; 16]) -> [u8; 52]
 {
     let mut stream = [0; 52];
     stream[CAPACITY..CAPACITY + 4].copy_from_slice(&BUCKETS.to_le_bytes());
-    stream[..LENGTH].copy_from_slice(&header_bytes(age, stored));
+    stream[..HEADER_LENGTH].copy_from_slice(&header_bytes(age, stored));
     stream
 }
 

@@ -3,7 +3,8 @@
 use std::alloc::{Allocator, Global};
 use std::marker::Model;
 
-/// Holds the bytes of the TPI stream of one file. The file's records or types are lent from it.
+/// Holds the bytes of the TPI stream of one file, if the blocks of the stream are not consecutive.
+/// The file's records or types are then lent from it.
 ///
 /// Its bytes can be read only through what is lent from it. It may be used again after any answer:
 /// the bytes that it held are dropped then, and have no effect. It grows with the allocator that it

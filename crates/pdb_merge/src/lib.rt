@@ -5,8 +5,9 @@
 //! stream 2 holds type records, and the records are types: each names only simple types and records
 //! of the file, and no record leads into a cycle.
 //!
-//! - [`read_types`] reads the types of a file. They are lent from a [`Buffer`], which the caller
-//!   passes. The caller may pass the same buffer for the next file, so the TPI streams of two files
+//! - [`read_types`] reads the types of a file. They are lent from the file if the blocks of its TPI
+//!   stream are consecutive. Otherwise they are lent from a [`Buffer`], which the caller passes. The
+//!   caller may pass the same buffer for the next file, so the gathered streams of two files
 //!   are never in memory at once. [`PdbFault`] is the first fault on the way.
 //! - [`merge_to`] merges files: it writes one file with the types of all of them, each once, into
 //!   a sink. [`merge_files`] returns their canonical list, and [`write_merged`] writes the file of

@@ -8,8 +8,8 @@ ghost use Rattle.pdb_merge.specs.Read.{IsAccepted, HasPdbFault, HasTypeRecords, 
 use crate::buffer::Buffer;
 use crate::fault::PdbFault;
 use msf_blocks::Layout;
-use msf_streams::{StreamFault, gather};
-use pdb_info::InfoFault;
+use msf_streams::{StreamFault, contents};
+use pdb_info::{HEADER_LENGTH, InfoFault};
 use std::alloc::Allocator;
 use tpi_records::Records;
 use type_trees::Types;
@@ -20,9 +20,6 @@ const INFO_STREAM: u32 = 1;
 /// The stream that holds the type records.
 const TPI_STREAM: u32 = 2;
 
-/// How many bytes the header of the info stream has.
-const INFO_LENGTH: u32 = 28;
-
 /// Checks that stream 1 has at least as many bytes as a header. The bytes are not read.
 fn check_info<A: Allocator>(layout: &Layout<A>) -> Result<(), PdbFault<A>>
     ensures value { OnOk result ((file : List ℕ) → HasLongInfo file layout.now) }
@@ -31,7 +28,7 @@ fn check_info<A: Allocator>(layout: &Layout<A>) -> Result<(), PdbFault<A>>
     let Some(size) = layout.size(INFO_STREAM) else {
         return Err(PdbFault::Stream(StreamFault::NoStream(INFO_STREAM)));
     };
-    if size < INFO_LENGTH {
+    if (size as usize) < HEADER_LENGTH {
         return Err(PdbFault::Info(InfoFault::InfoShort));
     }
     Ok(())
@@ -43,23 +40,24 @@ impl<A: Allocator + Copy> Buffer<A> {
         self.bytes = Vec::new(self.alloc);
     }
 
-    /// Stores the bytes of stream 2 of a file with this layout, and lends its records.
-    fn stream_records(
-        &mut self,
+    /// Lends the records of stream 2 of a file with this layout. The buffer takes the bytes of the
+    /// stream only where its blocks are not consecutive.
+    fn stream_records<'a>(
+        &'a mut self,
         alloc: A,
-        file: &[u8],
+        file: &'a [u8],
         layout: &Layout<A>,
-    ) -> Result<Records<'_, A>, PdbFault<A>>
+    ) -> Result<Records<'a, A>, PdbFault<A>>
         requires { layout.now.superblock.num_blocks * layout.now.superblock.block_size ≤ length file.now }
         ensures value { IfOk result (ListsRecords file.now layout.now) }
         ensures first { IfErr result (λ fault. HasStreamFault file.now layout.now fault ⊎ (fault ≡ PdbFault.Memory)) }
     {
-        self.bytes = gather(self.alloc, file, layout, TPI_STREAM)?;
-        Ok(Records::read(alloc, &self.bytes)?)
+        let stream = contents(self.alloc, file, layout, TPI_STREAM, &mut self.bytes)?;
+        Ok(Records::read(alloc, stream)?)
     }
 
-    /// Replaces the bytes of the buffer by the TPI stream of a file, and lends its records.
-    fn records(&mut self, alloc: A, file: &[u8]) -> Result<Records<'_, A>, PdbFault<A>>
+    /// Drops the bytes of the buffer, and lends the records of a file.
+    fn records<'a>(&'a mut self, alloc: A, file: &'a [u8]) -> Result<Records<'a, A>, PdbFault<A>>
         ensures value { IfOk result (HasTypeRecords file.now) }
         ensures first { IfErr result (λ fault. HasRecordsFault file.now fault ⊎ (fault ≡ PdbFault.Memory)) }
     {
@@ -68,8 +66,8 @@ impl<A: Allocator + Copy> Buffer<A> {
         self.stream_records(alloc, file, &layout)
     }
 
-    /// Replaces the bytes of the buffer by the TPI stream of a file, and lends its types.
-    fn types(&mut self, alloc: A, file: &[u8]) -> Result<Types<'_, A>, PdbFault<A>>
+    /// Drops the bytes of the buffer, and lends the types of a file.
+    fn types<'a>(&'a mut self, alloc: A, file: &'a [u8]) -> Result<Types<'a, A>, PdbFault<A>>
         ensures value { IfOk result (IsAccepted file.now) }
         ensures first { IfErr result (λ fault. HasPdbFault file.now fault ⊎ (fault ≡ PdbFault.Memory)) }
         ensures memory { IfErr result (λ fault. fault ≡ PdbFault.Memory → first_failing (layout_checks file.now) ≡ None) }
@@ -82,7 +80,9 @@ impl<A: Allocator + Copy> Buffer<A> {
     }
 }
 
-/// Reads the type records of a file: those of its stream 2. They are lent from the buffer.
+/// Reads the type records of a file: those of its stream 2. They are lent from the file where the
+/// blocks of the stream are consecutive. Otherwise the stream is gathered into the buffer, and they
+/// are lent from there.
 ///
 /// The faults come in this order: those of the container; a container without a stream 2; those of
 /// that stream. Nothing else of the file is read. `Memory` is out of memory. The old bytes of the
@@ -101,7 +101,8 @@ pub fn read_records<'a, A: Allocator + Copy>(
     buffer.records(alloc, file)
 }
 
-/// Reads the types of a file: its type records, which are checked. They are lent from the buffer.
+/// Reads the types of a file: its type records, which are checked. They are lent as by
+/// [`read_records`].
 ///
 /// The faults come in this order: those of the container; a container without a stream 1; a
 /// stream 1 with fewer bytes than a header; a container without a stream 2; those of that stream;

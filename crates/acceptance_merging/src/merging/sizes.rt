@@ -12,7 +12,7 @@ use std::test::Fail;
 const SIZES: [u32; 7] = [512, 1024, 2048, 4096, 8192, 16384, 32768];
 
 /// Merges files into blocks of this size, and returns the answer and the bytes that were written.
-fn merged_at(
+pub(super) fn merged_at(
     alloc: Global,
     files: &[&[u8]],
     block_size: u32,

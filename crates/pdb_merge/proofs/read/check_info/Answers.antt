@@ -5,9 +5,9 @@ use Rattle.pdb_merge.proofs.read.check_info.Goals as goal
 pub returns-in_default-clause-first : goal.returns-in_default-clause-first
 returns-in_default-clause-first g c = λ file. (omega (arith, not_listed c.size.result c.args.layout.now.streams 1 c.size.ensures.value c.in_default.is), refl)
 
-pub returns-then-size-lt-INFO_LENGTH-clause-first :
-    goal.returns-then-size-lt-INFO_LENGTH-clause-first
-returns-then-size-lt-INFO_LENGTH-clause-first g c = λ file.
+pub returns-then-size-lt-HEADER_LENGTH-clause-first :
+    goal.returns-then-size-lt-HEADER_LENGTH-clause-first
+returns-then-size-lt-HEADER_LENGTH-clause-first g c = λ file.
     (short_info file c.args.layout.now c.in-Some.size (sym c.in-Some.ensures.value) (omega arith), refl)
 
 pub returns-clause-value : goal.returns-clause-value
