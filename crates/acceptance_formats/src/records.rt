@@ -1,6 +1,7 @@
 //! What no clause says: the texts of the faults, that a call succeeds, and out of memory.
 
-use samples::{CONST, TO_INT, put, refusals, stream_with};
+use linked_list_allocator::LocalHeap;
+use samples::{CONST, TO_INT, pointer, put, refusals, stream_of, stream_with};
 use std::alloc::Allocator;
 use std::test::Fail;
 use tpi_records::{Records, TpiFault, TpiHeader, tpi_header_bytes};
@@ -77,13 +78,53 @@ fn an_end_that_is_too_large(rt: HostRuntime) -> Result<(), Fail> {
 
 #[test]
 fn growth_is_refused(rt: HostRuntime) -> Result<(), Fail> {
-    // 64 records of four bytes each need a table of 256 bytes.
-    let stream = stream_with(rt.alloc(), &[b"\x02\0\0\0".as_slice(); 64])?;
-    refusals(rt.alloc(), 16, 24, |heap| {
+    // 4,096 records of four bytes each need 64 starts.
+    let stream = stream_with(rt.alloc(), &[b"\x02\0\0\0".as_slice(); 4096])?;
+    refusals(rt.alloc(), 16, 64, |heap| {
         let fault = fault_of(heap, &stream);
         assert!(rt; matches!(fault, None | Some(TpiFault::Memory)));
         Ok(fault.is_some())
     })?;
+    // A fault of the last record comes before a refusal.
+    let mut short = stream_with(rt.alloc(), &[b"\x02\0\0\0".as_slice(); 4096])?;
+    put(&mut short, 56 + 4 * 4095, b"\x03");
+    let fault = TpiFault::RecordLen {
+        index: 0x1FFF,
+        len: 3,
+    };
+    for room in 0..64usize {
+        let heap = LocalHeap::new(rt.alloc(), room.saturating_mul(16))?;
+        assert_eq!(rt; fault_of(&heap, &short), Some(fault), "{room}");
+    }
+    Ok(())
+}
+
+#[test]
+fn records_between_two_starts(rt: HostRuntime) -> Result<(), Fail> {
+    let mut bytes = Vec::new(rt.alloc());
+    for to in 0..130 {
+        bytes.extend_from_slice(&pointer(to))?;
+    }
+    let stream = stream_of(rt.alloc(), 130, &bytes)?;
+    let records = Records::read(rt.alloc(), &stream)?;
+    assert_eq!(rt;
+        (records.len(), records.bytes_len(), records.starts_len()),
+        (130, 1560, 3)
+    );
+    for (position, to) in [(0, 0), (63, 63), (64, 64), (128, 128), (129, 129)] {
+        let record = pointer(to);
+        assert_eq!(rt;
+            records.get(position),
+            Some(record.as_slice()),
+            "{position}"
+        );
+    }
+    assert_eq!(rt; records.get(130), None);
+    assert_eq!(rt; records.get(usize::MAX), None);
+    let mut cursor = records.cursor();
+    for position in [129, 64, 63, 63, 64, 65, 130, 66, 0, 1, usize::MAX, 2] {
+        assert_eq!(rt; cursor.get(position), records.get(position), "{position}");
+    }
     Ok(())
 }
 

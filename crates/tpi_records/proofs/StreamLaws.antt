@@ -1,14 +1,15 @@
 -- The records of a stream are unique, and a stream that has records has no fault.
-use Rattle.std.proofs.Common.{◌≡◌, ◌⊎◌, ℕ, None, ◌≤◌, List, [], length, drop, refl, sym, ap, ◌∙◌, arith, inl, inr}
+use Rattle.std.proofs.Common.{◌≡◌, ◌⊎◌, ℕ, None, ◌*◌, ◌≤◌, List, [], length, drop, refl, sym, ap, ◌∙◌, arith, inl, inr}
 use Rattle.std.specs.List.{concat, AllByRecursion}
 use Rattle.std.proofs.lemmas.List.{append-nil, take-append-drop, take_at, length-append, length-take, length-drop}
 use Rattle.std.proofs.lemmas.Bool.Decides.{nat_tests}
 use Rattle.byte_fields.specs.Check.{first_failing}
 use Rattle.tpi_records.specs.Header.{Header, HasTpiHeader, header_checks}
-use Rattle.tpi_records.specs.Records.{IsRecord, Begins, HasFlaw, IsMiscounted, HasRecords, IsFirstFault, framed_bytes}
+use Rattle.tpi_records.specs.Records.{IsRecord, Begins, HasFlaw, IsMiscounted, HasRecords, IsFirstFault, IsFramed, framed_bytes, records_in}
 use Rattle.tpi_records.specs.declared.fault.TpiFault.{TpiFault}
 use Rattle.tpi_records.specs.declared.fault.TpiFault.TheVariants.{Memory}
 use Rattle.tpi_records.proofs.FramingLaws.{one_framing, framed_unflawed}
+use Rattle.tpi_records.proofs.CutLaws.{begins_in, few_records}
 
 -- ---- headers
 
@@ -63,13 +64,11 @@ pub framed_fault : (stream bytes : List ℕ) (header : Header) (said : ℕ) (fau
     → HasFlaw bytes fault ⊎ IsMiscounted bytes said fault → IsFirstFault stream fault
 framed_fault stream bytes header said fault is has count flaw = inr (header, has, rw (is, count) at flaw)
 
--- the second pass finds the records of the first
-pub found_again : (stream bytes : List ℕ) (records again : List (List ℕ)) → HasRecords stream records → bytes ≡ concat records → Begins bytes again [] → HasRecords stream again
-found_again stream bytes records again has parts begins =
-    let same : again ≡ records = one_framing again records begins.each has.each (sym (append-nil (concat again)) ∙ sym begins.parts ∙ parts) in
-    rw same has
+-- if the framed bytes are records, and as many as was said, then they are the records of the stream
+pub framed_has : (stream bytes : List ℕ) (header : Header) (said : ℕ) → bytes ≡ framed_bytes stream header → HasTpiHeader stream header → said ≡ header.count → IsFramed bytes
+    → said ≡ length (records_in bytes) → HasRecords stream (records_in bytes)
+framed_has stream bytes header said is has count framed counted = counted_records stream bytes header (records_in bytes) is has (begins_in bytes framed) (sym counted ∙ count)
 
--- bytes that are records have no fault, so the only fault left is out of memory
-pub wants_memory : (bytes : List ℕ) (records : List (List ℕ)) (fault : TpiFault) → AllByRecursion IsRecord records → bytes ≡ concat records → HasFlaw bytes fault ⊎ (fault ≡ Memory) → fault ≡ Memory
-wants_memory bytes records fault each parts (inl flaw) = absurd (framed_unflawed bytes records fault each parts flaw)
-wants_memory bytes records fault each parts (inr memory) = memory
+-- they are at most a quarter as many as the stream has bytes
+pub framed_few : (stream bytes : List ℕ) → HasRecords stream (records_in bytes) → IsFramed bytes → 4 * length (records_in bytes) ≤ length stream
+framed_few stream bytes has framed = omega (arith, few_records bytes framed, has_few stream (records_in bytes) has, ap length framed.whole)

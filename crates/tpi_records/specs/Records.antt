@@ -1,6 +1,6 @@
 -- The records of a TPI stream, one after the other ("The PDB TPI and IPI Streams", "Type Records").
-use Rattle.std.specs.Prelude.{map, All, ℕ, zero, suc, ◌≡◌, ◌≢◌, ◌+◌, ◌%◌, ◌^◌, ◌<◌, ◌≤◌, ◌⊎◌, Some, List, [], ◌∷◌, ◌++◌, length, take, drop}
-use Rattle.std.specs.List.{concat, AllByRecursion}
+use Rattle.std.specs.Prelude.{map, ℕ, zero, suc, ◌≡◌, ◌≢◌, ◌+◌, ◌*◌, ◌/◌, ◌%◌, ◌^◌, ◌<◌, ◌≤◌, ◌⊎◌, Some, List, [], ◌∷◌, ◌++◌, length, take, drop}
+use Rattle.std.specs.List.{concat, range_with_len, AllByRecursion}
 use Rattle.byte_fields.specs.Number.{number_at}
 use Rattle.byte_fields.specs.Check.{first_failing}
 use Rattle.tpi_records.specs.Header.{first_index, Header, HasTpiHeader, header_checks}
@@ -64,10 +64,6 @@ IsFirstFault stream fault =
 unfoldable pub record_at : List ℕ → ℕ → List ℕ
 record_at bytes start = take (number_at 2 bytes start + 2) (drop start bytes)
 
--- the records that begin at these offsets
-abbrev pub records_at : List ℕ → List ℕ → List (List ℕ)
-records_at bytes starts = map (record_at bytes) starts
-
 -- the bytes, cut into records; the number bounds how many records are cut
 unfoldable pub cut : ℕ → List ℕ → List (List ℕ)
 cut zero bytes = []
@@ -84,7 +80,14 @@ pub record IsFramed (bytes : List ℕ) : Type 0 where
   pub whole : concat (records_in bytes) ≡ bytes
   pub short : length bytes < 2 ^ 32
 
--- these are the starts of the records, in order, and each record ends within the bytes
-pub record AreStarts (bytes starts : List ℕ) : Type 0 where
-  pub inside : All (λ start. start + number_at 2 bytes start + 2 ≤ length bytes) starts
-  pub are : records_in bytes ≡ records_at bytes starts
+-- the offset at which the record at this position begins
+abbrev pub start_of : List (List ℕ) → ℕ → ℕ
+start_of records position = length (concat (take position records))
+
+-- the offsets at which the first `count` of the records 0, 64, 128 and so on begin
+abbrev pub starts_below : List (List ℕ) → ℕ → List ℕ
+starts_below records count = map (λ k. start_of records (64 * k)) (range_with_len 0 count)
+
+-- how many of the records 0, 64, 128 and so on there are among this many records
+abbrev pub starts_for : ℕ → ℕ
+starts_for count = (count + 63) / 64

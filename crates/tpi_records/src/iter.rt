@@ -1,8 +1,8 @@
 //! The iterator over the records of a TPI stream.
 
-ghost use Rattle.std.specs.Prelude.{◌≡◌, ◌∷◌, ◌<◌, length};
+ghost use Rattle.std.specs.Prelude.{◌≡◌, ◌<◌, [], ◌∷◌, length, drop, IfSome, IfNone};
 ghost use Rattle.std.specs.Iterator.{YieldsFirstRef, item_count};
-ghost use Rattle.tpi_records.specs.Records.{IsFramed, records_in};
+ghost use Rattle.tpi_records.specs.Records.{IsRecord, IsFramed, records_in};
 
 use byte_fields::u16_at;
 use std::marker::Model;
@@ -41,10 +41,42 @@ fn split_record(bytes: &[u8]) -> (&[u8], &[u8])
     requires framed { IsFramed bytes.now }
     requires some { 0 < length bytes.now }
     ensures records { records_in bytes.now ≡ result.0.now ∷ records_in result.1.now }
+    ensures record { IsRecord result.0.now }
     ensures framed { IsFramed result.1.now }
 {
     let len = usize::from(u16_at(bytes, 0)) + 2;
     bytes.split_at(len)
+}
+
+/// The first record of `bytes`, and the bytes after it. `None` where there are no bytes.
+#[tactic(auto, using(crate::proofs::CutLaws::none_in))]
+pub fn split_first(bytes: &[u8]) -> Option<(&[u8], &[u8])>
+    requires { IsFramed bytes.now }
+    ensures some { IfSome result (λ r. records_in bytes.now ≡ r.0.now ∷ records_in r.1.now) }
+    ensures record { IfSome result (λ r. IsRecord r.0.now) }
+    ensures framed { IfSome result (λ r. IsFramed r.1.now) }
+    ensures none { IfNone result (records_in bytes.now ≡ []) }
+{
+    if bytes.is_empty() {
+        return None;
+    }
+    Some(split_record(bytes))
+}
+
+/// The bytes without their first `count` records.
+pub fn skip(bytes: &[u8], count: usize) -> &[u8]
+    requires { IsFramed bytes.now }
+    ensures records { records_in result.now ≡ drop count (records_in bytes.now) }
+    ensures framed { IsFramed result.now }
+{
+    let mut left = bytes;
+    for _ in 0..count {
+        let Some((_, others)) = split_first(left) else {
+            return left;
+        };
+        left = others;
+    }
+    left
 }
 
 impl<'a> Iterator for Iter<'a> {
@@ -54,12 +86,8 @@ impl<'a> Iterator for Iter<'a> {
 
     ghost remaining = { item_count (λ s. s) };
 
-    #[tactic(auto, using(crate::proofs::CutLaws::none_in))]
     fn next(&mut self) -> Option<&'a [u8]> {
-        if self.left.is_empty() {
-            return None;
-        }
-        let (record, others) = split_record(self.left);
+        let (record, others) = split_first(self.left)?;
         self.left = others;
         Some(record)
     }

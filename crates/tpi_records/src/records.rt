@@ -1,134 +1,45 @@
-//! Reads the type records of a TPI stream.
+//! The type records of a TPI stream.
 
-ghost use Rattle.std.specs.Prelude.{◌≡◌, ◌⊎◌, ◌↔◌, ◌+◌, ◌*◌, ◌^◌, ◌<◌, ◌≤◌, IsTrue, option_map, slice_get, length, take, drop, [], List, ℕ, IfOk, IfErr, IfSome};
+ghost use Rattle.std.specs.Prelude.{◌≡◌, ◌⊎◌, ◌↔◌, ◌+◌, ◌*◌, ◌/◌, ◌^◌, ◌<◌, ◌≤◌, IsTrue, option_map, slice_get, length, drop, [], List, ℕ, IfOk, IfErr, IfSome};
 ghost use Rattle.std.specs.List.{AllByRecursion, concat};
-ghost use Rattle.byte_fields.specs.Number.{number_at};
-ghost use Rattle.tpi_records.specs.Header.{HasTpiHeader};
-ghost use Rattle.tpi_records.specs.Records.{IsRecord, IsFlaw, IsFramed, AreStarts, Begins, HasFlaw, IsMiscounted, IsFirstFault, HasRecords, record_at, records_in, framed_bytes};
+ghost use Rattle.tpi_records.specs.Records.{IsRecord, IsFramed, IsFirstFault, HasRecords, records_in, starts_for};
 
+use crate::cursor::Cursor;
 use crate::fault::TpiFault;
-use crate::header::{FIRST_INDEX, LENGTH, TpiHeader};
-use crate::iter::Iter;
-use byte_fields::u16_at;
+use crate::framing::{STRIDE, check_records, framed};
+use crate::header::TpiHeader;
+use crate::iter::{Iter, skip, split_first};
 use std::alloc::{Allocator, Global};
 use std::marker::Model;
 
-/// The length in bytes of the record that begins at `start`. Its type index is `index`, which a
-/// fault names.
-fn record_len(bytes: &[u8], start: usize, index: u32) -> Result<usize, TpiFault>
-    requires { start < length bytes.now }
-    ensures field { IfOk result (λ whole. whole ≡ number_at 2 bytes.now start + 2) }
-    ensures inside { IfOk result (λ whole. start + whole ≤ length bytes.now) }
-    ensures value { IfOk result (λ whole. IsRecord (take whole (drop start bytes.now))) }
-    ensures first { IfErr result (IsFlaw (drop start bytes.now) index) }
+/// The start that is kept of the record at this position or of one at most 63 before it.
+fn start_below(starts: &[u32], position: usize) -> Option<usize>
+    ensures { result ≡ slice_get starts.now (position / 64) }
 {
-    let left = bytes.len() - start;
-    if left < 2 {
-        return Err(TpiFault::RecordShort { index });
-    }
-    let len = u16_at(bytes, start);
-    let whole = usize::from(len) + 2;
-    if len < 2 || whole % 4 != 0 {
-        let len = u32::from(len);
-        return Err(TpiFault::RecordLen { index, len });
-    }
-    if left < whole {
-        return Err(TpiFault::RecordShort { index });
-    }
-    Ok(whole)
-}
-
-/// The record that begins at `start`.
-#[tactic(auto, unfolding(crate::specs::Records::record_at))]
-fn record_at(bytes: &[u8], start: usize) -> &[u8]
-    requires { start + number_at 2 bytes.now start + 2 ≤ length bytes.now }
-    ensures { result.now ≡ record_at bytes.now start }
-{
-    let whole = usize::from(u16_at(bytes, start)) + 2;
-    &bytes[start..start + whole]
-}
-
-/// The bytes of the records, which the header frames.
-fn framed(stream: &[u8], header: TpiHeader) -> &[u8]
-    requires { HasTpiHeader stream.now header }
-    ensures value { result.now ≡ framed_bytes stream.now header }
-    ensures short { length result.now < 2 ^ 32 }
-{
-    let end = LENGTH + header.record_bytes() as usize;
-    &stream[LENGTH..end]
-}
-
-/// Checks that `bytes` are `said` records, one after the other.
-fn check_records(bytes: &[u8], said: u32) -> Result<(), TpiFault>
-    requires { length bytes.now < 2 ^ 32 }
-    ensures value { IfOk result (λ _. (records : List (List ℕ)) × Begins bytes.now records [] × (said ≡ length records)) }
-    ensures first { IfErr result (λ fault. HasFlaw bytes.now fault ⊎ IsMiscounted bytes.now said fault) }
-{
-    let mut start = 0;
-    let mut found = 0;
-    while start < bytes.len() {
-        start += record_len(bytes, start, FIRST_INDEX + found)?;
-        found += 1;
-    }
-    if found != said {
-        return Err(TpiFault::RecordCount { said, found });
-    }
-    Ok(())
-}
-
-/// Makes every check, and returns the bytes of the records and how many records there are.
-fn check(stream: &[u8]) -> Result<(&[u8], u32), TpiFault>
-    ensures value { IfOk result (λ found. (records : List (List ℕ)) × HasRecords stream.now records × (found.0.now ≡ concat records) × (found.1 ≡ length records)) }
-    ensures short { IfOk result (λ found. length found.0.now < 2 ^ 32) }
-    ensures first { IfErr result (IsFirstFault stream.now) }
-{
-    let header = TpiHeader::read(stream)?;
-    let bytes = framed(stream, header);
-    let count = header.count();
-    check_records(bytes, count)?;
-    Ok((bytes, count))
-}
-
-/// The start of each record of `bytes`. There are `count` records.
-fn record_starts<A: Allocator>(alloc: A, bytes: &[u8], count: u32) -> Result<Vec<u32, A>, TpiFault>
-    requires { length bytes.now < 2 ^ 32 }
-    ensures framed { IfOk result (λ _. IsFramed bytes.now) }
-    ensures table { IfOk result (λ starts. AreStarts bytes.now starts.items) }
-    ensures value { IfOk result (λ _. Begins bytes.now (records_in bytes.now) []) }
-    ensures first { IfErr result (λ fault. HasFlaw bytes.now fault ⊎ (fault ≡ TpiFault.Memory)) }
-{
-    let mut starts = Vec::with_capacity(alloc, count as usize)?;
-    let mut start = 0;
-    let mut index = FIRST_INDEX;
-    while start < bytes.len() {
-        // Both passes take the same step, so they see the same records.
-        let len = record_len(bytes, start, index)?;
-        starts.push(start as u32)?;
-        start += len;
-        index += 1;
-    }
-    Ok(starts)
+    starts.get(position / STRIDE).map(|start| *start as usize)
 }
 
 /// The type records of a TPI stream, lent from it.
 ///
-/// Made by [`Records::read`]. It keeps a reference to the bytes of the records, and the start of
-/// each record in four bytes. ("The PDB TPI and IPI Streams", "Type Records".)
+/// Made by [`Records::read`]. It keeps a reference to the bytes of the records, and the starts of
+/// records 0, 64, 128 and so on, each in four bytes. A record between two of them is found by
+/// stepping over those before it. ("The PDB TPI and IPI Streams", "Type Records".)
 #[derive(Drop)]
 pub struct Records<'a, A: Allocator = Global> {
     bytes: &'a [u8],
+    count: u32,
     starts: Vec<u32, A>,
 }
 
 impl<'a, A: Allocator> Model for Records<'a, A> {
-    ghost use Rattle.std.specs.Prelude.{List, ℕ};
-    ghost use Rattle.tpi_records.specs.Records.{IsFramed, AreStarts, records_in};
+    ghost use Rattle.std.specs.Prelude.{List, ℕ, ◌≡◌, length};
+    ghost use Rattle.tpi_records.specs.Records.{IsFramed, starts_below, starts_for, records_in};
 
     ghost Value = { List (List ℕ) };
 
     ghost view = { λ r. records_in r.bytes.now };
 
-    ghost invariant = { λ r. IsFramed r.bytes.now × AreStarts r.bytes.now r.starts.items };
+    ghost invariant = { λ r. IsFramed r.bytes.now × (r.count ≡ length (records_in r.bytes.now)) × (r.starts.items ≡ starts_below (records_in r.bytes.now) (starts_for r.count)) };
 }
 
 impl<'a, A: Allocator + Copy> Records<'a, A> {
@@ -142,10 +53,10 @@ impl<'a, A: Allocator + Copy> Records<'a, A> {
     ///    four bytes long.
     ///    `RecordShort`: the bytes end within the record.
     /// 3. `RecordCount`: the header announces another number of records.
-    /// 4. `Memory`: out of memory for the table. Nothing is allocated before all checks passed.
+    /// 4. `Memory`: out of memory for the starts. All checks passed.
     ///
-    /// Bytes after the records are ignored. This allocates four bytes for each record, all at once.
-    /// ("The PDB TPI and IPI Streams", "Type Records".)
+    /// Bytes after the records are ignored. This allocates four bytes for every 64 records, as it
+    /// finds them. ("The PDB TPI and IPI Streams", "Type Records".)
     pub fn read(alloc: A, stream: &'a [u8]) -> Result<Records<'a, A>, TpiFault>
         ensures value { IfOk result (HasRecords stream.now) }
         // A stream that has records is refused only when out of memory.
@@ -155,9 +66,19 @@ impl<'a, A: Allocator + Copy> Records<'a, A> {
             ⊎ ((fault ≡ TpiFault.Memory) × ((records : List (List ℕ)) × HasRecords stream.now records))) }
         ensures few { IfOk result (λ records. 4 * length records ≤ length stream.now) }
     {
-        let (bytes, count) = check(stream)?;
-        let starts = record_starts(alloc, bytes, count)?;
-        Ok(Records { bytes, starts })
+        let header = TpiHeader::read(stream)?;
+        let bytes = framed(stream, header);
+        let count = header.count();
+        let mut starts = Vec::new(alloc);
+        let kept = check_records(bytes, count, &mut starts)?;
+        if !kept {
+            return Err(TpiFault::Memory);
+        }
+        Ok(Records {
+            bytes,
+            count,
+            starts,
+        })
     }
 }
 
@@ -170,7 +91,7 @@ impl<'a, A: Allocator> Records<'a, A> {
         ensures few { result < 2 ^ 30 }
         ensures short { length (concat self.now) < 2 ^ 32 }
     {
-        self.starts.len()
+        self.count as usize
     }
 
     /// How many bytes the records have together, with their length fields.
@@ -180,23 +101,31 @@ impl<'a, A: Allocator> Records<'a, A> {
         self.bytes.len() as u32
     }
 
+    /// How many starts are kept, each in four bytes: those of records 0, 64, 128 and so on.
+    pub fn starts_len(&self) -> usize
+        ensures value { result ≡ starts_for (length self.now) }
+        ensures few { result ≤ length (concat self.now) / 256 + 1 }
+    {
+        self.starts.len()
+    }
+
     /// Whether there are no records.
     pub fn is_empty(&self) -> bool
         ensures { IsTrue result ↔ (self.now ≡ []) }
     {
-        self.starts.is_empty()
+        self.count == 0
     }
 
     /// The record at this position, from 0: the whole record, with its length field.
     ///
-    /// `None` where there is no such record. This does not allocate.
-    #[tactic(auto, using(crate::proofs::TableLaws::record_there))]
+    /// `None` where there is no such record. This steps over at most 63 records and does not
+    /// allocate. A [`Cursor`] does not step where positions come one after the other.
     pub fn get(&self, position: usize) -> Option<&'a [u8]>
         ensures value { option_map (λ r. r.now) result ≡ slice_get self.now position }
         ensures each { IfSome result (λ r. IsRecord r.now) }
     {
-        let start = *self.starts.get(position)? as usize;
-        Some(record_at(self.bytes, start))
+        let (record, _) = split_first(self.bytes_from(position))?;
+        Some(record)
     }
 
     /// The records in order. Each one is lent whole, with its length field.
@@ -208,5 +137,24 @@ impl<'a, A: Allocator> Records<'a, A> {
         ensures few { length result < 2 ^ 30 }
     {
         Iter::over(self.bytes)
+    }
+
+    /// The bytes of the records from this position on.
+    pub(crate) fn bytes_from(&self, position: usize) -> &'a [u8]
+        ensures records { records_in result.now ≡ drop position self.now }
+        ensures framed { IsFramed result.now }
+    {
+        let Some(start) = start_below(&self.starts, position) else {
+            return &[];
+        };
+        let (_, bytes) = self.bytes.split_at(start);
+        skip(bytes, position % STRIDE)
+    }
+
+    /// A cursor over the records, which are looked up by it. It does not allocate.
+    pub fn cursor(&self) -> Cursor<'_, 'a, A>
+        ensures { result ≡ self.now }
+    {
+        Cursor::over(self, self.bytes)
     }
 }

@@ -16,13 +16,14 @@ use crate::graph::graph_of;
 use std::alloc::{Allocator, Global};
 use std::marker::Model;
 use topological_order::{OrderFault, topological_order};
-use tpi_records::{FIRST_INDEX, Records};
+use tpi_records::{Cursor, FIRST_INDEX, Records};
 
 /// The bytes of the record at a position. The record is whole: it begins with its length field.
-pub fn record_at<'a, A: Allocator>(records: &Records<'a, A>, position: usize) -> &'a [u8]
-    requires { position < length records.now }
-    ensures value { result.now ≡ get_or records.now position [] }
+pub fn record_at<'a, A: Allocator>(records: &mut Cursor<'_, 'a, A>, position: usize) -> &'a [u8]
+    requires { position < length records.old }
+    ensures value { result.now ≡ get_or records.old position [] }
     ensures framed { IsRecord result.now }
+    ensures same { records.new ≡ records.old }
 {
     let Some(bytes) = records.get(position) else {
         unreachable!()

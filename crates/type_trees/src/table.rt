@@ -72,8 +72,9 @@ fn add_all<S: BuildHasher, A: Allocator + Copy>(
     let mut positions = vec![in alloc; 0u32; types.len()]?;
     let mut copy = Vec::new(alloc);
     let mut last = 0;
+    let mut records = types.records().cursor();
     for position in types.in_order() {
-        let bytes = record_at(types.records(), position);
+        let bytes = record_at(&mut records, position);
         last = add_record(texts, &mut copy, bytes, &positions, last)?;
         positions[position] = last as u32;
     }

@@ -13,6 +13,11 @@ returns-clause-records c =
     let s = splits c.args.bytes.now c.requires.framed c.requires.some in
     rw (c.split_at.ensures.front, c.split_at.ensures.back, c.from-len.ensures, c.u16_at.ensures) s.records
 
+pub returns-clause-record : goal.returns-clause-record
+returns-clause-record c =
+    let s = splits c.args.bytes.now c.requires.framed c.requires.some in
+    rw (c.split_at.ensures.front, c.from-len.ensures, c.u16_at.ensures) (rw s.records at c.requires.framed.each).0
+
 pub returns-clause-framed : goal.returns-clause-framed
 returns-clause-framed c =
     let s = splits c.args.bytes.now c.requires.framed c.requires.some in

@@ -1,13 +1,14 @@
-use Rattle.std.proofs.Common.{arith, ◌≡◌, Some}
-use Rattle.std.proofs.lemmas.Option.{gets}
-use Rattle.std.proofs.lemmas.Grind.{common_steps}
-use Rattle.std.specs.List.{slice_get}
-use Rattle.tpi_records.proofs.TableLaws.{record_is}
+use Rattle.std.proofs.Common.{sym, ◌∙◌, refl}
+use Rattle.tpi_records.specs.Records.{records_in}
+use Rattle.tpi_records.proofs.TableLaws.{is_next, none_left}
 use Rattle.tpi_records.proofs.records.Records.get.Goals as goal
 
-pub returns-clause-each : goal.returns-clause-each
-returns-clause-each g c =
-    let start = c.in_ok-start.field-0.now in
-    let starts = c.self.inside.starts.items in
-    let there : slice_get starts c.args.position ≡ Some start = grind (arith, common_steps, gets, c.in_ok-start.ensures.lookup, c.deref.ensures.value) in
-    rw c.record_at.ensures (record_is c.self.inside.bytes.now starts c.args.position start (rw (← c.self.invariant.1.are) c.self.invariant.0.each) there)
+pub returns-clause-value : goal.returns-clause-value
+returns-clause-value g c =
+    let next = is_next c.args.self.now c.args.position c.in_ok-record.record.now (records_in c.in_ok-record.field-0-1.now) (sym c.bytes_from.ensures.records ∙ c.in_ok-record.ensures.some) in
+    sym next.here
+
+pub returns-in_err-record-clause-value : goal.returns-in_err-record-clause-value
+returns-in_err-record-clause-value g c =
+    let none = none_left c.args.self.now c.args.position (sym c.bytes_from.ensures.records ∙ c.in_err-record.ensures.none) in
+    rw (none, c.from_residual.ensures) refl

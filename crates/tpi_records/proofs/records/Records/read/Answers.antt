@@ -1,35 +1,43 @@
-use Rattle.std.proofs.Common.{arith, inr, ap, length}
+use Rattle.std.proofs.Common.{arith, inl, inr, refl}
 use Rattle.std.proofs.lemmas.Result.{err_from_is_err_and}
 use Rattle.tpi_records.specs.Records.{records_in}
-use Rattle.tpi_records.proofs.CutLaws.{few_records}
-use Rattle.tpi_records.proofs.StreamLaws.{no_fault, found_again, wants_memory, has_few}
+use Rattle.tpi_records.proofs.StreamLaws.{no_fault, framed_fault, framed_has, framed_few}
 use Rattle.tpi_records.proofs.records.Records.read.Goals as goal
 
-pub returns-in_err-bytes-clause-found : goal.returns-in_err-bytes-clause-found
-returns-in_err-bytes-clause-found g c =
+pub returns-in_err-header-clause-found : goal.returns-in_err-header-clause-found
+returns-in_err-header-clause-found g c =
     let p = err_from_is_err_and c.from_residual.result c.from_residual.ensures.1 in
-    rw (p.1, p.2) (λ records has. absurd (no_fault c.args.stream.now records _ has c.in_err-bytes.ensures.first))
+    rw (p.1, p.2) (λ records has. absurd (no_fault c.args.stream.now records _ has (inl c.in_err-header.ensures.first)))
 
-pub returns-in_err-starts-clause-found : goal.returns-in_err-starts-clause-found
-returns-in_err-starts-clause-found g c =
-    let p = err_from_is_err_and c.from_residual-in_err-starts.result c.from_residual-in_err-starts.ensures.1 in
-    let r = c.in_ok-bytes.ensures.value in
-    rw (p.1, p.2) (λ records has. wants_memory c.in_ok-bytes.bytes.now r.0 _ r.1.each r.2 c.in_err-starts.ensures.first)
+pub returns-in_err-kept-clause-first : goal.returns-in_err-kept-clause-first
+returns-in_err-kept-clause-first g c =
+    let p = err_from_is_err_and c.from_residual-in_err-kept.result c.from_residual-in_err-kept.ensures.1 in
+    rw (p.1, p.2) (inl (framed_fault c.args.stream.now c.framed-bytes.result.now c.in_ok-header.header c.count-count.result _
+    c.framed-bytes.ensures.value c.in_ok-header.ensures.value c.count-count.ensures c.in_err-kept.ensures.first))
 
-pub returns-in_err-starts-clause-first : goal.returns-in_err-starts-clause-first
-returns-in_err-starts-clause-first g c =
-    let p = err_from_is_err_and c.from_residual-in_err-starts.result c.from_residual-in_err-starts.ensures.1 in
-    let r = c.in_ok-bytes.ensures.value in
-    rw (p.1, p.2) (inr (wants_memory c.in_ok-bytes.bytes.now r.0 _ r.1.each r.2 c.in_err-starts.ensures.first, (r.0, r.1)))
+pub returns-in_err-kept-clause-found : goal.returns-in_err-kept-clause-found
+returns-in_err-kept-clause-found g c =
+    let p = err_from_is_err_and c.from_residual-in_err-kept.result c.from_residual-in_err-kept.ensures.1 in
+    rw (p.1, p.2) (λ records has. absurd (no_fault c.args.stream.now records _ has
+    (framed_fault c.args.stream.now c.framed-bytes.result.now c.in_ok-header.header c.count-count.result _
+    c.framed-bytes.ensures.value c.in_ok-header.ensures.value c.count-count.ensures c.in_err-kept.ensures.first)))
+
+pub returns-then-not-kept-clause-first : goal.returns-then-not-kept-clause-first
+returns-then-not-kept-clause-first g c =
+    let bytes = c.framed-bytes.result.now in
+    inr (
+      refl,
+      (
+        records_in bytes,
+        framed_has c.args.stream.now bytes c.in_ok-header.header c.count-count.result
+            c.framed-bytes.ensures.value c.in_ok-header.ensures.value c.count-count.ensures c.in_ok-kept.ensures.framed c.in_ok-kept.ensures.counted,
+      ),
+    )
 
 pub returns-clause-value : goal.returns-clause-value
 returns-clause-value g c =
-    let r = c.in_ok-bytes.ensures.value in
-    let bytes = c.in_ok-bytes.bytes.now in
-    found_again c.args.stream.now bytes r.0 (records_in bytes) r.1 r.2 c.in_ok-starts.ensures.value
+    framed_has c.args.stream.now c.framed-bytes.result.now c.in_ok-header.header c.count-count.result
+    c.framed-bytes.ensures.value c.in_ok-header.ensures.value c.count-count.ensures c.in_ok-kept.ensures.framed c.in_ok-kept.ensures.counted
 
 pub returns-clause-few : goal.returns-clause-few
-returns-clause-few g c =
-    let r = c.in_ok-bytes.ensures.value in
-    let framed = c.in_ok-starts.ensures.framed in
-    omega (arith, few_records c.in_ok-bytes.bytes.now framed, has_few c.args.stream.now r.0 r.1, ap length r.2)
+returns-clause-few g c = framed_few c.args.stream.now c.framed-bytes.result.now (returns-clause-value g c) c.in_ok-kept.ensures.framed

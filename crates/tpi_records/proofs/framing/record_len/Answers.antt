@@ -2,8 +2,8 @@ use Rattle.std.proofs.Common.{◌+◌, refl, arith, sym, inr, ◌∙◌}
 use Rattle.std.proofs.lemmas.List.{length-drop}
 use Rattle.byte_fields.proofs.NumberLaws.{number_at-drop}
 use Rattle.tpi_records.proofs.FramingLaws.{is_record}
-use Rattle.tpi_records.proofs.records.record_len.Goals as goal
-use Rattle.tpi_records.proofs.records.record_len.Goals.{then-len-lt2-via-then-len-lt2, then-len-lt2-via-else-len-lt2+then-whole-ne0}
+use Rattle.tpi_records.proofs.framing.record_len.Goals as goal
+use Rattle.tpi_records.proofs.framing.record_len.Goals.{then-len-lt2-via-then-len-lt2, then-len-lt2-via-else-len-lt2+then-whole-ne0}
 
 pub returns-then-len-lt2-clause-first : goal.returns-then-len-lt2-clause-first
 returns-then-len-lt2-clause-first c =
