@@ -51,7 +51,7 @@ measured_more records done depths levels p d m inside among there is = record {
     deep t stands = is ∙ sym (depth_of_record records (λ k. get_or depths k 0) p t (gives_among records done depths levels (references (get_or records p [])) m among) stands)
 
 -- the depths stay low when one more is set
-below_set : (end : ℕ) (depths : List ℕ) (p d : ℕ) → p < length depths → AreBelow end depths → d ≤ end → AreBelow (end + 1) (set depths p d)
+pub below_set : (end : ℕ) (depths : List ℕ) (p d : ℕ) → p < length depths → AreBelow end depths → d ≤ end → AreBelow (end + 1) (set depths p d)
 below_set end depths p d inside below low k lt = elim (cases_eq k p) [
   | inl same ↦ rw (same, get_or-set_same depths p d 0 inside) (omega (arith, low))
   | inr other ↦ rw (get_or-set_other depths p k d 0 other) (omega (arith, below k (omega (arith, lt, length-set depths p d))))

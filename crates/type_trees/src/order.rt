@@ -1,12 +1,11 @@
 //! An order of records in which each comes after those that it names.
 
-ghost use Rattle.std.specs.Prelude.{◌≡◌, ◌+◌, ◌-◌, ◌≤◌, ◌<◌, ◌^◌, [], IsTrue, ℕ, List, length, get_or, map, drop, IfOk, IfErr};
+ghost use Rattle.std.specs.Prelude.{◌≡◌, ◌+◌, ◌-◌, ◌≤◌, ◌<◌, ◌^◌, [], ℕ, List, length, get_or, map, drop, IfOk, IfErr};
 ghost use Rattle.std.specs.List.{All, AllByRecursion};
 ghost use Rattle.std.specs.Iterator.{YieldsFirst, item_count};
 ghost use Rattle.tpi_records.specs.Records.{IsRecord};
 ghost use Rattle.cv_leaves.specs.Place.{IsChecked};
 ghost use Rattle.topological_order.specs.Order.{IsOrder};
-ghost use Rattle.type_trees.specs.Tree.{IsRanked};
 ghost use Rattle.type_trees.specs.Graph.{graph_of};
 ghost use Rattle.type_trees.specs.Order.{order_list};
 ghost use Rattle.type_trees.specs.Check.{AllNameThere, IsCycleFault};
@@ -70,22 +69,17 @@ fn to_indices(positions: &mut [u32])
     }
 }
 
-/// Puts records in order. Where `lower` says that each record names only earlier ones, this takes
-/// no time and does not allocate.
+/// Puts records in order. This takes time and memory in proportion to the records and to their
+/// references.
 pub fn arrange<A: Allocator + Copy>(
     alloc: A,
     records: &Records<'_, A>,
-    lower: bool,
 ) -> Result<Order<A>, TypeFault<A>>
     requires checked { AllByRecursion IsChecked records.now }
     requires there { AllNameThere (length records.now) records.now }
-    requires lower { IsTrue lower → IsRanked records.now (λ i. i) }
     ensures value { IfOk result (λ order. IsOrder (graph_of records.now) (order_list (length records.now) order)) }
     ensures cycle { IfErr result (IsCycleFault records.now) }
 {
-    if lower {
-        return Ok(Order::AsTheyStand);
-    }
     let graph = graph_of(alloc, records)?;
     match topological_order(alloc, &graph) {
         Ok(order) => Ok(Order::Listed(order)),

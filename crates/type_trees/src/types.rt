@@ -1,6 +1,6 @@
 //! Records that were checked to be types.
 
-ghost use Rattle.std.specs.Prelude.{◌≡◌, ◌↔◌, ◌≤◌, ◌<◌, ◌+◌, ◌^◌, [], ℕ, List, IsTrue, length, option_map, slice_get, IfOk, IfErr, IfSome, IfNone};
+ghost use Rattle.std.specs.Prelude.{◌≡◌, ◌↔◌, ◌≤◌, ◌<◌, ◌+◌, ◌^◌, [], ℕ, List, IsTrue, max, set, replicate, length, option_map, slice_get, Some, IfOk, IfErr, IfSome, IfNone};
 ghost use Rattle.std.specs.List.{AllByRecursion, concat};
 ghost use Rattle.byte_fields.specs.Check.{Makes};
 ghost use Rattle.tpi_records.specs.Records.{IsRecord};
@@ -8,7 +8,7 @@ ghost use Rattle.cv_leaves.specs.Place.{IsChecked};
 ghost use Rattle.topological_order.specs.Order.{IsOrder};
 ghost use Rattle.type_trees.specs.Tree.{Tree, Stands, IsRanked};
 ghost use Rattle.type_trees.specs.Graph.{graph_of};
-ghost use Rattle.type_trees.specs.Depth.{depth, HasLevels};
+ghost use Rattle.type_trees.specs.Depth.{depth, AreBelow, AreDepths, HasLevels};
 ghost use Rattle.type_trees.specs.Check.{AreTypes, checks_of, IsTypeFault};
 
 use crate::check::check_record;
@@ -47,21 +47,50 @@ impl<'a, A: Allocator> Model for Types<'a, A> {
     ghost invariant = { λ t. AreTypes t.records × IsOrder (graph_of t.records) (order_list (length t.records) t.order) × (length t.depths.items ≡ length t.records) × AreDepths t.records t.depths.items × HasLevels t.records t.levels };
 }
 
-/// Checks all records, in order. Returns whether each names only earlier records.
-fn check_all<A: Allocator>(records: &Records<'_, A>) -> Result<bool, RecordFault>
+/// Stores the depth of the record at a position. Returns how many levels there are with it. `None`
+/// where a depth was not known before, is not known now, or has no room.
+fn keep_depth(
+    depths: &mut [u32],
+    position: usize,
+    levels: Option<u32>,
+    depth: Option<u32>,
+) -> Option<u32>
+    requires { IfSome depth (λ d. d < 2 ^ 31) }
+    ensures some { IfSome result (λ n. (before : ℕ) × (d : ℕ) × (levels ≡ Some before) × (depth ≡ Some d) × (position < length depths.old) × (depths.new ≡ set depths.old position d) × (n ≡ max before (d + 1))) }
+    ensures none { IfNone result (depths.new ≡ depths.old) }
+{
+    let before = levels?;
+    let depth = depth?;
+    if position >= depths.len() {
+        return None;
+    }
+    depths[position] = depth;
+    Some(before.max(depth + 1))
+}
+
+/// Checks all records, in order, and measures their depths in the same walk. Returns how many
+/// levels there are. `None` where a record names itself or a later one, or where there is no room
+/// for the depths.
+fn check_all<A: Allocator>(
+    records: &Records<'_, A>,
+    depths: &mut [u32],
+) -> Result<Option<u32>, RecordFault>
+    requires { AreBelow 1 depths.old }
     ensures framed { AllByRecursion IsRecord records.now }
     ensures first { Makes result (checks_of records.now) }
-    ensures lower { IfOk result (λ lower. IsTrue lower → IsRanked records.now (λ i. i)) }
+    ensures lower { IfOk result (λ levels. IfSome levels (λ _. IsRanked records.now (λ i. i))) }
+    ensures measured { IfOk result (λ levels. IfSome levels (λ n. depths.old ≡ replicate (length records.now) 0
+        → (length depths.new ≡ length records.now) × AreDepths records.now depths.new × HasLevels records.now n)) }
 {
     let many = records.len();
     let mut position = 0;
-    let mut all_lower = true;
+    let mut levels = Some(0);
     for bytes in records.iter() {
-        let lower = check_record(many, position, bytes)?;
-        all_lower = all_lower && lower;
+        let depth = check_record(many, position, bytes, depths)?;
+        levels = keep_depth(depths, position, levels, depth);
         position += 1;
     }
-    Ok(all_lower)
+    Ok(levels)
 }
 
 impl<'a, A: Allocator + Copy> Types<'a, A> {
@@ -76,11 +105,11 @@ impl<'a, A: Allocator + Copy> Types<'a, A> {
     ///   has the type indices of the records that lead into a cycle.
     /// - `Memory`: out of memory. Each record passed its checks.
     ///
-    /// All records are checked before anything is allocated. A refusal drops the records, and the
-    /// stream that they are lent from stays as it was. Where each record names only earlier ones,
-    /// this allocates four bytes for each, at once. Otherwise the search for an order allocates
-    /// about 20 more bytes for each record and 4 for each reference, and it takes time in
-    /// proportion to both.
+    /// A refusal drops the records, and the stream that they are lent from stays as it was. The
+    /// records are gone through once, and this allocates four bytes for each, at once, before that.
+    /// Where there is no memory for them, the records are checked all the same. Where a record names
+    /// a later one, the search for an order allocates about 20 more bytes for each record and 4 for
+    /// each reference, and it takes time in proportion to both.
     pub fn check(alloc: A, records: Records<'a, A>) -> Result<Types<'a, A>, TypeFault<A>>
         ensures value { IfOk result (λ types. (types ≡ records.entry) × AreTypes records.entry) }
         // Records that make types are refused only when out of memory.
@@ -88,8 +117,21 @@ impl<'a, A: Allocator + Copy> Types<'a, A> {
         // `Memory` is returned only where no check of a record fails.
         ensures first { IfErr result (IsTypeFault records.entry) }
     {
-        let lower = check_all(&records)?;
-        let order = arrange(alloc, &records, lower)?;
+        let Ok(mut depths) = vec![in alloc; 0u32; records.len()] else {
+            // Out of memory, but a fault of a record comes first.
+            check_all(&records, &mut [])?;
+            return Err(TypeFault::Memory);
+        };
+        if let Some(levels) = check_all(&records, &mut depths)? {
+            return Ok(Types {
+                records,
+                order: Order::AsTheyStand,
+                depths,
+                levels,
+            });
+        }
+        drop(depths);
+        let order = arrange(alloc, &records)?;
         let (depths, levels) = measure(alloc, &records, &order)?;
         Ok(Types {
             records,

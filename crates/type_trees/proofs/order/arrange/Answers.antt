@@ -1,13 +1,9 @@
-use Rattle.type_trees.proofs.OrderLaws.{stand_in_order}
 use Rattle.std.proofs.Common.{arith}
 use Rattle.topological_order.specs.Cycle.{IsCycleSet}
 use Rattle.type_trees.specs.Graph.{graph_of}
 use Rattle.type_trees.proofs.GraphLaws.{nodes_inside}
 use Rattle.type_trees.proofs.CycleLaws.{cycle_inside}
 use Rattle.type_trees.proofs.order.arrange.Goals as goal
-
-pub returns-then-lower-clause-value : goal.returns-then-lower-clause-value
-returns-then-lower-clause-value g c = let h = c.if-lower.true in stand_in_order c.args.records.now (c.requires.lower h)
 
 pub topological_order-requires : goal.topological_order-requires
 topological_order-requires g c = rw c.in_ok-graph.ensures.value (nodes_inside c.args.records.now c.requires.there)
