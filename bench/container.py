@@ -1,4 +1,4 @@
-"""PDB files of any size for the benchmarks, made from nothing (block size 4096)."""
+"""PDB files of any size for the benchmarks, made from nothing (blocks of 4,096 bytes unless another size is given)."""
 import struct
 
 BLOCK = 4096
@@ -37,26 +37,27 @@ def tpi(body, count):
     return struct.pack('<5I', 20040203, 56, 0x1000, 0x1000 + count, len(body)) + hashes + body
 
 
-def pdb(stream, order=lambda blocks: blocks, info=b''):
+def pdb(stream, order=lambda blocks: blocks, info=b'', block=BLOCK):
     """A container with five streams: the second has the bytes of info, at most one block, and the
-    third these bytes, in blocks of this order."""
-    infos, blocks = -(-len(info) // BLOCK), -(-len(stream) // BLOCK)
+    third these bytes, in blocks of this order. Each block has `block` bytes. The third stream is in
+    consecutive blocks if it ends before the next pair of map blocks. There is one pair in `block` blocks."""
+    infos, blocks = -(-len(info) // block), -(-len(stream) // block)
     directory_len = 4 * (1 + 5 + infos + blocks)
-    directory_blocks = -(-directory_len // BLOCK)
+    directory_blocks = -(-directory_len // block)
     free, number = [], 3
     while len(free) < 1 + directory_blocks + infos + blocks:
-        if number % BLOCK not in (1, 2):
+        if number % block not in (1, 2):
             free.append(number)
         number += 1
     count = free[-1] + 1
     block_map, at, first = free[0], free[1:1 + directory_blocks], 1 + directory_blocks
     named, data = free[first:first + infos], order(free[first + infos:])
     directory = struct.pack('<6I', 5, 0, len(info), len(stream), 0, 0) + struct.pack(f'<{infos + blocks}I', *named, *data)
-    file = bytearray(count * BLOCK)
-    file[:56] = b'Microsoft C/C++ MSF 7.00\r\n\x1aDS\0\0\0' + struct.pack('<6I', BLOCK, 1, count, directory_len, 0, block_map)
-    file[block_map * BLOCK:block_map * BLOCK + 4 * directory_blocks] = struct.pack(f'<{directory_blocks}I', *at)
+    file = bytearray(count * block)
+    file[:56] = b'Microsoft C/C++ MSF 7.00\r\n\x1aDS\0\0\0' + struct.pack('<6I', block, 1, count, directory_len, 0, block_map)
+    file[block_map * block:block_map * block + 4 * directory_blocks] = struct.pack(f'<{directory_blocks}I', *at)
     for text, places in ((directory, at), (info, named), (stream, data)):
         for k, n in enumerate(places):
-            part = text[k * BLOCK:(k + 1) * BLOCK]
-            file[n * BLOCK:n * BLOCK + len(part)] = part
+            part = text[k * block:(k + 1) * block]
+            file[n * block:n * block + len(part)] = part
     return bytes(file)
