@@ -18,9 +18,8 @@
 //! Records are read in one pass, which makes every check and keeps the start of every 64th record.
 //! The list of starts grows as records are found, and never by what the header announces. Where
 //! there is no memory for it, the pass goes on without it, so that a fault of the stream still comes
-//! before `Memory`. A position takes four bytes of memory for 64 records in place of 256, and
-//! looking up one record steps over at most 63. [`Records::iter`] and [`Cursor`] go from record to
-//! record in one step.
+//! before `Memory`. The list takes four bytes for 64 records, and looking up one record steps over at
+//! most 63. [`Records::iter`] and [`Cursor`] go from record to record in one step.
 //!
 //! What is proved: a stream that is read *has* these records (`HasRecords` of `specs/Records`), and
 //! it has no others (`one_records` of `proofs/StreamLaws`). A stream that has records is refused
