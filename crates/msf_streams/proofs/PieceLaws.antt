@@ -6,14 +6,14 @@ use Rattle.std.proofs.lemmas.Option.{slice_get_past, slice_get_within, slice_get
 use Rattle.std.proofs.lemmas.Nat.{mul-le, div_below, le-div}
 use Rattle.std.proofs.lemmas.Bool.{cases_lt}
 use Rattle.std.proofs.lemmas.Bool.Decides.{nat_tests}
-use Rattle.std.proofs.lemmas.List.{append-nil, drop_more, drop_all, nil_from_length}
+use Rattle.std.proofs.lemmas.List.{append-nil, drop_more, drop_all, nil_from_length, length-take, length-drop}
 use Rattle.std.proofs.lemmas.List.Elements.{All-head, All-tail, All-get_or, All-from_get_or}
-use Rattle.msf_blocks.specs.BlockNumber.{IsOrdinary, blocks_for}
-use Rattle.msf_blocks.proofs.SizeLaws.{some_bytes, few_for}
+use Rattle.msf_blocks.specs.BlockNumber.{IsBlockSize, IsOrdinary, blocks_for}
+use Rattle.msf_blocks.proofs.SizeLaws.{size_facts, some_bytes, few_for}
 use Rattle.msf_blocks.specs.Superblock.{Fields}
 use Rattle.msf_blocks.specs.Directory.{Listed, IsListed, bytes_of}
 use Rattle.msf_blocks.specs.Layout.{LayoutView, IsLayout, block_in, block_of}
-use Rattle.msf_streams.specs.Streams.{gathered, pieces, blocks_in, pieces_from, stream_pieces, stream_contents}
+use Rattle.msf_streams.specs.Streams.{FirstIsLong, gathered, pieces, blocks_in, pieces_from, stream_pieces, stream_contents}
 use Rattle.msf_streams.proofs.RangeLaws.{map-range_with_len_parts, map-same_ranges, part_by_places, next_block, first_block}
 
 -- ---- how many blocks some bytes need
@@ -193,6 +193,34 @@ pieces_bytes file layout s found holds whole e = elim (cases_lt s (length layout
       let joined = concat-pieces file layout.superblock.block_size (bytes_of stream.size) stream.blocks (some_bytes layout.superblock.block_size holds.size) is_stream.fits.count
       (blocks_fit file layout.superblock stream whole is_stream.fits) in
       rw (e, is_stream.here) (ap (λ (bytes : List ℕ). Some bytes) (sym joined))
+  | inr past ↦ let none : slice_get layout.streams s ≡ None = slice_get_past layout.streams s past in rw (e, none) tt
+]
+
+-- the first piece has a whole block, or all the bytes
+first_long : (file : List ℕ) (block_size size : ℕ) (blocks : List ℕ) → IsBlockSize block_size → length blocks ≡ blocks_for block_size size → All (IsWhole file block_size) blocks
+    → FirstIsLong (pieces file block_size blocks size)
+unfolding pieces
+first_long file block_size size [] is long whole = tt
+first_long file block_size size (block ∷ blocks) is long whole =
+    let here : IsWhole file block_size block = All-head (IsWhole file block_size) block blocks whole in
+    let some = some_bytes block_size is in
+    elim (cases_lt size block_size) [
+      | inl short ↦
+          let none : blocks ≡ [] = nil_from_length blocks (omega (arith, long, at_most_one_for block_size size some (omega arith))) in
+          rw none (inr (ap length (sym (append-nil (take (min block_size size) (drop (block * block_size) file))))))
+      | inr le ↦
+          let most : 512 ≤ block_size = (size_facts block_size is).least in
+          inl (omega (arith, most, here, length-take (min block_size size) (drop (block * block_size) file), length-drop (block * block_size) file))
+    ]
+
+-- the first piece of a stream has at least 512 bytes, or all of them
+pub pieces_first : (file : List ℕ) (layout : LayoutView) (s : ℕ) (found : Option (List (List ℕ))) → IsLayout layout
+    → layout.superblock.num_blocks * layout.superblock.block_size ≤ length file → found ≡ stream_pieces file layout s → IfSome found FirstIsLong
+pieces_first file layout s found holds whole e = elim (cases_lt s (length layout.streams)) [
+  | inl below ↦
+      let stream = get_or layout.streams s no_stream in
+      let is_stream = stream_at layout s holds below in
+      rw (e, is_stream.here) (first_long file layout.superblock.block_size (bytes_of stream.size) stream.blocks holds.size is_stream.fits.count (blocks_fit file layout.superblock stream whole is_stream.fits))
   | inr past ↦ let none : slice_get layout.streams s ≡ None = slice_get_past layout.streams s past in rw (e, none) tt
 ]
 

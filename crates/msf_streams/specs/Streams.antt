@@ -1,6 +1,6 @@
 -- The contents of a stream, which are in its blocks ("The MSF File Format", "The Stream Directory").
-use Rattle.std.specs.Prelude.{ℕ, ◌≡◌, ◌+◌, ◌-◌, ◌*◌, ◌/◌, ◌%◌, ◌<◌, min, length, List, [], ◌∷◌, Option, Some, None, map, take, drop, get_or, slice_index, slice_get, option_map}
-use Rattle.std.specs.List.{range_with_len}
+use Rattle.std.specs.Prelude.{ℕ, ◌≡◌, ◌+◌, ◌-◌, ◌*◌, ◌/◌, ◌%◌, ◌<◌, ◌≤◌, ◌⊎◌, IfSome, min, length, List, [], ◌∷◌, Option, Some, None, map, take, drop, get_or, slice_index, slice_get, option_map}
+use Rattle.std.specs.List.{range_with_len, concat}
 use Rattle.msf_blocks.specs.Directory.{Listed, bytes_of}
 use Rattle.msf_blocks.specs.Layout.{LayoutView}
 
@@ -31,6 +31,10 @@ stream_pieces file layout s =
 abbrev pub blocks_in : Option Listed → List ℕ
 blocks_in None = []
 blocks_in (Some stream) = stream.blocks
+
+-- the first piece has at least 512 bytes, as the smallest block has, or it has all the bytes
+abbrev pub FirstIsLong : List (List ℕ) → Type 0
+FirstIsLong pieces = IfSome (slice_get pieces 0) (λ first. (512 ≤ length first) ⊎ (length first ≡ length (concat pieces)))
 
 -- each block is the one after the block before it in the list
 abbrev pub AreConsecutive : List ℕ → Type 0

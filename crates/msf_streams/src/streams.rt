@@ -18,7 +18,7 @@ ghost use Rattle.std.specs.Iterator.{YieldsFirstRef, item_count};
 ghost use Rattle.msf_blocks.specs.BlockNumber.{blocks_for};
 ghost use Rattle.msf_blocks.specs.Directory.{bytes_of};
 ghost use Rattle.msf_blocks.specs.Layout.{IsLayout, block_of};
-ghost use Rattle.msf_streams.specs.Streams.{AreConsecutive, IsOnePart, blocks_in, stream_pieces, stream_contents, pieces_from};
+ghost use Rattle.msf_streams.specs.Streams.{AreConsecutive, FirstIsLong, IsOnePart, blocks_in, stream_pieces, stream_contents, pieces_from};
 
 use crate::fault::StreamFault;
 use msf_blocks::{Layout, blocks_for};
@@ -31,7 +31,7 @@ use std::marker::Model;
 /// `file`, and `layout` has to be the layout of that file. A nil stream and an empty stream have no
 /// pieces. `None` where `s` is not a stream. This does not allocate. ("The MSF File Format", "The
 /// Stream Directory".)
-#[tactic(auto, using(crate::proofs::PieceLaws::pieces_bytes, crate::proofs::PieceLaws::pieces_none))]
+#[tactic(auto, using(crate::proofs::PieceLaws::pieces_bytes, crate::proofs::PieceLaws::pieces_first, crate::proofs::PieceLaws::pieces_none))]
 pub fn pieces<'a, A: Allocator>(
     file: &'a [u8],
     layout: &'a Layout<A>,
@@ -42,6 +42,8 @@ pub fn pieces<'a, A: Allocator>(
     ensures bytes { IfSome result (λ p. stream_contents file.now layout.now s ≡ Some (concat p)) }
     ensures count { IfSome result (λ p. IfSome (slice_get layout.now.streams s) (λ stream.
         length p ≡ blocks_for layout.now.superblock.block_size (bytes_of stream.size))) }
+    // The first 512 bytes of a stream are in its first piece.
+    ensures first { IfSome result FirstIsLong }
     ensures none { IsNone result ↔ (length layout.now.streams ≤ s) }
 {
     StreamPieces::new(file, layout, s)

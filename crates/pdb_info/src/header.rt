@@ -13,7 +13,7 @@ use std::marker::Model;
 use uuid::Uuid;
 
 /// The length of a header, in bytes.
-pub const HEADER_LENGTH: usize = 28;
+pub(crate) const HEADER_LENGTH: usize = 28;
 
 // The offsets of the fields, in bytes from the front of the stream.
 const VERSION: usize = 0;

@@ -47,7 +47,7 @@ mod written;
 
 pub use fault::InfoFault;
 pub use guid::{guid_bytes, guid_of};
-pub use header::{HEADER_LENGTH, InfoHeader};
+pub use header::InfoHeader;
 pub use info::Info;
 pub use names::Name;
 pub use settings::Settings;

@@ -8,8 +8,8 @@ ghost use Rattle.pdb_merge.specs.Read.{IsAccepted, HasPdbFault, HasTypeRecords, 
 use crate::buffer::Buffer;
 use crate::fault::PdbFault;
 use msf_blocks::Layout;
-use msf_streams::{StreamFault, contents};
-use pdb_info::{HEADER_LENGTH, InfoFault};
+use msf_streams::{StreamFault, contents, pieces};
+use pdb_info::InfoHeader;
 use std::alloc::Allocator;
 use tpi_records::Records;
 use type_trees::Types;
@@ -20,18 +20,18 @@ const INFO_STREAM: u32 = 1;
 /// The stream that holds the type records.
 const TPI_STREAM: u32 = 2;
 
-/// Checks that stream 1 has at least as many bytes as a header. The bytes are not read.
-fn check_info<A: Allocator>(layout: &Layout<A>) -> Result<(), PdbFault<A>>
-    ensures value { OnOk result ((file : List ℕ) → HasLongInfo file layout.now) }
-    ensures first { IfErr result (λ fault. (file : List ℕ) → HasInfoFault file layout.now fault) }
+/// Reads the header of stream 1. It is in the first piece of the stream, because a block has at
+/// least 512 bytes.
+fn read_info<A: Allocator>(file: &[u8], layout: &Layout<A>) -> Result<InfoHeader, PdbFault<A>>
+    requires { layout.now.superblock.num_blocks * layout.now.superblock.block_size ≤ length file.now }
+    ensures value { OnOk result (HasLongInfo file.now layout.now) }
+    ensures first { IfErr result (HasInfoFault file.now layout.now) }
 {
-    let Some(size) = layout.size(INFO_STREAM) else {
+    let Some(mut pieces) = pieces(file, layout, INFO_STREAM) else {
         return Err(PdbFault::Stream(StreamFault::NoStream(INFO_STREAM)));
     };
-    if (size as usize) < HEADER_LENGTH {
-        return Err(PdbFault::Info(InfoFault::InfoShort));
-    }
-    Ok(())
+    let first = pieces.next().unwrap_or(&[]);
+    Ok(InfoHeader::read(first)?)
 }
 
 impl<A: Allocator + Copy> Buffer<A> {
@@ -74,7 +74,7 @@ impl<A: Allocator + Copy> Buffer<A> {
     {
         self.clear();
         let layout = Layout::read(alloc, file)?;
-        check_info(&layout)?;
+        read_info(file, &layout)?;
         let records = self.stream_records(alloc, file, &layout)?;
         Ok(Types::check(alloc, records)?)
     }
@@ -107,7 +107,7 @@ pub fn read_records<'a, A: Allocator + Copy>(
 /// The faults come in this order: those of the container; a container without a stream 1; a
 /// stream 1 with fewer bytes than a header; a container without a stream 2; those of that stream;
 /// those of its records, in order, for each record its leaf and then its references; and last a
-/// cycle of references. Nothing of stream 1 is checked but its size. Out of memory, `Memory`, comes
+/// cycle of references. Of stream 1 only the header is read. Out of memory, `Memory`, comes
 /// only where the container has no fault.
 ///
 /// The old bytes of the buffer are dropped first, so the streams of two files are never in memory
