@@ -1,5 +1,5 @@
 -- How a table's canonical list is made, level by level.
-use Rattle.std.proofs.Common.{◌≡◌, ◌≢◌, ◌≤◌, ◌<◌, ◌%◌, ◌^◌, ◌+◌, ◌-◌, ℕ, zero, suc, false, Option, Some, None, List, [], ◌∷◌, ◌++◌, length, map, take, drop, get_or, refl, sym, ap, ◌∙◌, subst, arith, inl, inr, length-append}
+use Rattle.std.proofs.Common.{◌≡◌, ◌≢◌, ◌≤◌, ◌<◌, ◌%◌, ◌^◌, ◌+◌, ◌-◌, ℕ, zero, suc, Option, Some, None, List, [], ◌∷◌, ◌++◌, length, map, take, drop, get_or, refl, sym, ap, ◌∙◌, subst, arith, inl, inr, length-append}
 use Rattle.std.proofs.lemmas.Bool.{cases_lt, cases_order}
 use Rattle.std.proofs.lemmas.List.{get_or_default, get_or_append_left, drop_more, drop-drop, take-append-drop, map-append, length-map, get_or-map}
 use Rattle.std.proofs.lemmas.List.Elements.{Contains-get_or, Contains-append_left, Contains-append_right}
@@ -8,14 +8,13 @@ use Rattle.std.proofs.lemmas.List.Sorted.{Contains-permutation, length_permutati
 use Rattle.std.proofs.lemmas.Map.Keys.{IsDistinct-IsPermutation}
 use Rattle.std.proofs.lemmas.Map.Made.{AllPairs-from_IsDistinct, IsDistinct-from_AllPairs}
 use Rattle.std.proofs.lemmas.Bool.Decides.{Decides-eqb, eqb_tells}
-use Rattle.std.specs.declared.cmp.Ordering.{Ordering}
-use Rattle.std.specs.declared.cmp.Ordering.TheVariants.{Less, Equal, Greater}
-use Rattle.std.specs.Ordering.{nat_cmp, is_lt, ordering_then, ordering_reverse}
-use Rattle.std.specs.Cmp.Lexicographic.{slice_cmp, nat_list_cmp_total}
+use Rattle.std.specs.declared.cmp.Ordering.TheVariants.{Greater}
+use Rattle.std.specs.Ordering.{nat_cmp}
+use Rattle.std.specs.Cmp.Lexicographic.{slice_cmp}
 use Rattle.std.proofs.Math.Seq.{get_or-append_seam}
 use Rattle.std.specs.Prelude.{IfSome, IfNone, ◌==◌}
 use Rattle.std.specs.List.{AllByRecursion, AllPairs, Contains, concat}
-use Rattle.std.specs.List.Sorted.{IsPermutation, IsSorted}
+use Rattle.std.specs.List.Sorted.{IsPermutation}
 use Rattle.key_chains.specs.Chains.{NoneFrom}
 use Rattle.text_set.proofs.TextSetLaws.{four_each, bound}
 use Rattle.type_trees.specs.Tree.{Tree, IsType, NamesLower}
@@ -173,27 +172,6 @@ bounded_put numbers after position number bounded small here others k = elim (ca
   | inl same ↦ rw (same, here) small
   | inr w ↦ rw (others k (λ e. elim w [ inl less ↦ omega (arith, less, e) | inr more ↦ omega (arith, more, e) ])) (bounded k)
 ]
-
--- ---- The order of rows
-
-flip : (p q : Ordering) → p ≡ ordering_reverse q → p ≡ Greater → q ≡ Less
-flip p Less is greater = refl
-flip p Equal is greater = absurd cc
-flip p Greater is greater = absurd cc
-
-not_less : (q o : Ordering) → is_lt (ordering_then q o) ≡ false → q ≡ Less → ⊥
-not_less q o above less = let e : is_lt (ordering_then Less o) ≡ false = rw less at above in absurd cc
-
--- the text of a pair is not greater than the text of the next pair, if the next pair is not less
-not_greater : (a b : List ℕ) (o : Ordering) → is_lt (ordering_then (slice_cmp nat_cmp b a) o) ≡ false → slice_cmp nat_cmp a b ≢ Greater
-not_greater a b o above greater = not_less (slice_cmp nat_cmp b a) o above (flip (slice_cmp nat_cmp a b) (slice_cmp nat_cmp b a) (nat_list_cmp_total.antisymm a b) greater)
-
--- sorted pairs have their texts in order
-pub sorted_texts : {X : Type 0} (bytes : X → List ℕ) (position : X → ℕ) (x : X) (ys : List X) (n : ℕ) → IsSorted (λ a b. ordering_then (slice_cmp nat_cmp (bytes a) (bytes b)) (nat_cmp (position a) (position b))) ys → n ≡ length ys
-    → (k : ℕ) → k + 1 < n → slice_cmp nat_cmp (get_or (map bytes ys) k []) (get_or (map bytes ys) (k + 1) []) ≢ Greater
-sorted_texts bytes position x ys n sorted many k inside =
-    rw (get_or-map bytes ys k x [] (omega (arith, inside, many)), get_or-map bytes ys (k + 1) x [] (omega (arith, inside, many)))
-    (not_greater (bytes (get_or ys k x)) (bytes (get_or ys (k + 1) x)) (nat_cmp (position (get_or ys (k + 1) x)) (position (get_or ys k x))) (sorted k x (omega arith) (omega (arith, inside, many))))
 
 -- ---- Rows that are ready for the list
 

@@ -1,9 +1,10 @@
 -- How the records of a level continue a canonical list, once they are renumbered and sorted.
-use Rattle.std.specs.Prelude.{ℕ, suc, ◌≡◌, ◌≢◌, ◌+◌, ◌<◌, ◌≤◌, List, [], ◌++◌, length, get_or, map}
+use Rattle.std.specs.Prelude.{ℕ, zero, suc, ◌≡◌, ◌≢◌, ◌+◌, ◌*◌, ◌^◌, ◌<◌, ◌≤◌, List, [], ◌∷◌, ◌++◌, length, get_or, map}
 use Rattle.std.specs.declared.cmp.Ordering.TheVariants.{Greater}
 use Rattle.std.specs.Ordering.{nat_cmp}
 use Rattle.std.specs.Cmp.Lexicographic.{slice_cmp}
 use Rattle.std.specs.List.{AllPairs, Contains, concat}
+use Rattle.byte_fields.specs.Bytes.{AreBytes}
 use Rattle.type_trees.specs.Tree.{Tree, Stands, nothing}
 use Rattle.type_trees.specs.Depth.{depth}
 use Rattle.type_trees.specs.Canon.{position_in, texts, Canonical}
@@ -16,6 +17,21 @@ Numbers r d l f = (k : ℕ) (t : Tree) → Stands r k t → depth t < d → f k 
 -- the row of the record at i: the record, renumbered by f
 unfoldable pub row : List (List ℕ) → (ℕ → ℕ) → ℕ → List ℕ
 row r f i = renumbered f (get_or r i [])
+
+-- the first n bytes of x as one number, the first of them the highest; a missing byte is 0
+unfoldable pub first_bytes : ℕ → List ℕ → ℕ
+first_bytes n [] = 0
+first_bytes zero (b ∷ x) = 0
+first_bytes (suc n) (b ∷ x) = b * 256 ^ n + first_bytes n x
+
+-- the key of a row: its first 8 bytes as one number
+unfoldable pub key : List ℕ → ℕ
+key x = first_bytes 8 x
+
+-- k is the key of x, which is made of bytes
+pub record IsKeyed (k : ℕ) (x : List ℕ) : Type 0 where
+  pub is : k ≡ key x
+  pub bytes : AreBytes x
 
 -- ps are the positions of r whose trees have depth d, each once, in the order of their rows
 pub record AreRows (r : List (List ℕ)) (d : ℕ) (f : ℕ → ℕ) (ps : List ℕ) : Type 0 where

@@ -6,7 +6,7 @@
 //! have their numbers.
 
 ghost use Rattle.std.specs.Prelude.{◌≡◌, ◌≢◌, ◌⊎◌, ◌↔◌, ◌+◌, ◌-◌, ◌%◌, ◌^◌, ◌<◌, ◌≤◌, ◌++◌, [], ◌∷◌, ℕ, List, length, get_or, map, take, drop, IfOk, IfErr};
-ghost use Rattle.std.specs.List.{AllByRecursion, Contains, concat};
+ghost use Rattle.std.specs.List.{All, AllByRecursion, Contains, concat};
 ghost use Rattle.std.specs.List.Sorted.{IsPermutation};
 ghost use Rattle.std.specs.Ordering.{nat_cmp};
 ghost use Rattle.std.specs.Cmp.Lexicographic.{slice_cmp};
@@ -17,11 +17,12 @@ ghost use Rattle.cv_leaves.specs.References.{references};
 ghost use Rattle.type_trees.specs.Depth.{AreDepths, HasLevels};
 ghost use Rattle.type_trees.specs.Tree.{Tree, IsType};
 ghost use Rattle.type_trees.specs.Table.{IsTable, AreNumbered, renumbered};
-ghost use Rattle.type_trees.specs.Rows.{row, AreRows};
+ghost use Rattle.type_trees.specs.Rows.{row, IsKeyed, AreRows};
 ghost use Rattle.type_trees.specs.Finish.{Listed, AtLevel, Numbered, IsCanonOf};
 
 use crate::depth::depth_of;
 use crate::renumber::renumber;
+use crate::row::Row;
 use key_chains::KeyChains;
 use packed_texts::PackedTexts;
 use std::alloc::{AllocError, Allocator};
@@ -98,50 +99,48 @@ fn collect<S: BuildHasher, A: Allocator + Copy>(
     Ok((rows, positions))
 }
 
-/// Each row with the position of its record.
+/// Each row with its key and the position of its record.
 fn paired<'a, A: Allocator + Copy>(
     alloc: A,
     rows: &'a PackedTexts<A>,
     positions: &[u32],
-) -> Result<Vec<(&'a [u8], u32), A>, AllocError>
+) -> Result<Vec<Row<'a>, A>, AllocError>
     requires many { length positions.now ≡ length rows.now }
-    ensures rows { IfOk result (λ v. map (λ p. p.0.now) v.items ≡ rows.now) }
-    ensures positions { IfOk result (λ v. map (λ p. p.1) v.items ≡ positions.now) }
+    ensures rows { IfOk result (λ v. map (λ p. p.bytes.now) v.items ≡ rows.now) }
+    ensures positions { IfOk result (λ v. map (λ p. p.position) v.items ≡ positions.now) }
+    ensures keyed { IfOk result (λ v. All (λ p. IsKeyed p.key p.bytes.now) v.items) }
 {
     let mut pairs = Vec::with_capacity(alloc, rows.len())?;
     for k in 0..rows.len() {
-        pairs.push((rows.get(k), positions[k]))?;
+        pairs.push(Row::new(rows.get(k), positions[k]))?;
     }
     Ok(pairs)
 }
 
 /// Appends the rows to the list.
-fn append_rows<A: Allocator>(
-    order: &[(&[u8], u32)],
-    out: &mut PackedTexts<A>,
-) -> Result<(), AllocError>
-    requires padded { (x : List ℕ) → Contains (map (λ p. p.0.now) order.now) x → length x % 4 ≡ 0 }
-    requires few { length (concat out.old) + length (concat (map (λ p. p.0.now) order.now)) < 2 ^ 34 }
-    ensures { IfOk result (λ _. out.new ≡ out.old ++ map (λ p. p.0.now) order.now) }
+fn append_rows<A: Allocator>(order: &[Row<'_>], out: &mut PackedTexts<A>) -> Result<(), AllocError>
+    requires padded { (x : List ℕ) → Contains (map (λ p. p.bytes.now) order.now) x → length x % 4 ≡ 0 }
+    requires few { length (concat out.old) + length (concat (map (λ p. p.bytes.now) order.now)) < 2 ^ 34 }
+    ensures { IfOk result (λ _. out.new ≡ out.old ++ map (λ p. p.bytes.now) order.now) }
 {
     for entry in order {
-        out.push(entry.0)?;
+        out.push(entry.bytes)?;
     }
     Ok(())
 }
 
 /// Numbers the records of the rows in order, from `first` on.
-fn number_rows(order: &[(&[u8], u32)], first: usize, numbers: &mut [u32])
-    requires within { (k : ℕ) → k < length order.now → get_or (map (λ p. p.1) order.now) k 0 < length numbers.old }
+fn number_rows(order: &[Row<'_>], first: usize, numbers: &mut [u32])
+    requires within { (k : ℕ) → k < length order.now → get_or (map (λ p. p.position) order.now) k 0 < length numbers.old }
     requires few { first + length order.now < 2 ^ 31 }
     requires bounded { (k : ℕ) → get_or numbers.old k 0 < 2 ^ 31 }
-    ensures numbered { Numbered (map (λ p. p.1) order.now) first (length order.now) numbers.old numbers.new }
+    ensures numbered { Numbered (map (λ p. p.position) order.now) first (length order.now) numbers.old numbers.new }
     ensures same { length numbers.new ≡ length numbers.old }
     ensures bounded { (k : ℕ) → get_or numbers.new k 0 < 2 ^ 31 }
 {
     let mut number = first;
     for entry in order {
-        numbers[entry.1 as usize] = number as u32;
+        numbers[entry.position as usize] = number as u32;
         number += 1;
     }
 }
@@ -151,11 +150,11 @@ fn sorted_pairs<'a, A: Allocator + Copy>(
     alloc: A,
     rows: &'a PackedTexts<A>,
     positions: &[u32],
-) -> Result<Vec<(&'a [u8], u32), A>, AllocError>
+) -> Result<Vec<Row<'a>, A>, AllocError>
     requires many { length positions.now ≡ length rows.now }
-    ensures moved { IfOk result (λ v. IsPermutation positions.now (map (λ p. p.1) v.items)) }
-    ensures fit { IfOk result (λ v. (g : ℕ → List ℕ) → rows.now ≡ map g positions.now → map (λ p. p.0.now) v.items ≡ map g (map (λ p. p.1) v.items)) }
-    ensures sorted { IfOk result (λ v. (k : ℕ) → k + 1 < length v.items → slice_cmp nat_cmp (get_or (map (λ p. p.0.now) v.items) k []) (get_or (map (λ p. p.0.now) v.items) (k + 1) []) ≢ Greater) }
+    ensures moved { IfOk result (λ v. IsPermutation positions.now (map (λ p. p.position) v.items)) }
+    ensures fit { IfOk result (λ v. (g : ℕ → List ℕ) → rows.now ≡ map g positions.now → map (λ p. p.bytes.now) v.items ≡ map g (map (λ p. p.position) v.items)) }
+    ensures sorted { IfOk result (λ v. (k : ℕ) → k + 1 < length v.items → slice_cmp nat_cmp (get_or (map (λ p. p.bytes.now) v.items) k []) (get_or (map (λ p. p.bytes.now) v.items) (k + 1) []) ≢ Greater) }
 {
     let mut pairs = paired(alloc, rows, positions)?;
     pairs.sort_unstable();

@@ -44,6 +44,7 @@ mod graph;
 pub mod laws;
 mod order;
 mod renumber;
+mod row;
 mod table;
 mod types;
 

@@ -8,8 +8,8 @@ push-requires-clause-few g c =
     let order = c.args.order.now in
     let k = c.loop-entry.entry-index in
     let inside : k + 1 ≤ length order = search rules in
-    let rows : List (List ℕ) = map (λ p. p.0.now) order in
-    let many : length rows ≡ length order = length-map order (λ p. p.0.now) in
-    let is = c.loop-entry.invariant ∙ ap (λ (x : List (List ℕ)). c.args.out.now ++ x) (sym (take-map (λ p. p.0.now) k order)) in
+    let rows : List (List ℕ) = map (λ p. p.bytes.now) order in
+    let many : length rows ≡ length order = length-map order (λ p. p.bytes.now) in
+    let is = c.loop-entry.invariant ∙ ap (λ (x : List (List ℕ)). c.args.out.now ++ x) (sym (take-map (λ p. p.bytes.now) k order)) in
     let fit = rows_fit c.loop-entry.out c.args.out.now rows k is (omega (arith, inside, many)) c.requires.few in
-    omega (arith, fit, ap length (get_or-map (λ p. p.0.now) order k (record { ref_ptr = (0, 0); now = [] }, 0) [] (omega (arith, inside))))
+    omega (arith, fit, ap length (get_or-map (λ p. p.bytes.now) order k (record { key = 0; bytes = record { ref_ptr = (0, 0); now = [] }; position = 0 }) [] (omega (arith, inside))))
