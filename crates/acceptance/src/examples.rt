@@ -170,7 +170,7 @@ fn a_merge_of_two_files(rt: HostRuntime) -> Result<(), Fail> {
     let files: [&[u8]; 2] = [&file, &file];
     let summary = merge_to(
         rt.alloc(),
-        &files,
+        files.as_slice(),
         &settings,
         &mut Out::new(&mut merged),
         folding(),

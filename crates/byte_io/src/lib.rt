@@ -5,7 +5,9 @@
 //!
 //! - [`Sink`] takes bytes. [`Out`] makes a sink of any `Write`, and [`put_all`] writes a whole
 //!   slice into a sink.
-//! - [`Source`] gives bytes. [`In`] makes a source of any `Read`.
+//! - [`Source`] gives bytes. [`In`] makes a source of any `Read`, and [`read_all`] reads a whole
+//!   source.
+//! - [`Inputs`] are several inputs that are read one after the other.
 //!
 //! What is proved: a sink took just the bytes that its calls say, in order. After [`NotTaken`] it
 //! took a proper prefix of the bytes. A sink or a source that broke stays broken. All of this says
@@ -15,9 +17,13 @@
 #![tactic(auto)]
 
 mod fault;
+mod input;
+mod inputs;
 mod sink;
 mod source;
 
 pub use fault::NotTaken;
+pub use input::{ReadFault, read_all, read_into, skip_all};
+pub use inputs::{InputFault, Inputs};
 pub use sink::{Out, Sink, put_all};
 pub use source::{In, Source};

@@ -1,4 +1,3 @@
-pub mod InputLaws
 pub mod MergeLaws
 pub mod RecordsLaws
 pub mod StreamsLaws

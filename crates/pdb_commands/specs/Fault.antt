@@ -7,8 +7,8 @@ use Rattle.pdb_merge.specs.declared.fault.MergeFault.{MergeFault}
 use Rattle.pdb_merge.specs.declared.fault.MergeFault.TheVariants as merges
 use Rattle.pdb_merge.specs.declared.fault.OutFault.{OutFault}
 use Rattle.pdb_merge.specs.declared.fault.OutFault.TheVariants as outs
-use Rattle.pdb_commands.specs.declared.input.ReadFault.{ReadFault}
-use Rattle.pdb_commands.specs.declared.input.ReadFault.TheVariants as reads
+use Rattle.byte_io.specs.declared.input.ReadFault.{ReadFault}
+use Rattle.byte_io.specs.declared.input.ReadFault.TheVariants as reads
 use Rattle.pdb_commands.specs.declared.fault.RunFault.{RunFault}
 use Rattle.pdb_commands.specs.declared.fault.RunFault.TheVariants.{Read, Info, Pdb, Merge, Memory, Write}
 

@@ -1,7 +1,6 @@
 pub mod Check
 pub mod Fault
 pub mod Info
-pub mod Input
 pub mod Merge
 pub mod Record
 pub mod Records

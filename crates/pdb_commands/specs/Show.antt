@@ -1,8 +1,8 @@
 -- How a command that shows a file answers: it reads the whole file, makes a text from it and prints the text, or is refused.
 use Rattle.std.specs.Prelude.{ℕ, ◌≡◌, ◌<◌, ◌⊎◌, Bool, true, List, length, take, Option, Result, OnOk, IfErr}
 use Rattle.std.specs.Io.KnownBytes.{Appends}
-use Rattle.pdb_commands.specs.Input.{GivesAll, IsNotRead}
-use Rattle.pdb_commands.specs.declared.input.ReadFault.{ReadFault}
+use Rattle.byte_io.specs.Input.{GivesAll, IsNotRead}
+use Rattle.byte_io.specs.declared.input.ReadFault.{ReadFault}
 use Rattle.pdb_commands.specs.declared.fault.RunFault.{RunFault}
 use Rattle.pdb_commands.specs.declared.fault.RunFault.TheVariants.{Read, Memory, Write}
 

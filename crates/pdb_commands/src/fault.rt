@@ -4,8 +4,7 @@ ghost use Rattle.std.specs.Prelude.{◌≡◌};
 ghost use Rattle.pdb_commands.specs.Fault.{of_read, of_info, of_pdb, of_merge, of_out};
 ghost use Rattle.pdb_commands.specs.declared.fault.RunFault.TheVariants.{Memory, Write};
 
-use crate::input::ReadFault;
-use byte_io::NotTaken;
+use byte_io::{NotTaken, ReadFault};
 use cv_leaves::LeafFault;
 use pdb_info::InfoFault;
 use pdb_merge::{MergeFault, OutFault, PdbFault};

@@ -12,7 +12,7 @@
 //! refusal nothing was written.
 //!
 //! The module `show` runs the commands that show a file. Each command has a module of its own.
-//! `input` reads, and `text` prints numbers and names.
+//! `text` prints numbers and names.
 //!
 //! The file `src/examples.rt` of the crate `acceptance` shows this crate in use, in a few lines.
 #![tactic(auto)]
@@ -20,7 +20,6 @@
 mod check;
 mod fault;
 mod info;
-mod input;
 mod merge;
 mod record;
 mod records;
@@ -32,7 +31,6 @@ mod types;
 pub use check::run_check;
 pub use fault::RunFault;
 pub use info::run_info;
-pub use input::{ReadFault, read_all};
 pub use merge::run_merge;
 pub use record::run_record;
 pub use records::run_records;

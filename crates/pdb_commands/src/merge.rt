@@ -1,18 +1,18 @@
 //! The command `merge`: writes one file with the types of all files, each once.
 
-ghost use Rattle.std.specs.Prelude.{◌≡◌, ◌≢◌, ◌⊎◌, ◌++◌, true, ℕ, List, OnOk, IfOk, IfErr, string_bytes};
+ghost use Rattle.std.specs.Prelude.{◌≡◌, ◌≢◌, ◌⊎◌, ◌++◌, true, ℕ, List, OnOk, IfOk, IfErr, IfSome, string_bytes};
 ghost use Rattle.std.specs.Io.KnownBytes.{Appends};
-ghost use Rattle.msf_streams.specs.Image.{contents_of};
+ghost use Rattle.byte_io.specs.Inputs.{Give};
 ghost use Rattle.msf_streams.specs.Put.{AppendsPart};
 ghost use Rattle.pdb_info.specs.Settings.{record_limit};
 ghost use Rattle.pdb_merge.specs.Merged.{WrotePart};
-ghost use Rattle.pdb_merge.specs.Union.{SameFiles, CanMerge};
+ghost use Rattle.pdb_merge.specs.Union.{SameFiles, CanMerge, ReadsFirst};
 ghost use Rattle.pdb_merge.specs.declared.fault.MergeFault.{MergeFault};
 ghost use Rattle.pdb_commands.specs.Merge.{summary_lines, IsNotMerged, WroteWhole, WroteAndReported, WroteAndBrokeOff};
 
 use crate::fault::RunFault;
 use crate::text::push_named;
-use byte_io::{Sink, put_all};
+use byte_io::{Inputs, Sink, put_all};
 use pdb_info::Settings;
 use pdb_merge::{Summary, merge_to};
 use std::alloc::{AllocError, Allocator};
@@ -50,32 +50,37 @@ fn report_on<V: Sink, A: Allocator>(
 /// report into `report`. The report has three lines: the number of types, the number of bytes that
 /// their records have together, and the length of the file in bytes.
 ///
-/// Files that cannot be merged are refused as [`pdb_merge::merge_files`] refuses them, with the
-/// position of a file, from 0. Nothing is written then. After `Memory` nothing was written, or
+/// The files are read one at a time. Files that cannot be merged are refused as
+/// [`pdb_merge::merge_files`] refuses them, with the position of a file, from 0. A file that cannot
+/// be read is refused first. Nothing is written then. After `Memory` nothing was written, or
 /// `out` holds the whole file and nothing was written into `report`. After `Write` one of the sinks
 /// is broken. If it is `out`, it took the first bytes of the file, and nothing was written into
 /// `report`. If it is `report`, it took the first bytes of the report, and `out` holds the whole
 /// file.
-pub fn run_merge<W: Sink, V: Sink, S: BuildHasher + Drop, A: Allocator + Copy>(
+pub fn run_merge<I: Inputs + Drop, W: Sink, V: Sink, S: BuildHasher + Drop, A: Allocator + Copy>(
     alloc: A,
-    files: &[&[u8]],
+    files: I,
     settings: &Settings,
     out: &mut W,
     report: &mut V,
     hasher: S,
 ) -> Result<(), RunFault<A>>
-    ensures value { OnOk result (WroteAndReported (contents_of files.now) settings.now (W.taken out.old) (W.taken out.new) (V.taken report.old) (V.taken report.new)) }
-    ensures can { OnOk result (CanMerge (contents_of files.now) (record_limit settings.now)) }
+    ensures value { (given : List (List ℕ)) → Give (I.known files) given → OnOk result (WroteAndReported given settings.now (W.taken out.old) (W.taken out.new) (V.taken report.old) (V.taken report.new)) }
+    ensures can { (given : List (List ℕ)) → Give (I.known files) given → OnOk result (CanMerge given (record_limit settings.now)) }
     // Files that can be merged are refused only when out of memory, or by a sink.
-    ensures found { CanMerge (contents_of files.now) (record_limit settings.now) → IfErr result (λ fault. (fault ≡ RunFault.Memory) ⊎ (fault ≡ RunFault.Write)) }
-    ensures first { IfErr result (IsNotMerged (contents_of files.now) (record_limit settings.now)) }
+    ensures found { (given : List (List ℕ)) → Give (I.known files) given → CanMerge given (record_limit settings.now) → IfErr result (λ fault. (fault ≡ RunFault.Memory) ⊎ (fault ≡ RunFault.Write)) }
+    ensures first { (given : List (List ℕ)) → Give (I.known files) given → IfErr result (IsNotMerged given (record_limit settings.now)) }
+    // Reading comes first: every file was read, or the fault is that of the first unread file.
+    ensures reads { IfErr result (λ fault. (inner : MergeFault A) → fault ≡ RunFault.Merge inner → IfSome (I.known files) (λ each. ReadsFirst each inner)) }
     // Files that are refused in one order are refused in any order.
-    ensures any_order { IfErr result (λ fault. (inner : MergeFault A) → fault ≡ RunFault.Merge inner
-        → (others : List (List ℕ)) → SameFiles (contents_of files.now) others → CanMerge others (record_limit settings.now) → ⊥) }
-    ensures write { result ≡ Err RunFault.Write → ((W.is_broken out.new ≡ true) × WrotePart (contents_of files.now) settings.now (W.taken out.old) (W.taken out.new) × (report.new ≡ report.old))
-        ⊎ ((V.is_broken report.new ≡ true) × WroteAndBrokeOff (contents_of files.now) settings.now (W.taken out.old) (W.taken out.new) (V.taken report.old) (V.taken report.new)) }
+    ensures any_order { (given : List (List ℕ)) → Give (I.known files) given → IfErr result (λ fault. (inner : MergeFault A) → fault ≡ RunFault.Merge inner
+        → (others : List (List ℕ)) → SameFiles given others → CanMerge others (record_limit settings.now) → ⊥) }
+    ensures write { (given : List (List ℕ)) → Give (I.known files) given → result ≡ Err RunFault.Write → ((W.is_broken out.new ≡ true) × WrotePart given settings.now (W.taken out.old) (W.taken out.new) × (report.new ≡ report.old))
+        ⊎ ((V.is_broken report.new ≡ true) × WroteAndBrokeOff given settings.now (W.taken out.old) (W.taken out.new) (V.taken report.old) (V.taken report.new)) }
     // After `Memory`, nothing was written, or the whole file and no report.
-    ensures memory { result ≡ Err RunFault.Memory → (report.new ≡ report.old) × ((out.new ≡ out.old) ⊎ WroteWhole (contents_of files.now) settings.now (W.taken out.old) (W.taken out.new)) }
+    ensures memory { (given : List (List ℕ)) → Give (I.known files) given → result ≡ Err RunFault.Memory → (report.new ≡ report.old) × ((out.new ≡ out.old) ⊎ WroteWhole given settings.now (W.taken out.old) (W.taken out.new)) }
+    ensures broken { result ≡ Err RunFault.Write → (W.is_broken out.new ≡ true) ⊎ (V.is_broken report.new ≡ true) }
+    ensures untold { result ≡ Err RunFault.Memory → report.new ≡ report.old }
     ensures untouched { IfErr result (λ fault. (inner : MergeFault A) → fault ≡ RunFault.Merge inner → (out.new ≡ out.old) × (report.new ≡ report.old)) }
 {
     let summary = merge_to(alloc, files, settings, out, hasher)?;

@@ -5,8 +5,7 @@ ghost use Rattle.pdb_commands.specs.Show.{Answers, IsOfText};
 ghost use Rattle.pdb_commands.specs.declared.fault.RunFault.{RunFault};
 
 use crate::fault::RunFault;
-use crate::input::read_all;
-use byte_io::{Sink, Source, put_all};
+use byte_io::{Sink, Source, put_all, read_all};
 use std::alloc::Allocator;
 
 /// A command that shows a file: it makes a text from the file's bytes.

@@ -3,6 +3,7 @@ pub mod ReadLaws
 pub mod MemoryLaws
 pub mod UnionLaws
 pub mod MergingLaws
+pub mod InputLaws
 pub mod FitLaws
 pub mod BytesLaws
 pub mod ReadBackLaws

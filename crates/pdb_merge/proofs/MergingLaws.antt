@@ -44,6 +44,7 @@ can_still files more end limit inside can = record {
 
 -- what stops some files also stops them with more files after them
 pub stops_still : {A : Type 0} (files more : List (List ℕ)) (limit : ℕ) (fault : MergeFault A) → Stops files limit fault → Stops (files ++ more) limit fault
+stops_still files more limit (merge.Input file fault) stops = absurd stops
 stops_still files more limit (merge.Refused file fault) (inside, can, refused) =
     let same = same_file files more file inside in
     (omega (arith, inside, length-append files more), can_still files more file limit (omega (arith, inside)) can, rw same refused)

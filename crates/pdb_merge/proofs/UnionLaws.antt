@@ -133,6 +133,7 @@ can_large A files limit file heavy (inside, below, accepted, (l, lists, is), mor
 
 -- files that can be merged are refused only when out of memory
 pub stopped_alone : {A : Type 0} (files : List (List ℕ)) (limit : ℕ) (fault : MergeFault A) → Stops files limit fault → CanMerge files limit → fault ≡ merge.Memory
+stopped_alone {A = A} files limit (merge.Input file fault) stops can = absurd stops
 stopped_alone {A = A} files limit (merge.Refused file fault) (inside, below, refused) can =
     let has = can.accepted file inside in
     absurd (accepted_unrefused (get_or files file []) has.0 fault has.1 refused)

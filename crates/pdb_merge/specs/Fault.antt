@@ -1,4 +1,7 @@
 -- The faults of crates below, as faults of a file. Out of memory is always `Memory`.
+use Rattle.byte_io.specs.declared.input.ReadFault.TheVariants as reads
+use Rattle.byte_io.specs.declared.inputs.InputFault.{InputFault}
+use Rattle.byte_io.specs.declared.inputs.InputFault.TheVariants as inputs
 use Rattle.msf_blocks.specs.declared.fault.MsfFault.{MsfFault}
 use Rattle.msf_blocks.specs.declared.fault.MsfFault.TheVariants as msf
 use Rattle.msf_streams.specs.declared.fault.StreamFault.{StreamFault}
@@ -61,3 +64,8 @@ abbrev pub of_add : {A : Type 0} → ℕ → AddFault A → MergeFault A
 of_add file (add.Refused inner) = merge.Refused file inner
 of_add file (add.TooLarge bytes) = merge.TooLarge file bytes
 of_add file add.Memory = merge.Memory
+
+-- a fault of reading the file at this position of a list
+abbrev pub of_input : {A : Type 0} → ℕ → InputFault → MergeFault A
+of_input file (inputs.Read reads.Memory) = merge.Memory
+of_input file fault = merge.Input file fault

@@ -1,6 +1,8 @@
 -- The types of a list of files, and when they can be merged.
-use Rattle.std.specs.Prelude.{ℕ, ◌≡◌, ◌≢◌, ◌+◌, ◌<◌, ◌≤◌, ◌⊎◌, ◌↔◌, List, [], length, get_or}
+use Rattle.std.specs.Prelude.{ℕ, ◌≡◌, ◌≢◌, ◌+◌, ◌<◌, ◌≤◌, ◌⊎◌, ◌↔◌, List, [], Result, length, get_or}
 use Rattle.std.specs.List.{AllPairs, Contains}
+use Rattle.byte_io.specs.Inputs.{CanRead, IsFirstUnread}
+use Rattle.byte_io.specs.declared.inputs.InputFault.{InputFault}
 use Rattle.type_trees.specs.Tree.{Tree, IsType}
 use Rattle.type_trees.specs.Canon.{weight}
 use Rattle.pdb_merge.specs.Read.{IsAccepted, HasPdbFault}
@@ -83,6 +85,13 @@ Stops files limit (merge.Refused file fault) = (file < length files) × CanMerge
 Stops files limit (merge.TooLarge file bytes) =
     (file < length files) × CanMergeBelow files file limit × AcceptedBelow files (file + 1) × Weighs (HasTypeBelow files (file + 1)) bytes × (limit < bytes)
 Stops files limit merge.Memory = Unit {0}
+Stops files limit (merge.Input file fault) = ⊥
+
+-- reading comes first: this fault is that of the first input that cannot be read, or every input can be read, or it is out of memory
+abbrev pub ReadsFirst : {A : Type 0} → List (Result (List ℕ) InputFault) → MergeFault A → Type 0
+ReadsFirst each (merge.Input file fault) = IsFirstUnread each file fault
+ReadsFirst each merge.Memory = Unit {0}
+ReadsFirst each fault = CanRead each (length each)
 
 -- the records have the types of the first `end` files
 abbrev pub Unites : List (List ℕ) → List (List ℕ) → ℕ → Type 0

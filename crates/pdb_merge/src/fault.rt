@@ -5,6 +5,7 @@ ghost use Rattle.pdb_merge.specs.Fault.{of_msf, of_stream, of_info, of_tpi, of_t
 ghost use Rattle.pdb_merge.specs.declared.fault.PdbFault.TheVariants.{Memory};
 ghost use Rattle.pdb_merge.specs.declared.fault.OutFault.TheVariants as out;
 
+use byte_io::InputFault;
 use msf_blocks::MsfFault;
 use msf_streams::StreamFault;
 use pdb_info::InfoFault;
@@ -141,6 +142,9 @@ impl<A: Allocator> From<JoinFault> for AddFault<A> {
 /// Why files were not merged. A file is named by its position, from 0.
 #[derive(Debug, PartialEq, Eq, Drop, Error)]
 pub enum MergeFault<A: Allocator = Global> {
+    /// This file was not read. Those before it were. The fault inside is never out of memory.
+    #[error("file {file}: {fault}")]
+    Input { file: usize, fault: InputFault },
     /// This file is not accepted. Those before it are. The fault inside is never out of memory.
     #[error("file {file}: {fault}")]
     Refused { file: usize, fault: PdbFault<A> },

@@ -1,16 +1,19 @@
 //! The types of several files, each once.
 
-ghost use Rattle.std.specs.Prelude.{◌≡◌, ◌≢◌, ◌<◌, [], ℕ, List, length, get_or, IfOk, IfErr};
-ghost use Rattle.msf_streams.specs.Image.{contents_of};
+ghost use Rattle.std.specs.Prelude.{◌≡◌, ◌≢◌, ◌<◌, ◌≤◌, ◌+◌, ◌^◌, [], ℕ, List, length, take, OnOk, IfOk, IfErr, IfSome};
+ghost use Rattle.std.specs.List.{concat};
+ghost use Rattle.byte_io.specs.Inputs.{Give, CanRead};
+ghost use Rattle.type_trees.specs.Tree.{IsType};
 ghost use Rattle.type_trees.specs.Finish.{IsCanonOf};
 ghost use Rattle.pdb_info.specs.Settings.{record_limit};
-ghost use Rattle.pdb_merge.specs.Fault.{of_add};
-ghost use Rattle.pdb_merge.specs.Union.{HasType, SameFiles, CanMerge, Stops};
+ghost use Rattle.pdb_merge.specs.Fault.{of_add, of_input};
+ghost use Rattle.pdb_merge.specs.Union.{HasType, Within, SameFiles, CanMerge, Stops, ReadsFirst};
 ghost use Rattle.pdb_merge.specs.Merging.{HasTaken};
 
 use crate::buffer::Buffer;
 use crate::fault::{AddFault, MergeFault};
 use crate::merge::Merge;
+use byte_io::{InputFault, Inputs, ReadFault};
 use pdb_info::Settings;
 use std::alloc::Allocator;
 use std::hash::BuildHasher;
@@ -27,49 +30,103 @@ fn at_file<A: Allocator>(file: usize, fault: AddFault<A>) -> MergeFault<A>
     }
 }
 
-/// The file at a position.
-fn file_at<'a>(files: &[&'a [u8]], position: usize) -> &'a [u8]
-    requires { position < length files.now }
-    ensures { get_or (contents_of files.now) position [] ≡ result.now }
+/// The fault of reading the file at this position.
+fn unread<A: Allocator>(file: usize, fault: InputFault) -> MergeFault<A>
+    ensures { result ≡ of_input file fault }
 {
-    files[position]
+    match fault {
+        InputFault::Read(ReadFault::Memory) => MergeFault::Memory,
+        fault => MergeFault::Input { file, fault },
+    }
 }
 
-/// Adds the types of all files, in order.
-fn add_all<S: BuildHasher, A: Allocator + Copy>(
-    alloc: A,
-    files: &[&[u8]],
-    merge: &mut Merge<S, A>,
-) -> Result<(), MergeFault<A>>
-    requires { HasTaken merge.old [] }
-    ensures value { IfOk result (λ _. HasTaken merge.new (contents_of files.now)) }
-    ensures limit { merge.new.limit ≡ merge.old.limit }
-    ensures found { CanMerge (contents_of files.now) merge.old.limit → IfErr result (λ fault. fault ≡ MergeFault.Memory) }
-    ensures first { IfErr result (Stops (contents_of files.now) merge.old.limit) }
+/// Checks that the inputs from this one on can be read.
+fn check_rest<I: Inputs, A: Allocator>(inputs: &I, first: usize) -> Result<(), MergeFault<A>>
+    requires { IfSome (I.known inputs.now) (λ each. CanRead each first) }
+    ensures value { OnOk result (IfSome (I.known inputs.now) (λ each. CanRead each (length each))) }
+    ensures fault { IfErr result (λ fault. IfSome (I.known inputs.now) (λ each. ReadsFirst each fault)) }
+    ensures unread { (files : List (List ℕ)) → Give (I.known inputs.now) files → IfErr result (λ fault. fault ≡ MergeFault.Memory) }
 {
-    let mut buffer = Buffer::new(alloc);
-    for file in 0..files.len() {
-        if let Err(fault) = merge.add(alloc, file_at(files, file), &mut buffer) {
-            return Err(at_file(file, fault));
+    for input in first..inputs.count() {
+        if let Err(fault) = inputs.check(input) {
+            return Err(unread(input, fault));
         }
     }
     Ok(())
 }
 
-/// The canonical list of the types of these files, or the first fault.
-fn list_all<S: BuildHasher + Drop, A: Allocator + Copy>(
+/// Adds the types of the file at a position. After a fault of its own the files after it are read
+/// too, because a file that cannot be read is refused first.
+fn add_input<I: Inputs, S: BuildHasher, A: Allocator + Copy>(
     alloc: A,
-    files: &[&[u8]],
+    inputs: &I,
+    input: usize,
+    bytes: &mut Vec<u8, A>,
+    buffer: &mut Buffer<A>,
+    merge: &mut Merge<S, A>,
+) -> Result<(), MergeFault<A>>
+    requires few { input + 1 < 2 ^ 64 }
+    requires inside { IfSome (I.known inputs.now) (λ each. input < length each) }
+    requires before { IfSome (I.known inputs.now) (λ each. CanRead each input) }
+    ensures value { (files : List (List ℕ)) → Give (I.known inputs.now) files → HasTaken merge.old (take input files) → OnOk result (HasTaken merge.new (take (input + 1) files)) }
+    ensures within { OnOk result (Within (IsType merge.new.types) merge.new.limit) }
+    ensures read { OnOk result (IfSome (I.known inputs.now) (λ each. CanRead each (input + 1))) }
+    ensures limit { merge.new.limit ≡ merge.old.limit }
+    ensures found { (files : List (List ℕ)) → Give (I.known inputs.now) files → HasTaken merge.old (take input files) → CanMerge files merge.old.limit → IfErr result (λ fault. fault ≡ MergeFault.Memory) }
+    ensures first { (files : List (List ℕ)) → Give (I.known inputs.now) files → HasTaken merge.old (take input files) → IfErr result (Stops files merge.old.limit) }
+    ensures reads { IfErr result (λ fault. IfSome (I.known inputs.now) (λ each. ReadsFirst each fault)) }
+{
+    let file = match inputs.read(input, bytes) {
+        Ok(file) => file,
+        Err(fault) => return Err(unread(input, fault)),
+    };
+    if let Err(fault) = merge.add(alloc, file, buffer) {
+        check_rest(inputs, input + 1)?;
+        return Err(at_file(input, fault));
+    }
+    Ok(())
+}
+
+/// Adds the types of all files, in order. The bytes of one file are in memory at a time.
+fn add_all<I: Inputs, S: BuildHasher, A: Allocator + Copy>(
+    alloc: A,
+    inputs: &I,
+    merge: &mut Merge<S, A>,
+) -> Result<(), MergeFault<A>>
+    requires { HasTaken merge.old [] }
+    ensures value { (files : List (List ℕ)) → Give (I.known inputs.now) files → OnOk result (HasTaken merge.new files) }
+    ensures within { OnOk result (Within (IsType merge.new.types) merge.new.limit) }
+    ensures read { OnOk result (IfSome (I.known inputs.now) (λ each. CanRead each (length each))) }
+    ensures limit { merge.new.limit ≡ merge.old.limit }
+    ensures found { (files : List (List ℕ)) → Give (I.known inputs.now) files → CanMerge files merge.old.limit → IfErr result (λ fault. fault ≡ MergeFault.Memory) }
+    ensures first { (files : List (List ℕ)) → Give (I.known inputs.now) files → IfErr result (Stops files merge.old.limit) }
+    ensures reads { IfErr result (λ fault. IfSome (I.known inputs.now) (λ each. ReadsFirst each fault)) }
+{
+    let mut bytes = Vec::new(alloc);
+    let mut buffer = Buffer::new(alloc);
+    for input in 0..inputs.count() {
+        add_input(alloc, inputs, input, &mut bytes, &mut buffer, merge)?;
+    }
+    Ok(())
+}
+
+/// The canonical list of the types of these files, or the first fault.
+fn list_all<I: Inputs, S: BuildHasher + Drop, A: Allocator + Copy>(
+    alloc: A,
+    inputs: &I,
     limit: u32,
     hasher: S,
 ) -> Result<Canon<A>, MergeFault<A>>
-    ensures value { IfOk result (λ canon. IsCanonOf canon (HasType (contents_of files.now))) }
-    ensures can { IfOk result (λ _. CanMerge (contents_of files.now) limit) }
-    ensures found { CanMerge (contents_of files.now) limit → IfErr result (λ fault. fault ≡ MergeFault.Memory) }
-    ensures first { IfErr result (Stops (contents_of files.now) limit) }
+    ensures value { (files : List (List ℕ)) → Give (I.known inputs.now) files → IfOk result (λ canon. IsCanonOf canon (HasType files)) }
+    ensures within { IfOk result (λ canon. length (concat canon) ≤ limit) }
+    ensures can { (files : List (List ℕ)) → Give (I.known inputs.now) files → OnOk result (CanMerge files limit) }
+    ensures read { OnOk result (IfSome (I.known inputs.now) (λ each. CanRead each (length each))) }
+    ensures found { (files : List (List ℕ)) → Give (I.known inputs.now) files → CanMerge files limit → IfErr result (λ fault. fault ≡ MergeFault.Memory) }
+    ensures first { (files : List (List ℕ)) → Give (I.known inputs.now) files → IfErr result (Stops files limit) }
+    ensures reads { IfErr result (λ fault. IfSome (I.known inputs.now) (λ each. ReadsFirst each fault)) }
 {
     let mut merge = Merge::new(alloc, limit, hasher);
-    add_all(alloc, files, &mut merge)?;
+    add_all(alloc, inputs, &mut merge)?;
     match merge.finish(alloc) {
         Ok(canon) => Ok(canon),
         Err(_) => Err(MergeFault::Memory),
@@ -78,23 +135,28 @@ fn list_all<S: BuildHasher + Drop, A: Allocator + Copy>(
 
 /// The canonical list of the types of these files.
 ///
-/// The files are read in order. The fault of a file comes first, `Refused`. Then comes `TooLarge`,
-/// where the types so far, with those of this file, have more bytes than the limit of the settings.
-/// Both name the file by its position, from 0. `Memory` is out of memory. Beside the types of all
-/// files so far, only the types of one file are in memory.
-pub fn merge_files<S: BuildHasher + Drop, A: Allocator + Copy>(
+/// The files are read one at a time, in order. A file that cannot be read is refused first, `Input`,
+/// even if one before it has a fault of its own. Then comes the fault of a file, `Refused`. Then
+/// comes `TooLarge`, where the types so far, with those of this file, have more bytes than the limit
+/// of the settings. All three name the file by its position, from 0. `Memory` is out of memory.
+/// Beside the types of all files so far, only one file is in memory.
+pub fn merge_files<I: Inputs + Drop, S: BuildHasher + Drop, A: Allocator + Copy>(
     alloc: A,
-    files: &[&[u8]],
+    files: I,
     settings: &Settings,
     hasher: S,
 ) -> Result<Canon<A>, MergeFault<A>>
-    ensures value { IfOk result (λ canon. IsCanonOf canon (HasType (contents_of files.now))) }
-    ensures can { IfOk result (λ _. CanMerge (contents_of files.now) (record_limit settings.now)) }
+    ensures value { (given : List (List ℕ)) → Give (I.known files) given → IfOk result (λ canon. IsCanonOf canon (HasType given)) }
+    ensures within { IfOk result (λ canon. length (concat canon) ≤ record_limit settings.now) }
+    ensures can { (given : List (List ℕ)) → Give (I.known files) given → OnOk result (CanMerge given (record_limit settings.now)) }
     // Files that can be merged are refused only when out of memory.
-    ensures found { CanMerge (contents_of files.now) (record_limit settings.now) → IfErr result (λ fault. fault ≡ MergeFault.Memory) }
-    ensures first { IfErr result (Stops (contents_of files.now) (record_limit settings.now)) }
+    ensures found { (given : List (List ℕ)) → Give (I.known files) given → CanMerge given (record_limit settings.now) → IfErr result (λ fault. fault ≡ MergeFault.Memory) }
+    ensures first { (given : List (List ℕ)) → Give (I.known files) given → IfErr result (Stops given (record_limit settings.now)) }
+    // Reading comes first: every file was read, or the fault is that of the first unread file.
+    ensures read { OnOk result (IfSome (I.known files) (λ each. CanRead each (length each))) }
+    ensures reads { IfErr result (λ fault. IfSome (I.known files) (λ each. ReadsFirst each fault)) }
     // Files that are refused in one order are refused in any order.
-    ensures any_order { IfErr result (λ fault. fault ≢ MergeFault.Memory → (others : List (List ℕ)) → SameFiles (contents_of files.now) others → CanMerge others (record_limit settings.now) → ⊥) }
+    ensures any_order { (given : List (List ℕ)) → Give (I.known files) given → IfErr result (λ fault. fault ≢ MergeFault.Memory → (others : List (List ℕ)) → SameFiles given others → CanMerge others (record_limit settings.now) → ⊥) }
 {
-    list_all(alloc, files, settings.record_limit(), hasher)
+    list_all(alloc, &files, settings.record_limit(), hasher)
 }

@@ -72,6 +72,7 @@ impl<S: BuildHasher, A: Allocator + Copy> Merge<S, A> {
     /// memory. After a fault the merge is unchanged, and the next file may be added.
     pub fn add(&mut self, alloc: A, file: &[u8], buffer: &mut Buffer<A>) -> Result<(), AddFault<A>>
         ensures value { IfOk result (λ _. Takes self.old.types self.new.types file.now) }
+        ensures within { IfOk result (λ _. Within (IsType self.new.types) self.new.limit) }
         ensures limit { self.new.limit ≡ self.old.limit }
         ensures kept { IfErr result (λ _. self.new ≡ self.old) }
         ensures first { IfErr result (Hinders self.old.types self.old.limit file.now) }

@@ -1,19 +1,19 @@
 //! The file of the types of several files.
 
-ghost use Rattle.std.specs.Prelude.{◌≡◌, ◌≢◌, ◌⊎◌, ◌≤◌, true, ℕ, List, length, IfOk, IfErr};
+ghost use Rattle.std.specs.Prelude.{◌≡◌, ◌≢◌, ◌⊎◌, ◌≤◌, true, ℕ, List, length, OnOk, IfOk, IfErr, IfSome};
 ghost use Rattle.std.specs.List.{concat};
-ghost use Rattle.msf_streams.specs.Image.{contents_of};
+ghost use Rattle.byte_io.specs.Inputs.{Give};
 ghost use Rattle.msf_streams.specs.Put.{AppendsPart};
 ghost use Rattle.pdb_info.specs.Settings.{AreSettings, record_limit};
 ghost use Rattle.pdb_merge.specs.Merged.{merged_file, WroteFile, Wrote, WrotePart};
-ghost use Rattle.pdb_merge.specs.Union.{SameFiles, CanMerge, Stops};
+ghost use Rattle.pdb_merge.specs.Union.{SameFiles, CanMerge, Stops, ReadsFirst};
 ghost use Rattle.pdb_merge.specs.declared.fault.MergeFault.{MergeFault};
 
 use crate::fault::OutFault;
 use crate::files::merge_files;
 use crate::summary::Summary;
 use crate::written::{merged_len, write_merged};
-use byte_io::Sink;
+use byte_io::{Inputs, Sink};
 use msf_streams::WriteFault;
 use pdb_info::Settings;
 use std::alloc::Allocator;
@@ -66,23 +66,26 @@ fn write_canon<W: Sink, A: Allocator + Copy>(
 /// The faults, in order: `Merge`, with the fault of [`merge_files`]; `Memory`, when out of memory
 /// for writing; and `Write`, where the sink did not take the whole file. After `Write` the sink is
 /// broken and took the first bytes of the file. After any other fault it is unchanged.
-pub fn merge_to<W: Sink, S: BuildHasher + Drop, A: Allocator + Copy>(
+pub fn merge_to<I: Inputs + Drop, W: Sink, S: BuildHasher + Drop, A: Allocator + Copy>(
     alloc: A,
-    files: &[&[u8]],
+    files: I,
     settings: &Settings,
     out: &mut W,
     hasher: S,
 ) -> Result<Summary, OutFault<A>>
-    ensures value { IfOk result (Wrote (contents_of files.now) settings.now (W.taken out.old) (W.taken out.new)) }
-    ensures can { IfOk result (λ _. CanMerge (contents_of files.now) (record_limit settings.now)) }
+    ensures value { (given : List (List ℕ)) → Give (I.known files) given → IfOk result (Wrote given settings.now (W.taken out.old) (W.taken out.new)) }
+    ensures can { (given : List (List ℕ)) → Give (I.known files) given → OnOk result (CanMerge given (record_limit settings.now)) }
     // Files that can be merged are refused only when out of memory, or by the sink.
-    ensures found { CanMerge (contents_of files.now) (record_limit settings.now) → IfErr result (λ fault. (fault ≡ OutFault.Merge MergeFault.Memory) ⊎ (fault ≡ OutFault.Memory) ⊎ (fault ≡ OutFault.Write)) }
-    ensures first { IfErr result (λ fault. (inner : MergeFault A) → fault ≡ OutFault.Merge inner → Stops (contents_of files.now) (record_limit settings.now) inner) }
+    ensures found { (given : List (List ℕ)) → Give (I.known files) given → CanMerge given (record_limit settings.now) → IfErr result (λ fault. (fault ≡ OutFault.Merge MergeFault.Memory) ⊎ (fault ≡ OutFault.Memory) ⊎ (fault ≡ OutFault.Write)) }
+    ensures first { (given : List (List ℕ)) → Give (I.known files) given → IfErr result (λ fault. (inner : MergeFault A) → fault ≡ OutFault.Merge inner → Stops given (record_limit settings.now) inner) }
+    // Reading comes first: every file was read, or the fault is that of the first unread file.
+    ensures reads { IfErr result (λ fault. (inner : MergeFault A) → fault ≡ OutFault.Merge inner → IfSome (I.known files) (λ each. ReadsFirst each inner)) }
     // Files that are refused in one order are refused in any order.
-    ensures any_order { IfErr result (λ fault. (inner : MergeFault A) → fault ≡ OutFault.Merge inner → inner ≢ MergeFault.Memory
-        → (others : List (List ℕ)) → SameFiles (contents_of files.now) others → CanMerge others (record_limit settings.now) → ⊥) }
-    ensures write { IfErr result (λ fault. fault ≡ OutFault.Write → (W.is_broken out.new ≡ true)
-        × WrotePart (contents_of files.now) settings.now (W.taken out.old) (W.taken out.new)) }
+    ensures any_order { (given : List (List ℕ)) → Give (I.known files) given → IfErr result (λ fault. (inner : MergeFault A) → fault ≡ OutFault.Merge inner → inner ≢ MergeFault.Memory
+        → (others : List (List ℕ)) → SameFiles given others → CanMerge others (record_limit settings.now) → ⊥) }
+    ensures broken { IfErr result (λ fault. fault ≡ OutFault.Write → W.is_broken out.new ≡ true) }
+    ensures write { (given : List (List ℕ)) → Give (I.known files) given → IfErr result (λ fault. fault ≡ OutFault.Write → (W.is_broken out.new ≡ true)
+        × WrotePart given settings.now (W.taken out.old) (W.taken out.new)) }
     ensures untouched { IfErr result (λ fault. fault ≢ OutFault.Write → out.new ≡ out.old) }
 {
     let canon = merge_files(alloc, files, settings, hasher)?;

@@ -7,7 +7,7 @@ ghost use Rattle.pdbmerge.specs.declared.fault.ProgramFault.TheVariants.{Run};
 ghost use Rattle.pdb_commands.specs.declared.fault.RunFault.TheVariants.{Memory};
 
 use clap::error::ErrorKind;
-use pdb_commands::{ReadFault, RunFault};
+use pdb_commands::RunFault;
 use std::alloc::{AllocError, AllocFailed};
 use thiserror::Error;
 
@@ -72,13 +72,6 @@ pub enum ProgramFault {
     /// A file cannot be opened.
     #[error("40 Open")]
     Open,
-    /// One of several files cannot be opened: the one at this position, from 0.
-    #[error("file {0}: 40 Open")]
-    OpenOne(usize),
-    /// One of several files was not read to its end: the one at the position `file`, from 0. The
-    /// fault inside is never out of memory.
-    #[error("file {file}: {fault}")]
-    ReadOne { file: usize, fault: ReadFault },
     /// The file to write cannot be created.
     #[error("41 Create")]
     Create,

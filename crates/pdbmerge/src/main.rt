@@ -1,26 +1,24 @@
 //! The command `pdbmerge`: merges the types of Program Database (PDB) files, and shows what files
 //! hold.
 //!
-//! `line` reads the arguments, and `index` reads a type index among them. `output` is a file that
-//! is created at its first write. The commands are those of `pdb_commands`. This module joins these
+//! `line` reads the arguments, and `index` reads a type index among them. `inputs` are the files that
+//! a merge reads, and `output` is a file that is created at its first write. The commands are those of `pdb_commands`. This module joins these
 //! to the system: arguments, files, the standard streams and the exit status.
 #![tactic(auto)]
 
-ghost use Rattle.std.specs.Prelude.{◌≡◌, IfErr};
-ghost use Rattle.pdbmerge.specs.Program.{IsOnce};
-
 mod fault;
 mod index;
+mod inputs;
 mod line;
 mod output;
 
 use byte_io::{In, Out, put_all};
 use fault::{LineFault, ProgramFault};
+use inputs::InputFiles;
 use line::{Line, USAGE, read_line};
 use output::NewFile;
 use pdb_commands::{
-    ReadFault, RunFault, read_all, run_check, run_info, run_merge, run_record, run_records,
-    run_streams, run_types,
+    RunFault, run_check, run_info, run_merge, run_record, run_records, run_streams, run_types,
 };
 use pdb_info::Settings;
 use std::hash::{BuildHasher, BuildHasherDefault, FoldHasher, RandomState};
@@ -48,36 +46,6 @@ fn open<R: Files>(rt: &R, file: &str) -> Result<In<R::File>, ProgramFault> {
     }
 }
 
-/// Reads one of several files to its end. `file` is its position, from 0.
-fn read_one<R: Files + AllocGlobal>(
-    rt: &R,
-    file: usize,
-    name: &str,
-) -> Result<Vec<u8>, ProgramFault>
-    ensures { IfErr result IsOnce }
-{
-    let Ok(mut input) = open(rt, name) else {
-        return Err(ProgramFault::OpenOne(file));
-    };
-    match read_all(rt.alloc(), &mut input, u32::MAX) {
-        Ok(bytes) => Ok(bytes),
-        Err(ReadFault::Memory) => Err(RunFault::Memory.into()),
-        Err(fault) => Err(ProgramFault::ReadOne { file, fault }),
-    }
-}
-
-/// Reads all files, in order.
-fn read_each<R: Files + AllocGlobal>(
-    rt: &R,
-    names: &[String],
-) -> Result<Vec<Vec<u8>>, ProgramFault> {
-    let mut files = Vec::new(rt.alloc());
-    for (file, name) in names.iter().enumerate() {
-        files.push(read_one(rt, file, name.as_str())?)?;
-    }
-    Ok(files)
-}
-
 /// Merges files into a new one, and writes the report on it to standard output.
 fn merge_with<R: Files + Print + AllocGlobal, S: BuildHasher + Drop>(
     rt: &R,
@@ -86,16 +54,11 @@ fn merge_with<R: Files + Print + AllocGlobal, S: BuildHasher + Drop>(
     inputs: &[String],
     hasher: S,
 ) -> Result<(), ProgramFault> {
-    let files = read_each(rt, inputs)?;
-    let mut slices = Vec::new(rt.alloc());
-    for file in &files {
-        slices.push(file.as_slice())?;
-    }
     let mut new_file = NewFile::new(rt, out);
     let mut report = Out::new(writer(rt));
     let merged = run_merge(
         rt.alloc(),
-        &slices,
+        InputFiles::new(rt, inputs),
         settings,
         &mut new_file,
         &mut report,

@@ -1,8 +1,8 @@
 //! Out of memory at one allocation after the other, with heaps of increasing size.
 
 use super::shown::SAMPLE;
-use msf_blocks::{In, Out};
-use pdb_commands::{ReadFault, RunFault, read_all, run_check, run_records};
+use byte_io::{In, Out, ReadFault, read_all};
+use pdb_commands::{RunFault, run_check, run_records};
 use samples::{Dripping, offset, put, refusals, sample};
 use std::test::Fail;
 

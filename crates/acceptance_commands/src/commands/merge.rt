@@ -1,6 +1,8 @@
 //! What `merge` writes and reports, its faults, a report that cannot be written, and out of memory.
 
-use msf_blocks::Out;
+ghost use Rattle.std.specs.Prelude.{None};
+
+use byte_io::{InputFault, Inputs, Out, ReadFault};
 use pdb_commands::{RunFault, run_merge};
 use samples::{folding, offset, put, refusals, sample, settings};
 use std::alloc::{Allocator, Global};
@@ -85,6 +87,90 @@ fn faults_name_their_file(rt: HostRuntime) -> Result<(), Fail> {
     Ok(())
 }
 
+/// Inputs of which some cannot be read.
+#[derive(Drop)]
+struct Broken<'a> {
+    each: &'a [Result<&'a [u8], InputFault>],
+}
+
+impl Inputs for Broken<'_> {
+    ghost known = { λ _. None };
+
+    fn count(&self) -> usize {
+        self.each.len()
+    }
+
+    fn read<'b, A: Allocator>(
+        &'b self,
+        input: usize,
+        _buffer: &'b mut Vec<u8, A>,
+    ) -> Result<&'b [u8], InputFault> {
+        match self.each.get(input) {
+            Some(input) => *input,
+            None => Err(InputFault::Open),
+        }
+    }
+
+    fn check(&self, input: usize) -> Result<(), InputFault> {
+        match self.each.get(input) {
+            Some(Ok(_)) => Ok(()),
+            Some(Err(fault)) => Err(*fault),
+            None => Err(InputFault::Open),
+        }
+    }
+}
+
+/// The text of the fault of two inputs with the limit 23, for which nothing is written.
+fn fault_of_inputs<'a>(
+    alloc: Global,
+    first: Result<&'a [u8], InputFault>,
+    second: Result<&'a [u8], InputFault>,
+) -> Result<String, Fail> {
+    let mut file = Vec::new(alloc);
+    let mut report = Vec::new(alloc);
+    let each = [first, second];
+    let answer = run_merge(
+        alloc,
+        Broken { each: &each },
+        &settings(23, 4096)?,
+        &mut Out::new(&mut file),
+        &mut Out::new(&mut report),
+        folding(),
+    );
+    if !file.is_empty() || !report.is_empty() {
+        return Err("something was written".into());
+    }
+    Ok(answer.err().ok_or("it was merged")?.to_string(alloc)?)
+}
+
+#[test]
+fn an_unread_file_comes_before_other_faults(rt: HostRuntime) -> Result<(), Fail> {
+    let large = sample(rt.alloc())?;
+    let zeros = vec![in rt.alloc(); 0u8; 56]?;
+    for (fault, unread) in [
+        (InputFault::Open, "40 Open"),
+        (InputFault::Read(ReadFault::Read), "37 Read"),
+        (InputFault::Read(ReadFault::TooLong), "38 TooLong"),
+    ] {
+        for first in [large.as_slice(), zeros.as_slice()] {
+            let text = fault_of_inputs(rt.alloc(), Ok(first), Err(fault))?;
+            assert_eq!(rt; text.as_str().strip_prefix("file 1: "), Some(unread));
+            let text = fault_of_inputs(rt.alloc(), Err(fault), Ok(first))?;
+            assert_eq!(rt; text.as_str().strip_prefix("file 0: "), Some(unread));
+        }
+        let text = fault_of_inputs(rt.alloc(), Err(fault), Err(InputFault::Open))?;
+        assert_eq!(rt; text.as_str().strip_prefix("file 0: "), Some(unread));
+    }
+    let text = fault_of_inputs(rt.alloc(), Ok(&large), Ok(&zeros))?;
+    assert_eq!(rt; text.as_str(), "file 0: 32 TooLarge bytes 24");
+    let text = fault_of_inputs(rt.alloc(), Ok(&zeros), Ok(&large))?;
+    assert_eq!(rt; text.as_str(), "file 0: 2 Magic");
+    let memory = Err(InputFault::Read(ReadFault::Memory));
+    let text = fault_of_inputs(rt.alloc(), memory, Ok(&zeros))?;
+    assert_eq!(rt; text.as_str(), "33 Memory");
+    Ok(())
+}
+
 #[test]
 fn a_report_that_is_not_taken(rt: HostRuntime) -> Result<(), Fail> {
     let sample = sample(rt.alloc())?;
@@ -92,12 +178,13 @@ fn a_report_that_is_not_taken(rt: HostRuntime) -> Result<(), Fail> {
     let (answer, want, report) = ran(rt.alloc(), rt.alloc(), &[&sample], 24)?;
     assert_eq!(rt; answer, Ok(()));
     assert_eq!(rt; report.as_slice(), REPORT.as_bytes());
+    let files = [sample.as_slice()];
     for room in 0..REPORT.len() {
         let mut file = Vec::new(rt.alloc());
         let mut report = [0u8; 32];
         let answer = run_merge(
             rt.alloc(),
-            &[&sample],
+            files.as_slice(),
             &settings,
             &mut Out::new(&mut file),
             &mut Out::new(&mut report[..room]),

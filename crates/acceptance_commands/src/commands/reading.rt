@@ -1,8 +1,8 @@
 //! Sources that give little, that give too much, or that fail.
 
 use super::shown::SAMPLE;
-use msf_blocks::Out;
-use pdb_commands::{ReadFault, read_all, run_records};
+use byte_io::{Out, ReadFault, read_all};
+use pdb_commands::run_records;
 use samples::{Dripping, sample};
 use std::test::Fail;
 

@@ -119,7 +119,8 @@ fn said_of_two<'a, A: Allocator + Copy>(
     first: &'a [u8],
     second: &'a [u8],
 ) -> Result<String, Fail> {
-    match merge_files(alloc, &[first, second], &settings(LIMIT, 4096)?, folding()) {
+    let files = [first, second];
+    match merge_files(alloc, files.as_slice(), &settings(LIMIT, 4096)?, folding()) {
         Ok(canon) => Ok(canon.len().to_string(text)?),
         Err(fault) => Ok(fault.to_string(text)?),
     }
@@ -151,12 +152,13 @@ fn merges_are_refused_growth_in_turn(rt: HostRuntime) -> Result<(), Fail> {
 fn a_merge_of_a_chain_is_refused_growth_in_turn(rt: HostRuntime) -> Result<(), Fail> {
     let forward = pdb(rt.alloc(), 10_000, &chain(rt.alloc(), 9_999, true)?)?;
     let turned = pdb(rt.alloc(), 10_000, &chain(rt.alloc(), 9_999, false)?)?;
+    let files = [forward.as_slice()];
     let refused = refusals(rt.alloc(), 131_072, 48, |heap| {
         let mut file = Vec::new(rt.alloc());
         let mut out = Out::new(&mut file);
         match merge_to(
             heap,
-            &[&forward],
+            files.as_slice(),
             &settings(LIMIT, 4096)?,
             &mut out,
             folding(),

@@ -159,7 +159,7 @@ fn listed<A: Allocator + Copy>(
     files: &[&[u8]; 2],
     limit: u32,
 ) -> Result<Result<Canon<A>, MergeFault<A>>, Fail> {
-    Ok(merge_files(alloc, files, &settings(limit, 4096)?, folding()))
+    Ok(merge_files(alloc, files.as_slice(), &settings(limit, 4096)?, folding()))
 }
 
 /// Why two files are not merged, or how many bytes the records of their list have.
@@ -236,7 +236,14 @@ fn merged_into(
     step: usize,
 ) -> Result<(Narrow, Option<OutFault>), Fail> {
     let mut out = Narrow::new(alloc, step, room);
-    let answer = merge_to(alloc, &[file], &settings(LIMIT, 4096)?, &mut out, folding());
+    let files = [file];
+    let answer = merge_to(
+        alloc,
+        files.as_slice(),
+        &settings(LIMIT, 4096)?,
+        &mut out,
+        folding(),
+    );
     Ok((out, answer.err()))
 }
 
@@ -296,12 +303,13 @@ fn lists_are_refused_growth_in_turn(rt: HostRuntime) -> Result<(), Fail> {
 fn merges_are_refused_growth_in_turn(rt: HostRuntime) -> Result<(), Fail> {
     let sample = sample(rt.alloc())?;
     let want = pdb_with(rt.alloc(), &[CONST, TO_INT])?;
+    let files = [sample.as_slice(), want.as_slice()];
     let refused = refusals(rt.alloc(), 32, 512, |heap| {
         let mut file = Vec::new(rt.alloc());
         let mut out = Out::new(&mut file);
         match merge_to(
             heap,
-            &[&sample, &want],
+            files.as_slice(),
             &settings(24, 4096)?,
             &mut out,
             folding(),

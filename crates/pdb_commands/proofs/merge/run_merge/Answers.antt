@@ -1,11 +1,24 @@
-use Rattle.std.proofs.Common.{◌∙◌, sym}
+use Rattle.std.proofs.Common.{◌∙◌, sym, refl, inl}
 use Rattle.std.proofs.lemmas.Result.{err_from_is_err_and}
-use Rattle.pdb_commands.proofs.MergeLaws.{merge_inside}
+use Rattle.pdb_commands.proofs.MergeLaws.{merge_inside, write_inside}
 use Rattle.pdb_commands.proofs.merge.run_merge.Goals as goal
 
 pub returns-in_err-summary-clause-any_order : goal.returns-in_err-summary-clause-any_order
-returns-in_err-summary-clause-any_order g c =
+returns-in_err-summary-clause-any_order g c = λ given gives.
     let p = err_from_is_err_and c.from_residual.result c.from_residual.ensures.1 in
     rw p.1 (λ inner is others same can.
     let inside = merge_inside c.in_err-summary.field-0.0 inner (sym p.2 ∙ is) in
-    c.in_err-summary.ensures.any_order inner inside.0 inside.1 others same can)
+    c.in_err-summary.ensures.any_order given gives inner inside.0 inside.1 others same can)
+
+pub returns-in_err-summary-clause-reads : goal.returns-in_err-summary-clause-reads
+returns-in_err-summary-clause-reads g c =
+    let p = err_from_is_err_and c.from_residual.result c.from_residual.ensures.1 in
+    rw p.1 (λ inner is.
+    let inside = merge_inside c.in_err-summary.field-0.0 inner (sym p.2 ∙ is) in
+    c.in_err-summary.ensures.reads inner inside.0)
+
+pub returns-in_err-summary-clause-write : goal.returns-in_err-summary-clause-write
+returns-in_err-summary-clause-write g c = λ given gives wrote.
+    let p = err_from_is_err_and c.from_residual.result c.from_residual.ensures.1 in
+    let did = c.in_err-summary.ensures.write given gives (write_inside c.in_err-summary.field-0.0 c.from_residual.result p.0 p.1 p.2 wrote) in
+    inl (did.0, did.1, refl)

@@ -1,10 +1,15 @@
-use Rattle.std.proofs.Common.{◌≡◌, take}
-use Rattle.msf_streams.specs.Image.{contents_of}
+use Rattle.std.proofs.Common.{◌≡◌, ℕ, List, take}
+use Rattle.std.specs.Prelude.{IfSome}
+use Rattle.byte_io.specs.Inputs.{Give, CanRead}
+use Rattle.type_trees.specs.Tree.{IsType}
+use Rattle.pdb_merge.specs.Union.{Within}
 use Rattle.pdb_merge.specs.Merging.{HasTaken}
 use Rattle.pdb_merge.proofs.files.add_all.Given as goal
 
-abbrev pub invariant-loop-file : goal.invariant-loop-file
-invariant-loop-file g l = record {
-  taken : HasTaken l.merge (take l.file (contents_of l.files));
+abbrev pub invariant-loop-input : goal.invariant-loop-input
+invariant-loop-input g l = record {
+  taken : (files : List (List ℕ)) → Give (g.I.Inputs.known l.inputs) files → HasTaken l.merge (take l.input files);
+  read : IfSome (g.I.Inputs.known l.inputs) (λ each. CanRead each l.input);
+  within : Within (IsType l.merge.types) l.merge.limit;
   limit : l.merge.limit ≡ l.initial.merge.limit;
 }

@@ -1,10 +1,16 @@
 use Rattle.std.proofs.Common.{◌≡◌, ◌∙◌, ap}
-use Rattle.msf_streams.specs.Image.{contents_of}
+use Rattle.type_trees.specs.Tree.{IsType}
 use Rattle.pdb_merge.specs.Merging.{MergeView}
 use Rattle.pdb_merge.proofs.MergingLaws.{taken_can}
+use Rattle.pdb_merge.proofs.ReadBackLaws.{canon_within}
 use Rattle.pdb_merge.proofs.files.list_all.Goals as goal
 
 pub returns-in-Ok-clause-can : goal.returns-in-Ok-clause-can
-returns-in-Ok-clause-can g c =
+returns-in-Ok-clause-can g c = λ files given.
     let limit : c.add_all.new.merge.limit ≡ c.args.limit = c.in_ok-add_all.ensures.limit ∙ ap (λ (m : MergeView). m.limit) c.new-merge.ensures.value in
-    rw (← limit) (taken_can c.add_all.new.merge (contents_of c.args.files.now) c.in_ok-add_all.ensures.value)
+    rw (← limit) (taken_can c.add_all.new.merge files (c.in_ok-add_all.ensures.value files given))
+
+pub returns-in-Ok-clause-within : goal.returns-in-Ok-clause-within
+returns-in-Ok-clause-within g c =
+    let limit : c.add_all.new.merge.limit ≡ c.args.limit = c.in_ok-add_all.ensures.limit ∙ ap (λ (m : MergeView). m.limit) c.new-merge.ensures.value in
+    rw (← limit) (canon_within (IsType c.add_all.new.merge.types) c.in-Ok.canon c.add_all.new.merge.limit c.in-Ok.ensures.value c.in_ok-add_all.ensures.within)

@@ -1,0 +1,7 @@
+use Rattle.std.proofs.Common.{◌≡◌, ◌+◌, ◌≤◌, ℕ, List, length}
+use Rattle.std.specs.Io.KnownBytes.{Consumes}
+use Rattle.byte_io.proofs.input.skip_all.Given as goal
+
+abbrev pub invariant-loop-turn : goal.invariant-loop-turn
+invariant-loop-turn g l =
+    (bytes : List ℕ) × Consumes (g.R.Source.left l.initial.input) (g.R.Source.left l.input) bytes × (length bytes + l.room ≡ l.limit) × (l.turn ≤ length bytes)

@@ -1,0 +1,15 @@
+-- What reading each of several inputs gives.
+use Rattle.std.specs.Prelude.{ℕ, ◌≡◌, ◌<◌, List, Option, Some, Result, Ok, Err, length, map, slice_get}
+use Rattle.byte_io.specs.declared.inputs.InputFault.{InputFault}
+
+-- every input can be read, and these are the bytes of each
+abbrev pub Give : Option (List (Result (List ℕ) InputFault)) → List (List ℕ) → Type 0
+Give known files = known ≡ Some (map Ok files)
+
+-- the first `end` inputs can be read
+abbrev pub CanRead : List (Result (List ℕ) InputFault) → ℕ → Type 0
+CanRead each end = (i : ℕ) → i < end → (bytes : List ℕ) × (slice_get each i ≡ Some (Ok bytes))
+
+-- this input is the first that cannot be read, and this is why
+abbrev pub IsFirstUnread : List (Result (List ℕ) InputFault) → ℕ → InputFault → Type 0
+IsFirstUnread each input fault = CanRead each input × (slice_get each input ≡ Some (Err fault))

@@ -1,0 +1,71 @@
+//! Several inputs, which are read one after the other.
+
+ghost use Rattle.std.specs.Prelude.{◌≡◌, ◌⊎◌, ◌<◌, ℕ, List, Option, Some, Result, Ok, Err, length, map, slice_get, IfOk, IfErr, IfSome};
+ghost use Rattle.byte_io.specs.declared.input.ReadFault.TheVariants as reads;
+
+use crate::input::ReadFault;
+use std::alloc::Allocator;
+use thiserror::Error;
+
+/// Why one of several inputs was not read.
+#[derive(Clone, Copy, Debug, PartialEq, Eq, Error)]
+pub enum InputFault {
+    /// The input cannot be opened.
+    #[error("40 Open")]
+    Open,
+    /// The input was not read to its end.
+    #[error("{0}")]
+    Read(ReadFault),
+}
+
+/// Several inputs, which are read one at a time.
+///
+/// A slice of slices has the bytes of its inputs in memory. The inputs of a program are files. The
+/// bytes of a file are not known to contracts, which then claim nothing about them.
+pub trait Inputs {
+    ghost use Rattle.byte_io.specs.declared.inputs.InputFault.{InputFault};
+
+    /// What reading each input gives, its bytes or a fault, where this is known.
+    ghost known: { Self → Option (List (Result (List ℕ) InputFault)) };
+
+    /// How many inputs there are.
+    fn count(&self) -> usize
+        ensures { IfSome (known self.now) (λ each. result ≡ length each) };
+
+    /// Reads the input at a position, from 0, to its end. Its bytes are lent, and may be in the
+    /// buffer, whose old bytes are dropped then.
+    fn read<'a, A: Allocator>(
+        &'a self,
+        input: usize,
+        buffer: &'a mut Vec<u8, A>,
+    ) -> Result<&'a [u8], InputFault>
+        requires inside { IfSome (known self.now) (λ each. input < length each) }
+        ensures value { IfSome (known self.now) (λ each. IfOk result (λ bytes. slice_get each input ≡ Some (Ok bytes.now))) }
+        ensures fault { IfSome (known self.now) (λ each. IfErr result (λ fault. (slice_get each input ≡ Some (Err fault)) ⊎ (fault ≡ InputFault.Read reads.Memory))) };
+
+    /// Checks that the input at a position, from 0, can be read to its end. This does not allocate.
+    fn check(&self, input: usize) -> Result<(), InputFault>
+        requires inside { IfSome (known self.now) (λ each. input < length each) }
+        ensures value { IfSome (known self.now) (λ each. IfOk result (λ _. (bytes : List ℕ) × (slice_get each input ≡ Some (Ok bytes)))) }
+        ensures fault { IfSome (known self.now) (λ each. IfErr result (λ fault. slice_get each input ≡ Some (Err fault))) };
+}
+
+impl<'f> Inputs for &'f [&'f [u8]] {
+    ghost known = { λ s. Some (map Ok (map (λ file. file.now) s.now)) };
+
+    fn count(&self) -> usize {
+        self.len()
+    }
+
+    fn read<'a, A: Allocator>(
+        &'a self,
+        input: usize,
+        _buffer: &'a mut Vec<u8, A>,
+    ) -> Result<&'a [u8], InputFault> {
+        Ok(self[input])
+    }
+
+    fn check(&self, _input: usize) -> Result<(), InputFault> {
+        Ok(())
+    }
+}

@@ -1,0 +1,96 @@
+-- Files that are given by inputs, one after the other.
+use Rattle.std.proofs.Common.{◌≡◌, ◌∙◌, ◌<◌, ◌≤◌, ◌+◌, ◌⊎◌, ℕ, List, [], ◌∷◌, ◌++◌, Option, Some, None, length, map, take, get_or, refl, sym, ap, subst, arith, inl, inr}
+use Rattle.std.proofs.lemmas.Bool.{cases_lt}
+use Rattle.std.specs.Prelude.{Result, Ok, Err, IfSome, slice_get, option_map}
+use Rattle.std.proofs.lemmas.Option.{slice_get-map, slice_get_cases, get_or_from_slice_get, slice_get_within}
+use Rattle.std.proofs.lemmas.List.{length-map, take_more, take_all}
+use Rattle.byte_io.specs.Inputs.{Give, CanRead, IsFirstUnread}
+use Rattle.byte_io.specs.declared.inputs.InputFault.{InputFault}
+use Rattle.byte_io.specs.declared.inputs.InputFault.TheVariants as inputs
+use Rattle.byte_io.specs.declared.input.ReadFault.TheVariants as reads
+use Rattle.pdb_merge.specs.Fault.{of_input, of_add}
+use Rattle.pdb_merge.specs.Union.{ReadsFirst}
+use Rattle.pdb_merge.specs.declared.fault.AddFault.{AddFault}
+use Rattle.pdb_merge.specs.declared.fault.AddFault.TheVariants as add
+use Rattle.pdb_merge.specs.declared.fault.MergeFault.{MergeFault}
+use Rattle.pdb_merge.specs.declared.fault.MergeFault.TheVariants as merge
+
+-- ---- files that can all be read
+
+-- what is read of an input that gives its file: an input with bytes has those of the file there
+file_read : (files : List (List ℕ)) (i : ℕ) (entry : Result (List ℕ) InputFault) → slice_get (map Ok files) i ≡ Some entry → (i < length files) × (entry ≡ Ok (get_or files i []))
+file_read files i entry is = elim (slice_get_cases files i).1 [
+  | inl (bytes, inside, there, at) ↦
+      let both : Some entry ≡ Some (Ok bytes) = sym is ∙ slice_get-map Ok files i ∙ ap (option_map Ok) there in
+      let same : get_or files i [] ≡ bytes = get_or_from_slice_get files i bytes [] there in
+      (inside, cc)
+  | inr (past, none) ↦
+      let both : Some entry ≡ None = sym is ∙ slice_get-map Ok files i ∙ ap (option_map Ok) none in
+      absurd cc
+]
+
+-- the input that was read is the file at its position
+pub given_file : (known : Option (List (Result (List ℕ) InputFault))) (files : List (List ℕ)) (i : ℕ) (bytes : List ℕ) → Give known files → IfSome known (λ each. slice_get each i ≡ Some (Ok bytes))
+    → (i < length files) × (get_or files i [] ≡ bytes)
+given_file known files i bytes given is =
+    let there = file_read files i (Ok bytes) (rw given at is) in
+    let same = there.1 in
+    (there.0, cc)
+
+-- this is why an input is not read: its own fault, or it is out of memory
+abbrev pub IsUnread : Option (List (Result (List ℕ) InputFault)) → ℕ → InputFault → Type 0
+IsUnread known i fault = IfSome known (λ each. (slice_get each i ≡ Some (Err fault)) ⊎ (fault ≡ inputs.Read reads.Memory))
+
+-- an input that was only checked has a fault of its own
+pub is_unread : (known : Option (List (Result (List ℕ) InputFault))) (i : ℕ) (fault : InputFault) → IfSome known (λ each. slice_get each i ≡ Some (Err fault)) → IsUnread known i fault
+is_unread None i fault is = tt
+is_unread (Some each) i fault is = inl is
+
+-- inputs that give files are not read only when out of memory
+pub given_unread : {A : Type 0} (known : Option (List (Result (List ℕ) InputFault))) (files : List (List ℕ)) (i : ℕ) (inner : InputFault) (outer : MergeFault A) → Give known files
+    → IsUnread known i inner → outer ≡ of_input i inner → outer ≡ merge.Memory
+given_unread known files i inner outer given is made = elim (rw given at is) [
+  | inl there ↦ let bad = (file_read files i (Err inner) there).1 in absurd cc
+  | inr memory ↦ rw (made, memory) refl
+]
+
+-- ---- reading comes first
+
+-- no input is read at first
+pub none_read : (known : Option (List (Result (List ℕ) InputFault))) → IfSome known (λ each. CanRead each 0)
+none_read None = tt
+none_read (Some each) = λ i below. absurd (omega (arith, below))
+
+-- the bytes of an input that is read
+pub some_bytes : (known : Option (List (Result (List ℕ) InputFault))) (i : ℕ) (bytes : List ℕ) → IfSome known (λ each. slice_get each i ≡ Some (Ok bytes)) → IfSome known (λ each. (b : List ℕ) × (slice_get each i ≡ Some (Ok b)))
+some_bytes None i bytes is = tt
+some_bytes (Some each) i bytes is = (bytes, is)
+
+-- one more input is read
+pub more_read : (known : Option (List (Result (List ℕ) InputFault))) (i : ℕ) → IfSome known (λ each. CanRead each i) → IfSome known (λ each. (bytes : List ℕ) × (slice_get each i ≡ Some (Ok bytes)))
+    → IfSome known (λ each. CanRead each (i + 1))
+more_read None i before now = tt
+more_read (Some each) i before now = λ k below. elim (cases_lt k i) [
+  | inl lt ↦ before k lt
+  | inr le ↦ let same : i ≡ k = omega (arith, below, le) in subst (λ (n : ℕ). (bytes : List ℕ) × (slice_get each n ≡ Some (Ok bytes))) same now
+]
+
+-- the fault of an input that is not read, where those before it are
+pub unread_first : {A : Type 0} (known : Option (List (Result (List ℕ) InputFault))) (i : ℕ) (inner : InputFault) (outer : MergeFault A) → IfSome known (λ each. CanRead each i)
+    → IsUnread known i inner → outer ≡ of_input i inner → IfSome known (λ each. ReadsFirst each outer)
+unread_first None i inner outer before is made = tt
+unread_first (Some each) i inputs.Open outer before (inl is) made = rw made (before, is)
+unread_first (Some each) i (inputs.Read reads.Read) outer before (inl is) made = rw made (before, is)
+unread_first (Some each) i (inputs.Read reads.TooLong) outer before (inl is) made = rw made (before, is)
+unread_first (Some each) i (inputs.Read reads.Memory) outer before is made = rw made tt
+unread_first (Some each) i inputs.Open outer before (inr is) made = absurd cc
+unread_first (Some each) i (inputs.Read reads.Read) outer before (inr is) made = absurd cc
+unread_first (Some each) i (inputs.Read reads.TooLong) outer before (inr is) made = absurd cc
+
+-- the fault of a file, where all are read
+pub refused_last : {A : Type 0} (known : Option (List (Result (List ℕ) InputFault))) (i : ℕ) (inner : AddFault A) (outer : MergeFault A) → IfSome known (λ each. CanRead each (length each)) → outer ≡ of_add i inner
+    → IfSome known (λ each. ReadsFirst each outer)
+refused_last None i inner outer all made = tt
+refused_last (Some each) i (add.Refused fault) outer all made = rw made all
+refused_last (Some each) i (add.TooLarge bytes) outer all made = rw made all
+refused_last (Some each) i add.Memory outer all made = rw made tt
