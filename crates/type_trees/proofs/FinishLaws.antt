@@ -321,12 +321,6 @@ listed_all r levels out f has l = (
 
 -- ---- What the loops need
 
-pub zeros_more : (xs : List ℕ) → ((k : ℕ) → get_or xs k 0 < 2 ^ 31) → (k : ℕ) → get_or (xs ++ 0 ∷ []) k 0 < 2 ^ 31
-zeros_more [] bounded zero = omega arith
-zeros_more [] bounded (suc k) = omega arith
-zeros_more (x ∷ xs) bounded zero = bounded 0
-zeros_more (x ∷ xs) bounded (suc k) = zeros_more xs (λ n. bounded (suc n)) k
-
 pub ready_level : (r : List (List ℕ)) (d : ℕ) (f : ℕ → ℕ) (depths : List ℕ) (rows moved_rows : List (List ℕ)) (ps qs : List ℕ) (n : ℕ) → rows ≡ map (row r f) ps → AtLevel depths d ps → length depths ≡ length r → AreDepths r depths → IsPermutation ps qs
     → (rows ≡ map (row r f) ps → moved_rows ≡ map (row r f) qs) → n ≡ length qs → ((k : ℕ) → k + 1 < n → slice_cmp nat_cmp (get_or moved_rows k []) (get_or moved_rows (k + 1) []) ≢ Greater) → Ready r d f moved_rows qs
 ready_level r d f depths rows moved_rows ps qs n fit level many known moved fits long sorted =

@@ -21,30 +21,29 @@ ghost use Rattle.type_trees.specs.Rows.{row, IsKeyed, AreRows};
 ghost use Rattle.type_trees.specs.Finish.{Listed, AtLevel, Numbered, IsCanonOf};
 
 use crate::depth::depth_of;
+use crate::levels::Levels;
 use crate::renumber::renumber;
 use crate::row::Row;
-use key_chains::KeyChains;
 use packed_texts::PackedTexts;
 use std::alloc::{AllocError, Allocator};
 use std::hash::BuildHasher;
 use text_set::TextSet;
 
-/// The depth of each record of a table, and how many levels there are. The records of each depth
-/// are chained.
+/// The depth of each record of a table, and how many levels there are.
 fn depths_of<S: BuildHasher, A: Allocator + Copy>(
     alloc: A,
     table: &TextSet<S, A>,
-) -> Result<(KeyChains<A>, u32), AllocError>
+) -> Result<(Vec<u32, A>, u32), AllocError>
     requires table { IsTable table.now }
     requires short { length (concat table.now) < 2 ^ 32 }
-    ensures many { IfOk result (λ m. length m.0 ≡ length table.now) }
-    ensures depths { IfOk result (λ m. AreDepths table.now m.0) }
+    ensures many { IfOk result (λ m. length m.0.items ≡ length table.now) }
+    ensures depths { IfOk result (λ m. AreDepths table.now m.0.items) }
     ensures levels { IfOk result (λ m. HasLevels table.now m.1) }
 {
-    let mut depths = KeyChains::new(alloc);
+    let mut depths = Vec::with_capacity(alloc, table.len())?;
     let mut levels = 0;
     for position in 0..table.len() {
-        let depth = depth_of(table.get(position), depths.keys());
+        let depth = depth_of(table.get(position), &depths);
         depths.push(depth)?;
         levels = levels.max(depth + 1);
     }
@@ -75,7 +74,7 @@ fn push_row<A: Allocator>(
 fn collect<S: BuildHasher, A: Allocator + Copy>(
     alloc: A,
     table: &TextSet<S, A>,
-    depths: &KeyChains<A>,
+    depths: &Levels<'_, A>,
     level: u32,
     numbers: &[u32],
 ) -> Result<(PackedTexts<A>, Vec<u32, A>), AllocError>
@@ -161,24 +160,11 @@ fn sorted_pairs<'a, A: Allocator + Copy>(
     Ok(pairs)
 }
 
-/// A vector of `count` zeros.
-#[tactic(auto, using(crate::proofs::FinishLaws::zeros_more))]
-fn zeros<A: Allocator>(alloc: A, count: usize) -> Result<Vec<u32, A>, AllocError>
-    ensures many { IfOk result (λ v. length v.items ≡ count) }
-    ensures bounded { IfOk result (λ v. (k : ℕ) → get_or v.items k 0 < 2 ^ 31) }
-{
-    let mut numbers = Vec::with_capacity(alloc, count)?;
-    for _ in 0..count {
-        numbers.push(0)?;
-    }
-    Ok(numbers)
-}
-
 /// Appends the next level to the list, and numbers its records.
 fn list_level<S: BuildHasher, A: Allocator + Copy>(
     alloc: A,
     table: &TextSet<S, A>,
-    depths: &KeyChains<A>,
+    depths: &Levels<'_, A>,
     level: u32,
     numbers: &mut [u32],
     out: &mut PackedTexts<A>,
@@ -208,7 +194,7 @@ fn list_level<S: BuildHasher, A: Allocator + Copy>(
 fn list_levels<S: BuildHasher, A: Allocator + Copy>(
     alloc: A,
     table: &TextSet<S, A>,
-    depths: &KeyChains<A>,
+    depths: &Levels<'_, A>,
     levels: u32,
     numbers: &mut [u32],
 ) -> Result<PackedTexts<A>, AllocError>
@@ -228,6 +214,27 @@ fn list_levels<S: BuildHasher, A: Allocator + Copy>(
     Ok(out)
 }
 
+/// The canonical list of the types of a table whose depths are known. `levels` is how many levels
+/// there are.
+#[tactic(auto, using(crate::proofs::LinkLaws::zeros_small, crate::proofs::FinishLaws::table_small))]
+fn list_types<S: BuildHasher, A: Allocator + Copy>(
+    alloc: A,
+    table: &TextSet<S, A>,
+    depths: &[u32],
+    levels: u32,
+) -> Result<PackedTexts<A>, AllocError>
+    requires table { IsTable table.now }
+    requires short { length (concat table.now) < 2 ^ 32 }
+    requires many { length depths.now ≡ length table.now }
+    requires depths { AreDepths table.now depths.now }
+    requires levels { HasLevels table.now levels }
+    ensures { IfOk result (λ out. IsCanonOf out (IsType table.now)) }
+{
+    let chained = Levels::of(alloc, depths, levels)?;
+    let mut numbers = vec![in alloc; 0u32; table.len()]?;
+    list_levels(alloc, table, &chained, levels, &mut numbers)
+}
+
 /// The canonical list of the types of a table.
 pub fn canonical_list<S: BuildHasher, A: Allocator + Copy>(
     alloc: A,
@@ -238,6 +245,5 @@ pub fn canonical_list<S: BuildHasher, A: Allocator + Copy>(
     ensures { IfOk result (λ out. IsCanonOf out (IsType table.now)) }
 {
     let (depths, levels) = depths_of(alloc, table)?;
-    let mut numbers = zeros(alloc, table.len())?;
-    list_levels(alloc, table, &depths, levels, &mut numbers)
+    list_types(alloc, table, &depths, levels)
 }

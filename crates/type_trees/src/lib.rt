@@ -42,6 +42,7 @@ mod fault;
 mod finish;
 mod graph;
 pub mod laws;
+mod levels;
 mod order;
 mod renumber;
 mod row;
