@@ -10,16 +10,15 @@ use std::process::Abort;
 use std::test::Fail;
 use text_set::TextSet;
 
-/// Interns a text after the one at `after`. Returns its position, or `None` when out of memory.
+/// Interns a text. Returns its position, or `None` when out of memory.
 fn intern<S: BuildHasher, A: Allocator>(
     rt: &impl Abort,
     texts: &mut TextSet<S, A>,
     text: &[u8],
-    after: usize,
 ) -> Option<usize> {
     assert!(rt; text.len() % 4 == 0 && 4 <= text.len() && text.len() < 1000);
     assert!(rt; texts.bytes().len() < 1000);
-    texts.intern(text, after).ok()
+    texts.intern(text).ok()
 }
 
 /// Interns the texts in turn until one is refused. Returns how many were interned.
@@ -31,7 +30,7 @@ fn intern_each<S: BuildHasher, A: Allocator>(
     ensures { result ≤ length more.now }
 {
     for (interned, text) in more.iter().enumerate() {
-        if intern(rt, texts, text, interned).is_none() {
+        if intern(rt, texts, text).is_none() {
             return interned;
         }
     }
@@ -42,23 +41,15 @@ fn intern_each<S: BuildHasher, A: Allocator>(
 fn each_text_stands_once(rt: HostRuntime) -> Result<(), Fail> {
     let mut texts = TextSet::with_hasher(rt.alloc(), folding());
     assert!(rt; texts.is_empty());
-    // the text, the position of the text before it, and its own position
-    for (text, after, position) in [
-        (b"four".as_slice(), 9usize, 0usize),
-        (b"eight by", 0, 1),
-        (b"more", 1, 2),
-        (b"four", 2, 0),
-        // the guess after "four" is right
-        (b"eight by", 0, 1),
-        // here the guess is wrong: for a text that is there, and for one that isn't
-        (b"more", 0, 2),
-        (b"else", 1, 3),
+    for (text, position) in [
+        (b"four".as_slice(), 0usize),
+        (b"eight by", 1),
+        (b"more", 2),
+        (b"four", 0),
+        (b"eight by", 1),
+        (b"else", 3),
     ] {
-        assert_eq!(rt;
-            intern(&rt, &mut texts, text, after),
-            Some(position),
-            "{position}"
-        );
+        assert_eq!(rt; intern(&rt, &mut texts, text), Some(position), "{position}");
     }
     assert_eq!(rt; texts.len(), 4);
     assert_eq!(rt; texts.bytes(), b"foureight bymoreelse".as_slice());
@@ -66,8 +57,8 @@ fn each_text_stands_once(rt: HostRuntime) -> Result<(), Fail> {
     assert_eq!(rt; texts.get(1), b"eight by".as_slice());
     texts.truncate(2);
     assert_eq!(rt; texts.bytes(), b"foureight by".as_slice());
-    assert_eq!(rt; intern(&rt, &mut texts, b"else", 1), Some(2));
-    assert_eq!(rt; intern(&rt, &mut texts, b"four", 1), Some(0));
+    assert_eq!(rt; intern(&rt, &mut texts, b"else"), Some(2));
+    assert_eq!(rt; intern(&rt, &mut texts, b"four"), Some(0));
     Ok(())
 }
 
@@ -82,11 +73,7 @@ fn texts_with_one_hash(rt: HostRuntime) -> Result<(), Fail> {
         (b"more", 1),
         (b"else", 2),
     ] {
-        assert_eq!(rt;
-            intern(&rt, &mut texts, text, 9),
-            Some(position),
-            "{position}"
-        );
+        assert_eq!(rt; intern(&rt, &mut texts, text), Some(position), "{position}");
     }
     assert_eq!(rt; texts.bytes(), b"fourmoreelse".as_slice());
     Ok(())
@@ -114,7 +101,7 @@ fn a_refused_text_changes_nothing(rt: HostRuntime) -> Result<(), Fail> {
             );
         }
         assert_eq!(rt; texts.bytes(), b"foureight bytwelve bytes".as_slice());
-        assert_eq!(rt; intern(&rt, &mut texts, b"eight by", 2), Some(1));
+        assert_eq!(rt; intern(&rt, &mut texts, b"eight by"), Some(1));
     }
     assert!(rt; 0 < refused && refused < 64);
     Ok(())

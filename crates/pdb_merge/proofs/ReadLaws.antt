@@ -10,10 +10,10 @@ use Rattle.tpi_records.specs.declared.fault.TpiFault.{TpiFault}
 use Rattle.tpi_records.specs.declared.fault.TpiFault.TheVariants as tpi
 use Rattle.tpi_records.proofs.StreamLaws.{one_records, no_fault}
 use Rattle.type_trees.proofs.CycleLaws.{types_sound}
-use Rattle.type_trees.specs.Check.{IsTypeFault}
+use Rattle.type_trees.specs.Check.{AreTypes, IsTypeFault}
 use Rattle.type_trees.specs.declared.fault.TypeFault.{TypeFault}
 use Rattle.type_trees.specs.declared.fault.TypeFault.TheVariants as types
-use Rattle.pdb_merge.specs.Read.{IsAccepted, HasTypeRecords, ListsRecords, HasLongInfo, HasInfoFault, HasStreamFault, HasRecordsFault, HasPdbFault}
+use Rattle.pdb_merge.specs.Read.{IsListed, IsAccepted, HasTypeRecords, ListsRecords, HasLongInfo, HasInfoFault, HasStreamFault, HasRecordsFault, HasPdbFault}
 use Rattle.pdb_merge.specs.Fault.{of_tpi, of_type}
 use Rattle.pdb_merge.specs.declared.fault.PdbFault.{PdbFault}
 use Rattle.pdb_merge.specs.declared.fault.PdbFault.TheVariants as fault
@@ -46,6 +46,10 @@ type_refused file layout records inner outer has info lists made (inl first) = i
 type_refused file layout records inner outer has info lists made (inr want) = inr (made ∙ ap of_type want.0)
 
 -- ---- accepted files
+
+-- a file is accepted with the records that it lists, if they are types
+pub listed_accepted : (file : List ℕ) (records : List (List ℕ)) → IsListed file records → AreTypes records → IsAccepted file records
+listed_accepted file records lists types = record { bytes = lists.bytes; has = lists.has; info = lists.info; types = types }
 
 -- a layout has one list of type records
 one_listed : (file : List ℕ) (layout : LayoutView) (some others : List (List ℕ)) → ListsRecords file layout some → ListsRecords file layout others → some ≡ others

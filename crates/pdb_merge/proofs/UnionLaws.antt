@@ -1,6 +1,6 @@
 -- The types of several files, and how many bytes they have.
-use Rattle.std.proofs.Common.{◌≡◌, ◌⊎◌, ◌↔◌, ℕ, ◌+◌, ◌<◌, ◌≤◌, List, [], ◌∷◌, ◌++◌, zero, suc, subst, length, get_or, refl, sym, ◌∙◌, arith, inl, inr}
-use Rattle.std.specs.Prelude.{◌≢◌, Result, Ok, Err, IfErr}
+use Rattle.std.proofs.Common.{◌≡◌, ◌⊎◌, ◌↔◌, ℕ, ◌+◌, ◌<◌, ◌≤◌, Bool, false, List, [], ◌∷◌, ◌++◌, zero, suc, subst, length, get_or, refl, sym, ◌∙◌, arith, inl, inr}
+use Rattle.std.specs.Prelude.{◌≢◌, IsTrue, Result, Ok, Err, IfErr}
 use Rattle.std.specs.List.{Contains}
 use Rattle.std.proofs.lemmas.Bool.{cases_lt}
 use Rattle.std.proofs.lemmas.List.{get_or_default}
@@ -52,6 +52,11 @@ union_weighs before types l bytes union heavy = (l, record { distinct = union.di
 pub union_within : (before types after : List (List ℕ)) (limit : ℕ) → (l : List Tree) × IsUnion l before types × (weight l ≤ limit) → ((t : Tree) → IsType after t ↔ (IsType before t ⊎ IsType types t)) → Within (IsType after) limit
 union_within before types after limit u same =
     within_same (λ t. IsType before t ⊎ IsType types t) (IsType after) limit (λ t. ((same t).1, (same t).0)) (weight u.0, union_weighs before types u.0 (weight u.0) u.1 refl, u.2)
+
+-- a table that takes no records stays as it was
+pub not_added : (added : Bool) (before after : List (List ℕ)) → IsTrue added ⊎ (after ≡ before) → added ≡ false → after ≡ before
+not_added added before after (inl is) none = absurd cc
+not_added added before after (inr same) none = same
 
 -- a fault of the union is a fault of the file that is added
 pub join_hinders : {A : Type 0} (before types : List (List ℕ)) (limit : ℕ) (file : List ℕ) (inner : JoinFault) (outer : AddFault A) → IsAccepted file types → outer ≡ of_join inner

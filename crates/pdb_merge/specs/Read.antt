@@ -31,6 +31,12 @@ pub record HasTypeRecords (file : List ℕ) (records : List (List ℕ)) : Type 0
   pub has_layout : HasLayout file layout
   pub lists : ListsRecords file layout records
 
+-- the file lists these records: it is made of bytes, it has these type records and a stream 1 of at least 28 bytes
+pub record IsListed (file : List ℕ) (records : List (List ℕ)) : Type 0 where
+  pub bytes : AreBytes file
+  pub has : HasTypeRecords file records
+  pub info : HasLongInfo file has.layout
+
 -- the file is accepted with these records: it is made of bytes, it has these type records and a stream 1 of at least 28 bytes, and the records are types
 pub record IsAccepted (file : List ℕ) (records : List (List ℕ)) : Type 0 where
   pub bytes : AreBytes file

@@ -9,7 +9,7 @@ ghost use Rattle.pdb_merge.specs.Merging.{HasTaken};
 
 use crate::buffer::Buffer;
 use crate::fault::AddFault;
-use crate::read::read_types;
+use crate::read::check_types;
 use std::alloc::{Allocator, Global};
 use std::hash::BuildHasher;
 use std::marker::Model;
@@ -47,7 +47,8 @@ impl<S: BuildHasher, A: Allocator + Copy> Merge<S, A> {
         }
     }
 
-    /// Adds the types of a file to the table.
+    /// Adds the types of a file to the table. Where the records can't be added as they stand, they
+    /// are checked for a fault and for an order first.
     fn add_types(
         &mut self,
         alloc: A,
@@ -60,7 +61,11 @@ impl<S: BuildHasher, A: Allocator + Copy> Merge<S, A> {
         ensures kept { IfErr result (λ _. self.new ≡ self.old) }
         ensures first { IfErr result (Hinders self.old.types self.old.limit file.now) }
     {
-        let types = read_types(alloc, file, buffer)?;
+        let records = buffer.listed(alloc, file)?;
+        if self.table.add_records(alloc, &records, self.limit) {
+            return Ok(());
+        }
+        let types = check_types(alloc, records)?;
         self.table.add(alloc, &types, self.limit)?;
         Ok(())
     }

@@ -3,7 +3,7 @@
 ghost use Rattle.std.specs.Prelude.{◌≡◌, ◌⊎◌, ◌*◌, ◌≤◌, ℕ, List, None, length, OnOk, IfOk, IfErr};
 ghost use Rattle.byte_fields.specs.Check.{first_failing};
 ghost use Rattle.msf_blocks.specs.Layout.{layout_checks};
-ghost use Rattle.pdb_merge.specs.Read.{IsAccepted, HasPdbFault, HasTypeRecords, ListsRecords, HasRecordsFault, HasStreamFault, HasLongInfo, HasInfoFault};
+ghost use Rattle.pdb_merge.specs.Read.{IsListed, IsAccepted, HasPdbFault, HasTypeRecords, ListsRecords, HasRecordsFault, HasStreamFault, HasLongInfo, HasInfoFault};
 
 use crate::buffer::Buffer;
 use crate::fault::PdbFault;
@@ -66,9 +66,14 @@ impl<A: Allocator + Copy> Buffer<A> {
         self.stream_records(alloc, file, &layout)
     }
 
-    /// Drops the bytes of the buffer, and lends the types of a file.
-    fn types<'a>(&'a mut self, alloc: A, file: &'a [u8]) -> Result<Types<'a, A>, PdbFault<A>>
-        ensures value { IfOk result (IsAccepted file.now) }
+    /// Drops the bytes of the buffer, and lends the records of a file whose stream 1 has a header.
+    /// They are not checked yet.
+    pub(crate) fn listed<'a>(
+        &'a mut self,
+        alloc: A,
+        file: &'a [u8],
+    ) -> Result<Records<'a, A>, PdbFault<A>>
+        ensures value { IfOk result (IsListed file.now) }
         ensures first { IfErr result (λ fault. HasPdbFault file.now fault ⊎ (fault ≡ PdbFault.Memory)) }
         ensures memory { IfErr result (λ fault. fault ≡ PdbFault.Memory → first_failing (layout_checks file.now) ≡ None) }
     {
@@ -76,8 +81,19 @@ impl<A: Allocator + Copy> Buffer<A> {
         let layout = Layout::read(alloc, file)?;
         read_info(file, &layout)?;
         let records = self.stream_records(alloc, file, &layout)?;
-        Ok(Types::check(alloc, records)?)
+        Ok(records)
     }
+}
+
+/// Checks the records that a file lists.
+pub(crate) fn check_types<'a, A: Allocator + Copy>(
+    alloc: A,
+    records: Records<'a, A>,
+) -> Result<Types<'a, A>, PdbFault<A>>
+    ensures value { (file : List ℕ) → IsListed file records.entry → IfOk result (IsAccepted file) }
+    ensures first { (file : List ℕ) → IsListed file records.entry → IfErr result (λ fault. HasPdbFault file fault ⊎ (fault ≡ PdbFault.Memory)) }
+{
+    Ok(Types::check(alloc, records)?)
 }
 
 /// Reads the type records of a file: those of its stream 2. They are lent from the file where the
@@ -125,5 +141,6 @@ pub fn read_types<'a, A: Allocator + Copy>(
     // Out of memory comes only where the container has no fault.
     ensures memory { IfErr result (λ fault. fault ≡ PdbFault.Memory → first_failing (layout_checks file.now) ≡ None) }
 {
-    buffer.types(alloc, file)
+    let records = buffer.listed(alloc, file)?;
+    check_types(alloc, records)
 }

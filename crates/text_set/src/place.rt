@@ -13,7 +13,6 @@ use std::alloc::{AllocError, Allocator};
 fn append<A: Allocator>(
     texts: &mut PackedTexts<A>,
     hashes: &mut KeyChains<A>,
-    guesses: &mut Vec<u32, A>,
     text: &[u8],
     hash: u32,
 ) -> Result<usize, AllocError>
@@ -28,8 +27,6 @@ fn append<A: Allocator>(
     ensures hashes_kept { IfErr result (λ _. hashes.new ≡ hashes.old) }
 {
     let position = texts.len();
-    // There may be more guesses than texts, and they may have any value: no guess is trusted.
-    guesses.resize(position + 1, 0)?;
     hashes.push(hash)?;
     let pushed = texts.push(text);
     if pushed.is_err() {
@@ -43,7 +40,6 @@ fn append<A: Allocator>(
 pub(crate) fn place<A: Allocator>(
     texts: &mut PackedTexts<A>,
     hashes: &mut KeyChains<A>,
-    guesses: &mut Vec<u32, A>,
     text: &[u8],
     hash: u32,
 ) -> Result<usize, AllocError>
@@ -61,5 +57,5 @@ pub(crate) fn place<A: Allocator>(
     if let Some(position) = find(texts, hashes, text, hash) {
         return Ok(position);
     }
-    append(texts, hashes, guesses, text, hash)
+    append(texts, hashes, text, hash)
 }

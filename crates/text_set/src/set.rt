@@ -20,8 +20,6 @@ pub struct TextSet<S: BuildHasher, A: Allocator = Global> {
     texts: PackedTexts<A>,
     // the hash of each text
     hashes: KeyChains<A>,
-    // for each text, a guess of the position of the next one: the one that came next the last time
-    guesses: Vec<u32, A>,
     hasher: S,
 }
 
@@ -36,15 +34,6 @@ impl<S: BuildHasher, A: Allocator> Model for TextSet<S, A> {
     ghost invariant = { λ t. AreDistinct t.texts × (t.hashes ≡ map (λ x. S.Hasher.finish (S.Hasher.write (S.build_hasher t.hasher) x) / 2 ^ 32) t.texts) };
 }
 
-/// Notes that the text at `position` came next after the one at `after`.
-fn note<A: Allocator>(guesses: &mut Vec<u32, A>, after: usize, position: usize)
-    requires { position < 2 ^ 32 }
-{
-    if let Some(guess) = guesses.get_mut(after) {
-        *guess = position as u32;
-    }
-}
-
 impl<S: BuildHasher, A: Allocator + Copy> TextSet<S, A> {
     /// An empty set. This does not allocate.
     pub fn with_hasher(alloc: A, hasher: S) -> TextSet<S, A>
@@ -53,7 +42,6 @@ impl<S: BuildHasher, A: Allocator + Copy> TextSet<S, A> {
         TextSet {
             texts: PackedTexts::new(alloc),
             hashes: KeyChains::new(alloc),
-            guesses: Vec::new(alloc),
             hasher,
         }
     }
@@ -93,23 +81,11 @@ impl<S: BuildHasher, A: Allocator> TextSet<S, A> {
         self.texts.get(position)
     }
 
-    /// The position of this text, if the guess after `after` is right.
-    fn predicted(&self, after: usize, text: &[u8]) -> Option<usize>
-        ensures { IfSome result (λ k. (k < length self.now) × (get_or self.now k [] ≡ text.now)) }
-    {
-        let position = *self.guesses.get(after)? as usize;
-        if position < self.len() && self.get(position) == text {
-            return Some(position);
-        }
-        None
-    }
-
     /// The position of this text. The text is appended if it isn't there.
     ///
-    /// `after` is the position of the text that the caller met just before. It is only used for a
-    /// guess, so any number will do. If this runs out of memory, the texts stay as they were.
+    /// If this runs out of memory, the texts stay as they were.
     #[tactic(auto, using(crate::proofs::TextSetLaws::same_hashes, crate::proofs::TextSetLaws::few_texts, crate::proofs::TextSetLaws::hashes_each))]
-    pub fn intern(&mut self, text: &[u8], after: usize) -> Result<usize, AllocError>
+    pub fn intern(&mut self, text: &[u8]) -> Result<usize, AllocError>
         requires padded { length text.now % 4 ≡ 0 }
         requires long { 4 ≤ length text.now }
         requires few { length (concat self.old) + length text.now < 2 ^ 33 }
@@ -118,18 +94,8 @@ impl<S: BuildHasher, A: Allocator> TextSet<S, A> {
         ensures err { IfErr result (λ _. self.new ≡ self.old) }
         ensures small { length self.new < 2 ^ 31 }
     {
-        if let Some(position) = self.predicted(after, text) {
-            return Ok(position);
-        }
         let hash = hash_of(&self.hasher, text);
-        let position = place(
-            &mut self.texts,
-            &mut self.hashes,
-            &mut self.guesses,
-            text,
-            hash,
-        )?;
-        note(&mut self.guesses, after, position);
+        let position = place(&mut self.texts, &mut self.hashes, text, hash)?;
         Ok(position)
     }
 
@@ -141,6 +107,5 @@ impl<S: BuildHasher, A: Allocator> TextSet<S, A> {
     {
         self.texts.truncate(len);
         self.hashes.truncate(len);
-        self.guesses.truncate(len);
     }
 }

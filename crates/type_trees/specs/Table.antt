@@ -42,6 +42,10 @@ renumbered f x = filled x (renumber f (references x))
 abbrev pub AreNumbered : List ℕ → List ℕ → Type 0
 AreNumbered numbers ns = AllByRecursion (λ n. (n < first_index) ⊎ ((n - first_index < length numbers) × (get_or numbers (n - first_index) 0 < 2 ^ 31))) ns
 
+-- each of the numbers is below 2^31
+abbrev pub AreSmall : List ℕ → Type 0
+AreSmall numbers = (k : ℕ) → get_or numbers k 0 < 2 ^ 31
+
 -- P holds of each position that ns name and of each tree at that position
 abbrev pub EachNamed : List (List ℕ) → (ℕ → Tree → Type 0) → List ℕ → Type 0
 EachNamed r P ns = AllByRecursion (λ n. first_index ≤ n → (u : Tree) → Stands r (n - first_index) u → P (n - first_index) u) ns

@@ -1,6 +1,6 @@
 //! Tables: types in the order in which they came, each once.
 
-ghost use Rattle.std.specs.Prelude.{◌≡◌, ◌≢◌, ◌⊎◌, ◌↔◌, ◌+◌, ◌-◌, ◌%◌, ◌^◌, ◌<◌, ◌≤◌, [], ℕ, List, length, get_or, map, take, IfOk, IfErr};
+ghost use Rattle.std.specs.Prelude.{◌≡◌, ◌≢◌, ◌⊎◌, ◌↔◌, ◌+◌, ◌-◌, ◌%◌, ◌^◌, ◌<◌, ◌≤◌, [], ℕ, List, IsTrue, length, get_or, map, take, IfOk, IfErr};
 ghost use Rattle.std.specs.List.{AllByRecursion, concat};
 ghost use Rattle.tpi_records.specs.Records.{IsRecord};
 ghost use Rattle.cv_leaves.specs.Place.{IsChecked};
@@ -11,51 +11,81 @@ ghost use Rattle.type_trees.specs.Canon.{weight};
 ghost use Rattle.byte_fields.specs.Bytes.{AreBytes};
 ghost use Rattle.type_trees.specs.Table.{IsTable, IsUnion, AreNumbered, renumbered};
 ghost use Rattle.type_trees.specs.Merge.{Adds};
+ghost use Rattle.type_trees.specs.Check.{AreTypes};
 ghost use Rattle.type_trees.specs.Finish.{IsCanon, IsCanonOf};
 
 use crate::canon::Canon;
 use crate::fault::JoinFault;
 use crate::finish::canonical_list;
+use crate::guess::is_at;
 use crate::order::record_at;
+use crate::ordered::add_ordered;
 use crate::renumber::renumber;
 use crate::types::Types;
 use std::alloc::{AllocError, Allocator, Global};
 use std::hash::BuildHasher;
 use std::marker::Model;
 use text_set::TextSet;
+use tpi_records::Records;
 
 /// Each number of a `&[u8]` is a byte. This function does nothing: its contract is the fact.
 fn are_bytes(text: &[u8])
     ensures { AreBytes text.now }
 {}
 
-/// Puts a record into the set, and returns its position there.
+/// Puts a record into the set where it isn't there yet, and returns its position there.
 ///
-/// `positions` has the position in the set of each record that it names. `last` is the position of
-/// the record that was put there before it.
+/// `numbers` has the position in the set of each record that it names.
 #[tactic(auto, using(crate::proofs::AddLaws::padded_record, crate::proofs::AddLaws::long_record, crate::proofs::AddLaws::renumbered_long))]
-fn add_record<S: BuildHasher, A: Allocator>(
+pub(crate) fn add_new<S: BuildHasher, A: Allocator>(
     texts: &mut TextSet<S, A>,
     copy: &mut Vec<u8, A>,
     bytes: &[u8],
-    positions: &[u32],
-    last: usize,
+    numbers: &[u32],
 ) -> Result<usize, AllocError>
     requires framed { IsRecord bytes.now }
     requires checked { IsChecked bytes.now }
-    requires named { AreNumbered positions.now (references bytes.now) }
+    requires named { AreNumbered numbers.now (references bytes.now) }
     requires few { length (concat texts.old) + length bytes.now < 2 ^ 33 }
-    ensures at { IfOk result (λ k. (k < length texts.new) × (get_or texts.new k [] ≡ renumbered (λ p. get_or positions.now p 0) bytes.now)) }
-    ensures holds { IfOk result (λ _. Holds texts.old texts.new (renumbered (λ p. get_or positions.now p 0) bytes.now)) }
-    ensures bytes { IfOk result (λ _. AreBytes (renumbered (λ p. get_or positions.now p 0) bytes.now)) }
+    ensures at { IfOk result (λ k. (k < length texts.new) × (get_or texts.new k [] ≡ renumbered (λ p. get_or numbers.now p 0) bytes.now)) }
+    ensures holds { IfOk result (λ _. Holds texts.old texts.new (renumbered (λ p. get_or numbers.now p 0) bytes.now)) }
+    ensures bytes { IfOk result (λ _. AreBytes (renumbered (λ p. get_or numbers.now p 0) bytes.now)) }
     ensures small { IfOk result (λ _. length texts.new < 2 ^ 31) }
     ensures err { IfErr result (λ _. texts.new ≡ texts.old) }
 {
     copy.clear();
     copy.extend_from_slice(bytes)?;
-    renumber(bytes, positions, copy);
+    renumber(bytes, numbers, copy);
     are_bytes(copy);
-    texts.intern(copy, last)
+    texts.intern(copy)
+}
+
+/// Puts a record into the set where it isn't there yet, and returns its position there.
+///
+/// `numbers` has the position in the set of each record that it names. `guess` is the position
+/// where the record is looked for first.
+fn add_record<S: BuildHasher, A: Allocator>(
+    texts: &mut TextSet<S, A>,
+    copy: &mut Vec<u8, A>,
+    bytes: &[u8],
+    numbers: &[u32],
+    guess: usize,
+) -> Result<usize, AllocError>
+    requires table { IsTable texts.old }
+    requires framed { IsRecord bytes.now }
+    requires checked { IsChecked bytes.now }
+    requires named { AreNumbered numbers.now (references bytes.now) }
+    requires few { length (concat texts.old) + length bytes.now < 2 ^ 33 }
+    ensures at { IfOk result (λ k. (k < length texts.new) × (get_or texts.new k [] ≡ renumbered (λ p. get_or numbers.now p 0) bytes.now)) }
+    ensures holds { IfOk result (λ _. Holds texts.old texts.new (renumbered (λ p. get_or numbers.now p 0) bytes.now)) }
+    ensures bytes { IfOk result (λ _. AreBytes (renumbered (λ p. get_or numbers.now p 0) bytes.now)) }
+    ensures small { IfOk result (λ k. k < 2 ^ 31) }
+    ensures err { IfErr result (λ _. texts.new ≡ texts.old) }
+{
+    if is_at(texts, guess, bytes, numbers) {
+        return Ok(guess);
+    }
+    add_new(texts, copy, bytes, numbers)
 }
 
 /// Puts all types into the set. If this runs out of memory, some of them stay there.
@@ -71,12 +101,13 @@ fn add_all<S: BuildHasher, A: Allocator + Copy>(
 {
     let mut positions = vec![in alloc; 0u32; types.len()]?;
     let mut copy = Vec::new(alloc);
-    let mut last = 0;
+    let mut guess = 0;
     let mut records = types.records().cursor();
     for position in types.in_order() {
         let bytes = record_at(&mut records, position);
-        last = add_record(texts, &mut copy, bytes, &positions, last)?;
-        positions[position] = last as u32;
+        let found = add_record(texts, &mut copy, bytes, &positions, guess)?;
+        positions[position] = found as u32;
+        guess = found + 1;
     }
     Ok(())
 }
@@ -145,6 +176,30 @@ impl<S: BuildHasher, A: Allocator + Copy> Table<S, A> {
         Ok(())
     }
 
+    /// Adds the types of records, if each record names only earlier ones. Returns whether they were
+    /// added.
+    ///
+    /// The records are checked on the way, and one that is in the table already is only compared.
+    /// They are not added where a check fails, where a record names itself or a later one, where the
+    /// records of the union have more than `limit` bytes together, or out of memory. The table then
+    /// holds the types that it held before, and [`Types::check`] and [`Table::add`] tell the fault.
+    pub fn add_records(&mut self, alloc: A, records: &Records<'_, A>, limit: u32) -> bool
+        ensures types { IsTrue result → AreTypes records.now }
+        ensures value { IsTrue result → (t : Tree) → IsType self.new t ↔ (IsType self.old t ⊎ IsType records.now t) }
+        ensures within { IsTrue result → (l : List Tree) × IsUnion l self.old records.now × (weight l ≤ limit) }
+        ensures bytes { IsTrue result → length (concat self.new) ≤ limit }
+        ensures kept { IsTrue result ⊎ (self.new ≡ self.old) }
+    {
+        let held = self.texts.len();
+        if let Some(()) = add_ordered(alloc, &mut self.texts, records) {
+            if self.texts.bytes().len() as u64 <= u64::from(limit) {
+                return true;
+            }
+        }
+        self.texts.truncate(held);
+        false
+    }
+
     /// The table of the types of a canonical list, in the order of the list.
     #[tactic(auto, using(crate::proofs::CanonTableLaws::canon_short))]
     pub(crate) fn from_canon(
@@ -157,9 +212,8 @@ impl<S: BuildHasher, A: Allocator + Copy> Table<S, A> {
         ensures { IfOk result (λ table. table ≡ canon.now) }
     {
         let mut texts = TextSet::with_hasher(alloc, hasher);
-        let mut last = 0;
         for position in 0..canon.len() {
-            last = texts.intern(canon.texts.get(position), last)?;
+            texts.intern(canon.texts.get(position))?;
         }
         Ok(Table { texts })
     }

@@ -201,6 +201,30 @@ fn add_beside<A: Allocator + Copy>(
     Ok((answer, after, copied(alloc, &table.finish(heap)?)?))
 }
 
+/// Adds the records of a second stream, as they stand, to the types of a first one, while some bytes
+/// of the heap are taken. Where they are not added, the answer is out of memory.
+fn add_records_beside<A: Allocator + Copy>(
+    heap: A,
+    taken: usize,
+    alloc: Global,
+    first: &[u8],
+    second: &[u8],
+) -> Result<Answer, Fail> {
+    let mut table = Table::with_hasher(heap, folding());
+    table.add(heap, &types_of(heap, first)?, LIMIT)?;
+    let records = Records::read(heap, second)?;
+    let filler: Result<Vec<u8, A>, AllocError> = Vec::with_capacity(heap, taken);
+    let answer = if table.add_records(heap, &records, LIMIT) {
+        Ok(())
+    } else {
+        Err(JoinFault::Memory)
+    };
+    drop(filler);
+    let after = copied(alloc, &table.finish(heap)?)?;
+    table.add(heap, &types_of(heap, second)?, LIMIT)?;
+    Ok((answer, after, copied(alloc, &table.finish(heap)?)?))
+}
+
 /// Joins a list with the types of a second stream at this limit, while some bytes of the heap are
 /// taken.
 fn join_beside<A: Allocator + Copy>(
@@ -251,6 +275,7 @@ fn finish_beside<A: Allocator + Copy>(
 #[derive(Clone, Copy)]
 enum Call {
     Add,
+    AddRecords,
     Join,
     Finish,
 }
@@ -266,6 +291,7 @@ fn beside(
     let heap = LocalHeap::new(alloc, HEAP)?;
     match call {
         Call::Add => add_beside(&heap, taken, LIMIT, alloc, first, second),
+        Call::AddRecords => add_records_beside(&heap, taken, alloc, first, second),
         Call::Join => join_beside(&heap, taken, LIMIT, alloc, first, second),
         Call::Finish => finish_beside(&heap, taken, alloc, first, second),
     }
@@ -293,6 +319,7 @@ fn memory_is_refused(rt: HostRuntime) -> Result<(), Fail> {
     for (call, second) in [
         (Call::Add, &lower),
         (Call::Add, &later),
+        (Call::AddRecords, &lower),
         (Call::Join, &lower),
         (Call::Join, &later),
         (Call::Finish, &lower),

@@ -28,11 +28,11 @@ add_record-requires-clause-few g c =
 pub loop-position-preserved : goal.loop-position-preserved
 loop-position-preserved g c =
     let so_far = c.loop-position in
-    let ok = c.in_ok-last.ensures in
+    let ok = c.in_ok-found.ensures in
     let read : c.record_at-bytes.result.now ≡ get_or c.args.types.now c.in-Some.position [] = c.record_at-bytes.ensures.value ∙ ap (λ (rs : List (List ℕ)). get_or rs c.in-Some.position []) so_far.invariant.records in
     record {
       records = c.record_at-bytes.ensures.same ∙ so_far.invariant.records;
-      adding = adding_more c.args.types.now so_far.position-iterator c.next.new.self c.args.texts.now so_far.texts c.add_record.new.texts so_far.positions.items c.in-Some.position c.in_ok-last.last c.len.ensures.types so_far.invariant.adding c.in-Some.ensures.steps
+      adding = adding_more c.args.types.now so_far.position-iterator c.next.new.self c.args.texts.now so_far.texts c.add_record.new.texts so_far.positions.items c.in-Some.position c.in_ok-found.found c.len.ensures.types so_far.invariant.adding c.in-Some.ensures.steps
           (rw (c.deref.ensures.value, read) at ok.bytes) (rw (c.deref.ensures.value, read) at ok.holds) ok.at.0 (rw (c.deref.ensures.value, read) at ok.at.1);
     }
 

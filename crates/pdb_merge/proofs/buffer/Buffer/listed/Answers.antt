@@ -1,8 +1,8 @@
 use Rattle.std.proofs.Common.{arith, inl}
 use Rattle.std.proofs.lemmas.Result.{err_from_is_err_and}
-use Rattle.pdb_merge.proofs.ReadLaws.{info_refused, type_refused}
+use Rattle.pdb_merge.proofs.ReadLaws.{info_refused}
 use Rattle.pdb_merge.proofs.MemoryLaws.{layout_want, layout_sound}
-use Rattle.pdb_merge.proofs.buffer.Buffer.types.Goals as goal
+use Rattle.pdb_merge.proofs.buffer.Buffer.listed.Goals as goal
 
 pub returns-in_err-layout-clause-memory : goal.returns-in_err-layout-clause-memory
 returns-in_err-layout-clause-memory g c =
@@ -20,21 +20,10 @@ returns-in_err-read_info-clause-memory g c = layout_sound c.args.file.now c.in_o
 pub returns-in_err-records-clause-memory : goal.returns-in_err-records-clause-memory
 returns-in_err-records-clause-memory g c = layout_sound c.args.file.now c.in_ok-layout.layout c.from_residual-in_err-records.result (λ i. omega (arith, c.type_inv.file i)) c.in_ok-layout.ensures.value
 
-pub returns-in_err-check-clause-first : goal.returns-in_err-check-clause-first
-returns-in_err-check-clause-first g c =
-    let p = err_from_is_err_and c.from_residual-in_err-check.result c.from_residual-in_err-check.ensures.1 in
-    rw p.1
-    (type_refused c.args.file.now c.in_ok-layout.layout c.in_ok-records.records c.in_err-check.field-0.0 p.0 c.in_ok-layout.ensures.value c.in_ok-read_info.ensures.value c.in_ok-records.ensures.value p.2 c.in_err-check.ensures.first)
-
-pub returns-in_err-check-clause-memory : goal.returns-in_err-check-clause-memory
-returns-in_err-check-clause-memory g c = layout_sound c.args.file.now c.in_ok-layout.layout c.from_residual-in_err-check.result (λ i. omega (arith, c.type_inv.file i)) c.in_ok-layout.ensures.value
-
 pub returns-clause-value : goal.returns-clause-value
 returns-clause-value g c =
-    rw c.in_ok-check.ensures.value.0
-    (record {
+    record {
       bytes = λ i. omega (arith, c.type_inv.file i);
       has = record { layout = c.in_ok-layout.layout; has_layout = c.in_ok-layout.ensures.value; lists = c.in_ok-records.ensures.value };
       info = c.in_ok-read_info.ensures.value;
-      types = c.in_ok-check.ensures.value.1;
-    })
+    }
