@@ -2,6 +2,8 @@
 import struct
 
 BLOCK = 4096
+# Stream 1: version, signature, age, GUID, and a map of no named streams.
+INFO = struct.pack('<3I16s5I', 20000404, 0, 1, bytes(16), 0, 0, 1, 0, 0)
 
 
 def records(size):
@@ -29,6 +31,35 @@ def record(kind, body):
     """A record of this kind, whose body is padded."""
     body = padded(body)
     return struct.pack('<HH', 2 + len(body), kind) + body
+
+
+def structure(name, fields=0):
+    """A structure of this name, with one field or none."""
+    return record(0x1505, struct.pack('<HHIIIH', fields > 0, 0, fields, 0, 0, 8) + name + b'\0')
+
+
+def classes(names, first):
+    """Record bytes of classes with these names, four records each: the fields, the structure, a
+    pointer to it and a list of arguments. The first record has the type index `first`."""
+    parts = []
+    for number, name in enumerate(names):
+        at = first + 4 * number
+        parts += [
+            record(0x1203, struct.pack('<HHIH', 0x150D, 3, 0x74, 0) + b'field_of_' + name + b'\0'),
+            structure(name, at),
+            record(0x1002, struct.pack('<II', at + 1, 0x1000C)),
+            record(0x1201, struct.pack('<III', 2, at + 2, 0x74)),
+        ]
+    return b''.join(parts)
+
+
+def chain(root, count, first=0x1000, forward=False):
+    """Record bytes of so many records: this one, and pointers that each name the record before.
+    If it goes forward, each pointer names the next record, and `root` comes last. The first record
+    has the type index `first`."""
+    first += forward
+    pointers = b''.join(struct.pack('<HHII', 10, 0x1002, first + i, 0x1000C) for i in range(count - 1))
+    return pointers + root if forward else root + pointers
 
 
 def tpi(body, count):
@@ -61,3 +92,9 @@ def pdb(stream, order=lambda blocks: blocks, info=b'', block=BLOCK):
             part = text[k * block:(k + 1) * block]
             file[n * block:n * block + len(part)] = part
     return bytes(file)
+
+
+def write_pdb(path, body, count, block=BLOCK):
+    """Writes a file with so many records."""
+    with open(path, 'wb') as file:
+        file.write(pdb(tpi(body, count), info=INFO, block=block))

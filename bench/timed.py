@@ -1,5 +1,5 @@
 """What the benchmarks share: compiling a program in plain Rust, and timing programs."""
-import collections, contextlib, os, shutil, subprocess, sys, time
+import collections, contextlib, multiprocessing, os, shutil, subprocess, sys, tempfile, time
 
 # Seconds, processor seconds, the greatest resident memory in bytes, and the text that was printed.
 Run = collections.namedtuple('Run', 'seconds processor memory text')
@@ -13,6 +13,30 @@ def compiled(folder, source):
     path = os.path.join(os.path.dirname(os.path.abspath(__file__)), source)
     subprocess.run(['rustc', '--edition', '2021', '-O', '-o', program, path], check=True)
     return program
+
+
+def aside(function, *values):
+    """Calls a function in a process of its own: what this process once held would count as the
+    greatest memory of each program that it runs."""
+    process = multiprocessing.get_context('fork').Process(target=function, args=values)
+    process.start()
+    process.join()
+    if process.exitcode:
+        sys.exit(f'{function.__name__}: status {process.exitcode}')
+
+
+def unpacked(source, folder):
+    """The PDB files of a folder, or of an archive, which is unpacked somewhere in `folder`."""
+    if not os.path.isdir(source):
+        archive, source = source, tempfile.mkdtemp(dir=folder)
+        aside(shutil.unpack_archive, archive, source)
+    found = (os.path.join(place, name) for place, _, names in os.walk(source) for name in names)
+    return sorted(path for path in found if path.lower().endswith('.pdb'))
+
+
+def merging(pdbmerge, out, files):
+    """The words that make pdbmerge merge these files."""
+    return [pdbmerge, 'merge', '--guid', '00112233-4455-6677-8899-aabbccddeeff', '--age', '1', out, *files]
 
 
 def run(words, out=None, status=0):
