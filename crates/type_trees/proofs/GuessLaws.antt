@@ -1,16 +1,14 @@
 -- A record that agrees with another one outside the places of that one.
-use Rattle.std.proofs.Common.{◌≡◌, ◌≤◌, ◌<◌, ◌⊎◌, ◌+◌, ◌-◌, ◌^◌, ℕ, List, [], ◌∷◌, ◌++◌, length, map, take, drop, get_or, refl, sym, ap, ◌∙◌, arith}
-use Rattle.std.proofs.lemmas.Bool.{cases_lt, lt-ltb, le-ltb}
+use Rattle.std.proofs.Common.{◌≡◌, ◌≤◌, ◌<◌, ◌+◌, ◌-◌, ℕ, List, [], ◌∷◌, ◌++◌, length, map, take, drop, get_or, refl, sym, ap, ◌∙◌, arith}
 use Rattle.std.proofs.lemmas.List.{take-append-drop, drop-drop, drop_at, length-take, take_rest}
 use Rattle.std.proofs.Math.Seq.{take-add, take-append-add, take-append_seam}
-use Rattle.std.specs.List.{AllByRecursion}
 use Rattle.byte_fields.specs.Bytes.{AreBytes}
 use Rattle.byte_fields.proofs.NumberLaws.{length-four_bytes}
 use Rattle.byte_fields.specs.Number.{four_bytes}
 use Rattle.cv_leaves.specs.Blank.{put_four, fill}
-use Rattle.cv_leaves.specs.Checks.{places_of, body_of}
-use Rattle.cv_leaves.specs.Place.{HasPlaces, IsChecked, Apart}
-use Rattle.cv_leaves.specs.References.{reference_at, references, blanked, filled}
+use Rattle.cv_leaves.specs.Checks.{places_of}
+use Rattle.cv_leaves.specs.Place.{IsChecked, Apart}
+use Rattle.cv_leaves.specs.References.{reference_at, references, filled}
 use Rattle.cv_leaves.proofs.PutLaws.{number_in_body, put_len, put_own}
 use Rattle.cv_leaves.proofs.PlaceLaws.{ends_behind}
 use Rattle.cv_leaves.proofs.FillLaws.{fits}
@@ -19,16 +17,6 @@ use Rattle.tpi_records.specs.Header.{first_index}
 use Rattle.type_trees.specs.Check.{NamesThere}
 use Rattle.tpi_records.specs.Records.{IsRecord}
 use Rattle.type_trees.specs.Table.{IsTable, renumber, renumber_one, renumbered}
-
--- a simple number stays
-pub simple_number : (f : ℕ → ℕ) (n : ℕ) → n < first_index → n ≡ renumber_one f n
-unfolding renumber_one
-simple_number f n small = rw (lt-ltb n first_index small) refl
-
--- the number of a position becomes that of its number
-pub given_number : (f : ℕ → ℕ) (n : ℕ) → first_index ≤ n → first_index + f (n - first_index) ≡ renumber_one f n
-unfolding renumber_one
-given_number f n large = rw (le-ltb n first_index large) refl
 
 -- ---- agreement outside the places
 

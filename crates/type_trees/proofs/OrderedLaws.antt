@@ -1,22 +1,20 @@
 -- Records that are put into a table one after the other, each of which names only earlier ones.
-use Rattle.std.proofs.Common.{◌≡◌, ◌≤◌, ◌<◌, ◌⊎◌, ◌↔◌, ◌+◌, ◌-◌, ◌^◌, ℕ, zero, suc, List, [], ◌∷◌, ◌++◌, length, map, take, drop, get_or, refl, sym, ap, ◌∙◌, subst, arith, inl, inr, length-append}
+use Rattle.std.proofs.Common.{◌≡◌, ◌<◌, ◌⊎◌, ◌↔◌, ◌+◌, ◌^◌, ℕ, List, [], ◌∷◌, ◌++◌, length, take, drop, get_or, sym, ap, ◌∙◌, subst, arith, inl, inr, length-append}
 use Rattle.std.proofs.lemmas.Bool.{cases_lt}
 use Rattle.std.proofs.lemmas.List.{take-append-drop, drop_more, length-take-le, get_or-take, get_or_append_left}
 use Rattle.std.proofs.Math.Seq.{get_or-append_seam}
 use Rattle.std.specs.List.{AllByRecursion, concat}
 use Rattle.byte_fields.specs.Bytes.{AreBytes}
 use Rattle.cv_leaves.specs.Place.{IsChecked}
-use Rattle.cv_leaves.specs.References.{reference_at, references}
-use Rattle.cv_leaves.specs.Checks.{places_of}
+use Rattle.cv_leaves.specs.References.{references}
 use Rattle.tpi_records.specs.Header.{first_index}
 use Rattle.tpi_records.specs.Records.{IsRecord}
 use Rattle.text_set.specs.TextSet.{Holds}
 use Rattle.type_trees.specs.Tree.{Tree, Stands, IsType, IsRanked}
 use Rattle.type_trees.specs.Check.{AreTypes, NamesThere}
 use Rattle.type_trees.specs.Merge.{Adds}
-use Rattle.type_trees.specs.Table.{IsTable, AreNumbered, AreSmall, renumbered}
-use Rattle.type_trees.proofs.TreeLaws.{tree_there, at_position}
-use Rattle.type_trees.proofs.GraphLaws.{concat_push}
+use Rattle.type_trees.specs.Table.{IsTable, renumbered}
+use Rattle.type_trees.proofs.TreeLaws.{tree_there}
 use Rattle.type_trees.proofs.CheckLaws.{by_position, lower_names}
 use Rattle.type_trees.proofs.OrderLaws.{NamesDone}
 use Rattle.type_trees.proofs.TableLaws.{stands_still}
@@ -26,14 +24,6 @@ use Rattle.type_trees.proofs.AddLaws.{adds_more, adds_none, adds_all, renumbered
 names_done : (i : ℕ) (ns : List ℕ) → NamesThere i ns → NamesDone (λ k. k < i) ns
 names_done i [] there = tt
 names_done i (n ∷ ns) there = (elim (cases_lt n first_index) [ inl small ↦ inl small | inr large ↦ inr (omega (arith, large, there.0)) ], names_done i ns there.1)
-
--- what names known positions has numbers
-pub named_numbers : (numbers ns : List ℕ) → AreSmall numbers → NamesThere (length numbers) ns → AreNumbered numbers ns
-named_numbers numbers [] small there = tt
-named_numbers numbers (n ∷ ns) small there = (
-  elim (cases_lt n first_index) [ inl low ↦ inl low | inr large ↦ inr (omega (arith, large, there.0), small (n - first_index)) ],
-  named_numbers numbers ns small there.1,
-)
 
 -- the record at this position has places, and names only earlier records
 pub record IsEarly (records : List (List ℕ)) (k : ℕ) : Type 0 where
@@ -56,7 +46,6 @@ pub record IsTaking (records left before after : List (List ℕ)) (numbers : Lis
   pub within : length numbers + length left ≡ length records
   pub early : (k : ℕ) → k < length numbers → IsEarly records k
   pub adds : Adds records before after (λ p. get_or numbers p 0) (λ k. k < length numbers)
-  pub small : AreSmall numbers
   pub framed : AllByRecursion IsRecord left
   pub few : length (concat after) + length (concat left) < 2 ^ 33
 
@@ -66,7 +55,6 @@ taking_starts records left before numbers all none table short records_short fra
   within = omega (arith, ap length all);
   early = λ k below. absurd (omega (arith, below));
   adds = adds_none records before (λ p. get_or [] p 0) (λ k. k < 0) table (λ k below. omega (arith, below));
-  small = λ k. omega arith;
   framed = framed;
   few = omega (arith, short, records_short, ap (λ (rs : List (List ℕ)). length (concat rs)) all);
 })
@@ -82,18 +70,11 @@ pub taking_few : (records left others before after : List (List ℕ)) (numbers r
 taking_few records left others before after numbers r h split =
     omega (arith, h.few, ap (λ (rs : List (List ℕ)). length (concat rs)) split, length-append r (concat others))
 
--- the numbers with one more that is small are small
-small_more : (numbers : List ℕ) (n : ℕ) → AreSmall numbers → n < 2 ^ 31 → AreSmall (numbers ++ n ∷ [])
-small_more [] n small low zero = low
-small_more [] n small low (suc k) = omega arith
-small_more (m ∷ ms) n small low zero = small 0
-small_more (m ∷ ms) n small low (suc k) = small_more ms n (λ j. small (suc j)) low k
-
 -- one more record is in the table
 pub taking_more : (records left others before after grown : List (List ℕ)) (numbers r : List ℕ) (n : ℕ) → IsTaking records left before after numbers → left ≡ r ∷ others → IsChecked r → NamesThere (length numbers) (references r)
-    → AreBytes (renumbered (λ p. get_or numbers p 0) r) → Holds after grown (renumbered (λ p. get_or numbers p 0) r) → n < length grown → n < 2 ^ 31 → get_or grown n [] ≡ renumbered (λ p. get_or numbers p 0) r
+    → AreBytes (renumbered (λ p. get_or numbers p 0) r) → Holds after grown (renumbered (λ p. get_or numbers p 0) r) → n < length grown → get_or grown n [] ≡ renumbered (λ p. get_or numbers p 0) r
     → IsTaking records others before grown (numbers ++ n ∷ [])
-taking_more records left others before after grown numbers r n h split checked earlier bytes holds inside low at =
+taking_more records left others before after grown numbers r n h split checked earlier bytes holds inside at =
     let i : ℕ = length numbers in
     let f : ℕ → ℕ = λ p. get_or numbers p 0 in
     let g : ℕ → ℕ = λ p. get_or (numbers ++ n ∷ []) p 0 in
@@ -115,7 +96,6 @@ taking_more records left others before after grown numbers r n h split checked e
           (λ k old. get_or_append_left numbers (n ∷ []) 0 k old)
           (get_or-append_seam numbers n [] 0)
           (λ k below. elim (cases_lt k i) [ inl old ↦ inl old | inr new ↦ inr (omega (arith, below, new, long)) ]);
-      small = small_more numbers n h.small low;
       framed = framed.1;
       few = omega (arith, few, holds_short after grown (renumbered f r) holds, renumbered_long f r checked);
     }
@@ -135,14 +115,3 @@ pub taken_all : (records left before after : List (List ℕ)) (numbers : List �
 taken_all records left before after numbers h none =
     let all : length numbers ≡ length records = omega (arith, h.within, ap length none) in
     adds_all records before after (λ p. get_or numbers p 0) (λ k. k < length numbers) h.adds (λ k inside. omega (arith, inside, all))
-
--- ---- the references of one record
-
--- at the start all references are left
-pub names_left : (many : ℕ) (r places : List ℕ) → places ≡ places_of r → NamesThere many (map (reference_at r) places) → NamesThere many (references r)
-unfolding references
-names_left many r places own there = rw (← own) there
-
--- one reference more names an earlier record
-pub names_more : (many : ℕ) (r left others : List ℕ) (p : ℕ) (P : Type 0) → left ≡ p ∷ others → reference_at r p < first_index + many → (NamesThere many (map (reference_at r) left) → P) → NamesThere many (map (reference_at r) others) → P
-names_more many r left others p P split there so_far rest = so_far (rw split (there, rest))

@@ -1,9 +1,12 @@
 -- Writing other numbers into a record, place by place.
-use Rattle.std.proofs.Common.{◌≡◌, ℕ, ◌+◌, suc, List, [], ◌∷◌, map, refl, sym, ap, ◌∙◌, arith}
+use Rattle.std.proofs.Common.{◌≡◌, ◌≤◌, ◌<◌, ◌+◌, ◌-◌, ℕ, suc, List, [], ◌∷◌, map, refl, sym, ap, ◌∙◌, arith}
+use Rattle.std.proofs.lemmas.Bool.{lt-ltb, le-ltb}
 use Rattle.std.specs.List.{Contains}
 use Rattle.cv_leaves.specs.Blank.{put_four, fill}
 use Rattle.cv_leaves.specs.Checks.{places_of}
 use Rattle.cv_leaves.specs.References.{reference_at, references, filled}
+use Rattle.tpi_records.specs.Header.{first_index}
+use Rattle.type_trees.specs.Check.{NamesThere}
 use Rattle.type_trees.specs.Table.{renumber, renumber_one, renumbered, AreNumbered}
 
 -- at the start all places are left to write
@@ -37,3 +40,24 @@ first_in p left others split = rw split (0, omega arith, refl)
 
 pub others_in : (p place : ℕ) (left others : List ℕ) → left ≡ place ∷ others → Contains others p → Contains left p
 others_in p place left others split h = rw split (suc h.0, omega (arith, h.1), h.2)
+
+-- ---- one reference
+
+-- a simple number stays
+pub simple_number : (f : ℕ → ℕ) (n : ℕ) → n < first_index → n ≡ renumber_one f n
+unfolding renumber_one
+simple_number f n small = rw (lt-ltb n first_index small) refl
+
+-- the number of a position becomes that of its number
+pub given_number : (f : ℕ → ℕ) (n : ℕ) → first_index ≤ n → first_index + f (n - first_index) ≡ renumber_one f n
+unfolding renumber_one
+given_number f n large = rw (le-ltb n first_index large) refl
+
+-- at the start all references are left
+pub names_left : (many : ℕ) (r places : List ℕ) → places ≡ places_of r → NamesThere many (map (reference_at r) places) → NamesThere many (references r)
+unfolding references
+names_left many r places own there = rw (← own) there
+
+-- one reference more names an earlier record
+pub names_more : (many : ℕ) (r left others : List ℕ) (p : ℕ) (P : Type 0) → left ≡ p ∷ others → reference_at r p < first_index + many → (NamesThere many (map (reference_at r) left) → P) → NamesThere many (map (reference_at r) others) → P
+names_more many r left others p P split there so_far rest = so_far (rw split (there, rest))

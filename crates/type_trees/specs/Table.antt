@@ -38,13 +38,13 @@ renumber f (n ∷ ns) = renumber_one f n ∷ renumber f ns
 unfoldable pub renumbered : (ℕ → ℕ) → List ℕ → List ℕ
 renumbered f x = filled x (renumber f (references x))
 
--- each of ns is simple, or it names a position that has a number
-abbrev pub AreNumbered : List ℕ → List ℕ → Type 0
-AreNumbered numbers ns = AllByRecursion (λ n. (n < first_index) ⊎ ((n - first_index < length numbers) × (get_or numbers (n - first_index) 0 < 2 ^ 31))) ns
+-- n is simple, or it names a position that has a number below 2^31
+abbrev pub IsNumbered : List ℕ → ℕ → Type 0
+IsNumbered numbers n = (n < first_index) ⊎ ((n - first_index < length numbers) × (get_or numbers (n - first_index) 0 < 2 ^ 31))
 
--- each of the numbers is below 2^31
-abbrev pub AreSmall : List ℕ → Type 0
-AreSmall numbers = (k : ℕ) → get_or numbers k 0 < 2 ^ 31
+-- each of ns is simple, or it names a position that has a number below 2^31
+abbrev pub AreNumbered : List ℕ → List ℕ → Type 0
+AreNumbered numbers ns = AllByRecursion (IsNumbered numbers) ns
 
 -- P holds of each position that ns name and of each tree at that position
 abbrev pub EachNamed : List (List ℕ) → (ℕ → Tree → Type 0) → List ℕ → Type 0

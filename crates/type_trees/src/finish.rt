@@ -22,7 +22,7 @@ ghost use Rattle.type_trees.specs.Finish.{Listed, AtLevel, Numbered, IsCanonOf};
 
 use crate::depth::depth_of;
 use crate::levels::Levels;
-use crate::renumber::renumber;
+use crate::renumber::renumber_into;
 use crate::row::Row;
 use packed_texts::PackedTexts;
 use std::alloc::{AllocError, Allocator};
@@ -64,42 +64,61 @@ fn push_row<A: Allocator>(
     requires few { length (concat rows.old) + length bytes.now < 2 ^ 34 }
     ensures ok { IfOk result (λ _. rows.new ≡ rows.old ++ renumbered (λ k. get_or numbers.now k 0) bytes.now ∷ []) }
 {
-    copy.clear();
-    copy.extend_from_slice(bytes)?;
-    renumber(bytes, numbers, copy);
+    renumber_into(copy, bytes, numbers)?;
     rows.push(copy)
 }
 
-/// The rows of a level in any order, and for each the position of its record in the table.
-fn collect<S: BuildHasher, A: Allocator + Copy>(
-    alloc: A,
+/// The rows of a level in any order, and for each the position of its record in the table. One
+/// value serves all levels, so that its memory is used again.
+#[derive(Drop)]
+struct Unsorted<A: Allocator> {
+    rows: PackedTexts<A>,
+    positions: Vec<u32, A>,
+    // in which the next row is made
+    copy: Vec<u8, A>,
+}
+
+impl<A: Allocator + Copy> Unsorted<A> {
+    /// No rows. This does not allocate.
+    fn new(alloc: A) -> Unsorted<A> {
+        Unsorted {
+            rows: PackedTexts::new(alloc),
+            positions: Vec::new(alloc),
+            copy: Vec::new(alloc),
+        }
+    }
+}
+
+/// Collects the rows of a level.
+fn collect<S: BuildHasher, A: Allocator>(
     table: &TextSet<S, A>,
     depths: &Levels<'_, A>,
     level: u32,
     numbers: &[u32],
-) -> Result<(PackedTexts<A>, Vec<u32, A>), AllocError>
+    unsorted: &mut Unsorted<A>,
+) -> Result<(), AllocError>
     requires table { IsTable table.now }
     requires short { length (concat table.now) < 2 ^ 32 }
     requires many { length depths.now ≡ length table.now }
     requires numbered { length numbers.now ≡ length table.now }
     requires bounded { (k : ℕ) → get_or numbers.now k 0 < 2 ^ 31 }
-    ensures rows { IfOk result (λ m. m.0 ≡ map (row table.now (λ k. get_or numbers.now k 0)) m.1.items) }
-    ensures level { IfOk result (λ m. AtLevel depths.now level m.1.items) }
+    ensures rows { IfOk result (λ _. unsorted.new.rows ≡ map (row table.now (λ k. get_or numbers.now k 0)) unsorted.new.positions.items) }
+    ensures level { IfOk result (λ _. AtLevel depths.now level unsorted.new.positions.items) }
 {
-    let mut rows = PackedTexts::new(alloc);
-    let mut positions = Vec::new(alloc);
-    let mut copy = Vec::new(alloc);
+    unsorted.rows.truncate(0);
+    unsorted.positions.clear();
     let mut candidate = depths.newest(level);
     while let Some(position) = candidate {
-        push_row(&mut rows, &mut copy, table.get(position), numbers)?;
-        positions.push(position as u32)?;
+        let bytes = table.get(position);
+        push_row(&mut unsorted.rows, &mut unsorted.copy, bytes, numbers)?;
+        unsorted.positions.push(position as u32)?;
         candidate = depths.older(position);
     }
-    Ok((rows, positions))
+    Ok(())
 }
 
 /// Each row with its key and the position of its record.
-fn paired<'a, A: Allocator + Copy>(
+fn keyed_rows<'a, A: Allocator + Copy>(
     alloc: A,
     rows: &'a PackedTexts<A>,
     positions: &[u32],
@@ -109,11 +128,11 @@ fn paired<'a, A: Allocator + Copy>(
     ensures positions { IfOk result (λ v. map (λ p. p.position) v.items ≡ positions.now) }
     ensures keyed { IfOk result (λ v. All (λ p. IsKeyed p.key p.bytes.now) v.items) }
 {
-    let mut pairs = Vec::with_capacity(alloc, rows.len())?;
+    let mut keyed = Vec::with_capacity(alloc, rows.len())?;
     for k in 0..rows.len() {
-        pairs.push(Row::new(rows.get(k), positions[k]))?;
+        keyed.push(Row::new(rows.get(k), positions[k]))?;
     }
-    Ok(pairs)
+    Ok(keyed)
 }
 
 /// Appends the rows to the list.
@@ -145,7 +164,7 @@ fn number_rows(order: &[Row<'_>], first: usize, numbers: &mut [u32])
 }
 
 /// The rows in the order of their bytes, each with the position of its record.
-fn sorted_pairs<'a, A: Allocator + Copy>(
+fn sorted_rows<'a, A: Allocator + Copy>(
     alloc: A,
     rows: &'a PackedTexts<A>,
     positions: &[u32],
@@ -155,9 +174,9 @@ fn sorted_pairs<'a, A: Allocator + Copy>(
     ensures fit { IfOk result (λ v. (g : ℕ → List ℕ) → rows.now ≡ map g positions.now → map (λ p. p.bytes.now) v.items ≡ map g (map (λ p. p.position) v.items)) }
     ensures sorted { IfOk result (λ v. (k : ℕ) → k + 1 < length v.items → slice_cmp nat_cmp (get_or (map (λ p. p.bytes.now) v.items) k []) (get_or (map (λ p. p.bytes.now) v.items) (k + 1) []) ≢ Greater) }
 {
-    let mut pairs = paired(alloc, rows, positions)?;
-    pairs.sort_unstable();
-    Ok(pairs)
+    let mut keyed = keyed_rows(alloc, rows, positions)?;
+    keyed.sort_unstable();
+    Ok(keyed)
 }
 
 /// Appends the next level to the list, and numbers its records.
@@ -167,6 +186,7 @@ fn list_level<S: BuildHasher, A: Allocator + Copy>(
     depths: &Levels<'_, A>,
     level: u32,
     numbers: &mut [u32],
+    unsorted: &mut Unsorted<A>,
     out: &mut PackedTexts<A>,
 ) -> Result<(), AllocError>
     requires table { IsTable table.now }
@@ -180,8 +200,8 @@ fn list_level<S: BuildHasher, A: Allocator + Copy>(
     ensures numbered { length numbers.new ≡ length table.now }
     ensures bounded { (k : ℕ) → get_or numbers.new k 0 < 2 ^ 31 }
 {
-    let (rows, positions) = collect(alloc, table, depths, level, numbers)?;
-    let order = sorted_pairs(alloc, &rows, &positions)?;
+    collect(table, depths, level, numbers, unsorted)?;
+    let order = sorted_rows(alloc, &unsorted.rows, &unsorted.positions)?;
     let first = out.len();
     append_rows(&order, out)?;
     number_rows(&order, first, numbers);
@@ -207,9 +227,18 @@ fn list_levels<S: BuildHasher, A: Allocator + Copy>(
     requires bounded { (k : ℕ) → get_or numbers.old k 0 < 2 ^ 31 }
     ensures { IfOk result (λ out. IsCanonOf out (IsType table.now)) }
 {
+    let mut unsorted = Unsorted::new(alloc);
     let mut out = PackedTexts::new(alloc);
     for level in 0..levels {
-        list_level(alloc, table, depths, level, numbers, &mut out)?;
+        list_level(
+            alloc,
+            table,
+            depths,
+            level,
+            numbers,
+            &mut unsorted,
+            &mut out,
+        )?;
     }
     Ok(out)
 }

@@ -3,32 +3,19 @@
 //! Most records of an input are in the table already, in the same sequence. So before a record is
 //! copied and hashed, it is compared with the one after the record that the last one became.
 
-ghost use Rattle.std.specs.Prelude.{◌≡◌, ◌≤◌, ◌<◌, ◌+◌, ◌-◌, ◌^◌, [], ℕ, IsTrue, IfSome, length, get_or, take, drop};
+ghost use Rattle.std.specs.Prelude.{◌≡◌, ◌≤◌, ◌<◌, ◌+◌, ◌-◌, ◌^◌, [], ℕ, IsTrue, length, get_or, take, drop};
 ghost use Rattle.tpi_records.specs.Records.{IsRecord};
 ghost use Rattle.cv_leaves.specs.Place.{IsChecked};
 ghost use Rattle.cv_leaves.specs.References.{references};
 ghost use Rattle.byte_fields.specs.Bytes.{AreBytes};
 ghost use Rattle.type_trees.specs.Check.{NamesThere};
-ghost use Rattle.type_trees.specs.Table.{IsTable, renumber_one, renumbered};
+ghost use Rattle.type_trees.specs.Table.{IsTable, renumbered};
 
+use crate::renumber::number_for;
 use cv_leaves::{places, ref_at};
 use std::alloc::Allocator;
 use std::hash::BuildHasher;
 use text_set::TextSet;
-use tpi_records::FIRST_INDEX;
-
-/// The new type index for a reference. A simple one stays as it is. `None` where the reference
-/// names a record that has no number.
-#[tactic(auto, using(crate::proofs::GuessLaws::simple_number, crate::proofs::GuessLaws::given_number))]
-fn known_number(to: u32, numbers: &[u32]) -> Option<u32>
-    ensures there { IfSome result (λ _. to < FIRST_INDEX + length numbers.now) }
-    ensures value { IfSome result (λ n. n ≡ renumber_one (λ k. get_or numbers.now k 0) to) }
-{
-    match to.checked_sub(FIRST_INDEX) {
-        Some(position) => FIRST_INDEX.checked_add(*numbers.get(position as usize)?),
-        None => Some(to),
-    }
-}
 
 /// Whether two slices have the same bytes from one offset to another.
 fn same_part(one: &[u8], other: &[u8], from: usize, to: usize) -> bool
@@ -61,7 +48,7 @@ pub fn becomes(bytes: &[u8], numbers: &[u32], entry: &[u8]) -> bool
         if !same_part(bytes, entry, from, at) {
             return false;
         }
-        if known_number(ref_at(bytes, place), numbers) != Some(ref_at(entry, place)) {
+        if number_for(ref_at(bytes, place), numbers) != Some(ref_at(entry, place)) {
             return false;
         }
         from = at + 4;

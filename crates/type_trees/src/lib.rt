@@ -15,6 +15,8 @@
 //!   [`Types::in_order`] lists them so that each comes after those that it names.
 //! - [`Table`] holds a set of types, each once, in the order in which they came. Types are added
 //!   up to a limit of bytes, and a refusal leaves the table as it was.
+//!   [`Table::add_records`] adds records that name only earlier ones while it checks them, and
+//!   [`Table::add`] adds types in any order.
 //! - [`Canon`] holds a set of types as its *canonical list*: each type once, in the order of the
 //!   depths, and at one depth in the order of the bytes of the records. The records name each other
 //!   by their positions in the list. Equal sets have equal canonical lists.

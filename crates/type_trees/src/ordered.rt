@@ -13,38 +13,23 @@ ghost use Rattle.byte_fields.specs.Bytes.{AreBytes};
 ghost use Rattle.text_set.specs.TextSet.{Holds};
 ghost use Rattle.type_trees.specs.Tree.{Tree, IsType};
 ghost use Rattle.type_trees.specs.Check.{AreTypes, NamesThere};
-ghost use Rattle.type_trees.specs.Table.{IsTable, AreSmall, renumbered};
+ghost use Rattle.type_trees.specs.Table.{IsTable, renumbered};
 
 use crate::guess::is_at;
-use crate::table::add_new;
-use cv_leaves::{check, places, ref_at};
+use crate::renumber::renumber_into;
+use crate::table::are_bytes;
+use cv_leaves::check;
 use std::alloc::Allocator;
 use std::hash::BuildHasher;
 use text_set::TextSet;
-use tpi_records::{FIRST_INDEX, Records};
-
-/// Whether each reference of a record is simple or names one of the first `many` records.
-fn names_earlier(bytes: &[u8], many: usize) -> bool
-    requires few { many < 2 ^ 31 }
-    requires framed { IsRecord bytes.now }
-    requires checked { IsChecked bytes.now }
-    ensures { IsTrue result → NamesThere many (references bytes.now) }
-{
-    let end = FIRST_INDEX + many as u32;
-    for place in places(bytes) {
-        if ref_at(bytes, place) >= end {
-            return false;
-        }
-    }
-    true
-}
+use tpi_records::Records;
 
 /// Puts a record into the set, and returns its position there. `None` where the record has a fault,
 /// where it names a record without a number, or out of memory. The set then stays as it was.
 ///
 /// `numbers` has the positions in the set of the records before this one. `guess` is the position
 /// where the record is looked for first.
-#[tactic(auto, using(crate::proofs::OrderedLaws::named_numbers))]
+#[tactic(auto, using(crate::proofs::AddLaws::padded_record, crate::proofs::AddLaws::long_record, crate::proofs::AddLaws::renumbered_long))]
 fn put_record<S: BuildHasher, A: Allocator>(
     texts: &mut TextSet<S, A>,
     copy: &mut Vec<u8, A>,
@@ -54,8 +39,6 @@ fn put_record<S: BuildHasher, A: Allocator>(
 ) -> Option<usize>
     requires table { IsTable texts.old }
     requires framed { IsRecord bytes.now }
-    requires small { AreSmall numbers.now }
-    requires many { length numbers.now < 2 ^ 31 }
     requires few { length (concat texts.old) + length bytes.now < 2 ^ 33 }
     ensures checked { IfSome result (λ _. IsChecked bytes.now) }
     ensures earlier { IfSome result (λ _. NamesThere (length numbers.now) (references bytes.now)) }
@@ -68,10 +51,11 @@ fn put_record<S: BuildHasher, A: Allocator>(
     if is_at(texts, guess, bytes, numbers) {
         return Some(guess);
     }
-    if check(bytes).is_err() || !names_earlier(bytes, numbers.len()) {
+    if check(bytes).is_err() || !renumber_into(copy, bytes, numbers).ok()? {
         return None;
     }
-    add_new(texts, copy, bytes, numbers).ok()
+    are_bytes(copy);
+    texts.intern(copy).ok()
 }
 
 /// Puts all records into the set, in order. `None` where that does not succeed; some of them may

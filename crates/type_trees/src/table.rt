@@ -20,7 +20,7 @@ use crate::finish::canonical_list;
 use crate::guess::is_at;
 use crate::order::record_at;
 use crate::ordered::add_ordered;
-use crate::renumber::renumber;
+use crate::renumber::renumber_into;
 use crate::types::Types;
 use std::alloc::{AllocError, Allocator, Global};
 use std::hash::BuildHasher;
@@ -29,41 +29,15 @@ use text_set::TextSet;
 use tpi_records::Records;
 
 /// Each number of a `&[u8]` is a byte. This function does nothing: its contract is the fact.
-fn are_bytes(text: &[u8])
+pub(crate) fn are_bytes(text: &[u8])
     ensures { AreBytes text.now }
 {}
 
 /// Puts a record into the set where it isn't there yet, and returns its position there.
 ///
-/// `numbers` has the position in the set of each record that it names.
-#[tactic(auto, using(crate::proofs::AddLaws::padded_record, crate::proofs::AddLaws::long_record, crate::proofs::AddLaws::renumbered_long))]
-pub(crate) fn add_new<S: BuildHasher, A: Allocator>(
-    texts: &mut TextSet<S, A>,
-    copy: &mut Vec<u8, A>,
-    bytes: &[u8],
-    numbers: &[u32],
-) -> Result<usize, AllocError>
-    requires framed { IsRecord bytes.now }
-    requires checked { IsChecked bytes.now }
-    requires named { AreNumbered numbers.now (references bytes.now) }
-    requires few { length (concat texts.old) + length bytes.now < 2 ^ 33 }
-    ensures at { IfOk result (λ k. (k < length texts.new) × (get_or texts.new k [] ≡ renumbered (λ p. get_or numbers.now p 0) bytes.now)) }
-    ensures holds { IfOk result (λ _. Holds texts.old texts.new (renumbered (λ p. get_or numbers.now p 0) bytes.now)) }
-    ensures bytes { IfOk result (λ _. AreBytes (renumbered (λ p. get_or numbers.now p 0) bytes.now)) }
-    ensures small { IfOk result (λ _. length texts.new < 2 ^ 31) }
-    ensures err { IfErr result (λ _. texts.new ≡ texts.old) }
-{
-    copy.clear();
-    copy.extend_from_slice(bytes)?;
-    renumber(bytes, numbers, copy);
-    are_bytes(copy);
-    texts.intern(copy)
-}
-
-/// Puts a record into the set where it isn't there yet, and returns its position there.
-///
 /// `numbers` has the position in the set of each record that it names. `guess` is the position
 /// where the record is looked for first.
+#[tactic(auto, using(crate::proofs::AddLaws::padded_record, crate::proofs::AddLaws::long_record, crate::proofs::AddLaws::renumbered_long))]
 fn add_record<S: BuildHasher, A: Allocator>(
     texts: &mut TextSet<S, A>,
     copy: &mut Vec<u8, A>,
@@ -85,7 +59,9 @@ fn add_record<S: BuildHasher, A: Allocator>(
     if is_at(texts, guess, bytes, numbers) {
         return Ok(guess);
     }
-    add_new(texts, copy, bytes, numbers)
+    renumber_into(copy, bytes, numbers)?;
+    are_bytes(copy);
+    texts.intern(copy)
 }
 
 /// Puts all types into the set. If this runs out of memory, some of them stay there.

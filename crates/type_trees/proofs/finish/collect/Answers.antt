@@ -1,4 +1,4 @@
-use Rattle.std.proofs.Common.{◌≡◌, ◌<◌, [], None, get_or, length, refl, arith, rules}
+use Rattle.std.proofs.Common.{◌≡◌, ◌<◌, [], None, get_or, length, arith, rules}
 use Rattle.cv_leaves.specs.References.{references}
 use Rattle.text_set.proofs.TextSetLaws.{bound, bound_of, bound_none, smaller}
 use Rattle.type_trees.proofs.AddLaws.{renumbered_long}
@@ -10,27 +10,27 @@ loop-candidate-init g c =
     let n = c.newest-candidate in
     record {
       here = n.ensures.found;
-      rows = rw (c.new-rows.ensures, c.new-positions.ensures.items) refl;
-      found = rw c.new-positions.ensures.items (collected_first c.args.depths.now c.args.level n.result n.ensures.last n.ensures.none);
-      short = rw c.new-rows.ensures (omega arith);
+      rows = rw c.clear.ensures.items c.truncate.ensures;
+      found = rw c.clear.ensures.items (collected_first c.args.depths.now c.args.level n.result n.ensures.last n.ensures.none);
+      short = rw c.truncate.ensures (omega arith);
     }
 
 pub push_row-requires-clause-checked : goal.push_row-requires-clause-checked
 push_row-requires-clause-checked g c =
     let here = rw c.in-Some.is at c.loop-candidate.invariant.here in
-    rw c.get.ensures (c.requires.table.good.checked c.in-Some.position (omega (arith, here.0, c.requires.many)))
+    rw c.get-bytes.ensures (c.requires.table.good.checked c.in-Some.position (omega (arith, here.0, c.requires.many)))
 
 pub push_row-requires-clause-named : goal.push_row-requires-clause-named
 push_row-requires-clause-named g c =
     let k = c.in-Some.position in
     let here = rw c.in-Some.is at c.loop-candidate.invariant.here in
-    rw c.get.ensures (names_numbered c.args.table.now c.args.numbers.now k (references (get_or c.args.table.now k [])) c.requires.numbered c.requires.bounded (c.requires.table.lower k (omega (arith, here.0, c.requires.many))))
+    rw c.get-bytes.ensures (names_numbered c.args.table.now c.args.numbers.now k (references (get_or c.args.table.now k [])) c.requires.numbered c.requires.bounded (c.requires.table.lower k (omega (arith, here.0, c.requires.many))))
 
 pub push_row-requires-clause-few : goal.push_row-requires-clause-few
 push_row-requires-clause-few g c =
     let k = c.in-Some.position in
     let here = rw c.in-Some.is at c.loop-candidate.invariant.here in
-    rw c.get.ensures (rows_few c.args.table.now c.loop-candidate.rows k (rw (c.in-Some.is, bound_of k) at c.loop-candidate.invariant.short) c.requires.short (omega (arith, here.0, c.requires.many)))
+    rw c.get-bytes.ensures (rows_few c.args.table.now c.loop-candidate.unsorted.rows k (rw (c.in-Some.is, bound_of k) at c.loop-candidate.invariant.short) c.requires.short (omega (arith, here.0, c.requires.many)))
 
 pub overflow_cast-position : goal.overflow_cast-position
 overflow_cast-position g c =
@@ -50,13 +50,13 @@ loop-candidate-preserved g c =
     let here = rw c.in-Some.is at so_far.here in
     let inside : k < length r = omega (arith, here.0, c.requires.many) in
     let pushed = c.in_ok-push.ensures.items in
-    let row_pushed = rw c.get.ensures at c.in_ok-push_row.ensures.ok in
+    let row_pushed = rw c.get-bytes.ensures at c.in_ok-push_row.ensures.ok in
     let less = smaller _ k o.result o.ensures.found in
     record {
       here = next_here c.args.depths.now c.args.level k o.result here.0 here.1 o.ensures.found;
-      rows = rw (row_pushed, pushed) (rows_more r c.loop-candidate.rows (λ n. get_or c.args.numbers.now n 0) c.loop-candidate.positions.items k so_far.rows);
-      found = rw pushed (collected_next c.args.depths.now c.args.level k o.result c.loop-candidate.positions.items (rw (c.in-Some.is, bound_of k) at so_far.found) here.0 here.1 o.ensures.found o.ensures.last o.ensures.none);
-      short = rw row_pushed (rows_short r c.loop-candidate.rows _ (bound o.result) k (rw (c.in-Some.is, bound_of k) at so_far.short) (omega (arith, less)) inside
+      rows = rw (row_pushed, pushed) (rows_more r c.loop-candidate.unsorted.rows (λ n. get_or c.args.numbers.now n 0) c.loop-candidate.unsorted.positions.items k so_far.rows);
+      found = rw pushed (collected_next c.args.depths.now c.args.level k o.result c.loop-candidate.unsorted.positions.items (rw (c.in-Some.is, bound_of k) at so_far.found) here.0 here.1 o.ensures.found o.ensures.last o.ensures.none);
+      short = rw row_pushed (rows_short r c.loop-candidate.unsorted.rows _ (bound o.result) k (rw (c.in-Some.is, bound_of k) at so_far.short) (omega (arith, less)) inside
           (renumbered_long _ (get_or r k []) (c.requires.table.good.checked k inside)));
     }
 

@@ -11,8 +11,8 @@ append_rows-requires-clause-padded g c =
     let order = c.in_ok-order.order.items in
     let d = c.deref.ensures.value in
     let sorted = c.in_ok-order.ensures in
-    let h = ready_level r c.args.level (λ k. get_or before k 0) c.args.depths.now _ (map (λ p. p.bytes.now) order) c.in_ok-rows.positions.items (map (λ p. p.position) order) _
-    c.in_ok-rows.ensures.rows c.in_ok-rows.ensures.level c.requires.many c.requires.depths (rw d at sorted.moved) (rw d at (sorted.fit (row r (λ k. get_or before k 0)))) (sym (length-map order (λ p. p.position))) sorted.sorted in
+    let h = ready_level r c.args.level (λ k. get_or before k 0) c.args.depths.now _ (map (λ p. p.bytes.now) order) c.collect.new.unsorted.positions.items (map (λ p. p.position) order) _
+    c.in_ok-collect.ensures.rows c.in_ok-collect.ensures.level c.requires.many c.requires.depths (rw d at sorted.moved) (rw d at (sorted.fit (row r (λ k. get_or before k 0)))) (sym (length-map order (λ p. p.position))) sorted.sorted in
     rw c.deref-2.ensures.value (ready_padded r c.args.level (λ k. get_or before k 0) _ _ c.requires.table h)
 
 pub append_rows-requires-clause-few : goal.append_rows-requires-clause-few
@@ -22,8 +22,8 @@ append_rows-requires-clause-few g c =
     let order = c.in_ok-order.order.items in
     let d = c.deref.ensures.value in
     let sorted = c.in_ok-order.ensures in
-    let h = ready_level r c.args.level (λ k. get_or before k 0) c.args.depths.now _ (map (λ p. p.bytes.now) order) c.in_ok-rows.positions.items (map (λ p. p.position) order) _
-    c.in_ok-rows.ensures.rows c.in_ok-rows.ensures.level c.requires.many c.requires.depths (rw d at sorted.moved) (rw d at (sorted.fit (row r (λ k. get_or before k 0)))) (sym (length-map order (λ p. p.position))) sorted.sorted in
+    let h = ready_level r c.args.level (λ k. get_or before k 0) c.args.depths.now _ (map (λ p. p.bytes.now) order) c.collect.new.unsorted.positions.items (map (λ p. p.position) order) _
+    c.in_ok-collect.ensures.rows c.in_ok-collect.ensures.level c.requires.many c.requires.depths (rw d at sorted.moved) (rw d at (sorted.fit (row r (λ k. get_or before k 0)))) (sym (length-map order (λ p. p.position))) sorted.sorted in
     rw c.deref-2.ensures.value (ready_few r c.args.level c.args.out.now _ (λ k. get_or before k 0) _ c.requires.table c.requires.short c.requires.listed h)
 
 pub number_rows-requires-clause-within : goal.number_rows-requires-clause-within
@@ -33,8 +33,8 @@ number_rows-requires-clause-within g c =
     let order = c.in_ok-order.order.items in
     let d = c.deref.ensures.value in
     let sorted = c.in_ok-order.ensures in
-    let h = ready_level r c.args.level (λ k. get_or before k 0) c.args.depths.now _ (map (λ p. p.bytes.now) order) c.in_ok-rows.positions.items (map (λ p. p.position) order) _
-    c.in_ok-rows.ensures.rows c.in_ok-rows.ensures.level c.requires.many c.requires.depths (rw d at sorted.moved) (rw d at (sorted.fit (row r (λ k. get_or before k 0)))) (sym (length-map order (λ p. p.position))) sorted.sorted in
+    let h = ready_level r c.args.level (λ k. get_or before k 0) c.args.depths.now _ (map (λ p. p.bytes.now) order) c.collect.new.unsorted.positions.items (map (λ p. p.position) order) _
+    c.in_ok-collect.ensures.rows c.in_ok-collect.ensures.level c.requires.many c.requires.depths (rw d at sorted.moved) (rw d at (sorted.fit (row r (λ k. get_or before k 0)))) (sym (length-map order (λ p. p.position))) sorted.sorted in
     rw c.deref-3.ensures.value (λ k inside. omega (arith, h.are.within k (omega (arith, inside, length-map order (λ p. p.position))), c.requires.numbered))
 
 pub number_rows-requires-clause-few : goal.number_rows-requires-clause-few
@@ -44,8 +44,8 @@ number_rows-requires-clause-few g c =
     let order = c.in_ok-order.order.items in
     let d = c.deref.ensures.value in
     let sorted = c.in_ok-order.ensures in
-    let h = ready_level r c.args.level (λ k. get_or before k 0) c.args.depths.now _ (map (λ p. p.bytes.now) order) c.in_ok-rows.positions.items (map (λ p. p.position) order) _
-    c.in_ok-rows.ensures.rows c.in_ok-rows.ensures.level c.requires.many c.requires.depths (rw d at sorted.moved) (rw d at (sorted.fit (row r (λ k. get_or before k 0)))) (sym (length-map order (λ p. p.position))) sorted.sorted in
+    let h = ready_level r c.args.level (λ k. get_or before k 0) c.args.depths.now _ (map (λ p. p.bytes.now) order) c.collect.new.unsorted.positions.items (map (λ p. p.position) order) _
+    c.in_ok-collect.ensures.rows c.in_ok-collect.ensures.level c.requires.many c.requires.depths (rw d at sorted.moved) (rw d at (sorted.fit (row r (λ k. get_or before k 0)))) (sym (length-map order (λ p. p.position))) sorted.sorted in
     omega (arith, ready_count r c.args.level c.args.out.now _ (λ k. get_or before k 0) _ c.requires.table c.requires.short c.requires.listed h, length-map order (λ p. p.position), ap length c.deref-3.ensures.value, c.len-first.ensures)
 
 pub returns-clause-listed : goal.returns-clause-listed
@@ -55,8 +55,8 @@ returns-clause-listed g c =
     let order = c.in_ok-order.order.items in
     let d = c.deref.ensures.value in
     let sorted = c.in_ok-order.ensures in
-    let h = ready_level r c.args.level (λ k. get_or before k 0) c.args.depths.now _ (map (λ p. p.bytes.now) order) c.in_ok-rows.positions.items (map (λ p. p.position) order) _
-    c.in_ok-rows.ensures.rows c.in_ok-rows.ensures.level c.requires.many c.requires.depths (rw d at sorted.moved) (rw d at (sorted.fit (row r (λ k. get_or before k 0)))) (sym (length-map order (λ p. p.position))) sorted.sorted in
+    let h = ready_level r c.args.level (λ k. get_or before k 0) c.args.depths.now _ (map (λ p. p.bytes.now) order) c.collect.new.unsorted.positions.items (map (λ p. p.position) order) _
+    c.in_ok-collect.ensures.rows c.in_ok-collect.ensures.level c.requires.many c.requires.depths (rw d at sorted.moved) (rw d at (sorted.fit (row r (λ k. get_or before k 0)))) (sym (length-map order (λ p. p.position))) sorted.sorted in
     let out = rw c.deref-2.ensures.value at c.in_ok-append_rows.ensures in
     let numbered = rw (c.deref-3.ensures.value, c.len-first.ensures, ← length-map order (λ p. p.position)) at c.number_rows.ensures.numbered in
     rw out (ready_listed r c.args.level c.args.out.now (map (λ p. p.bytes.now) order) (map (λ p. p.position) order) before _ c.requires.table c.requires.short c.requires.listed h numbered)

@@ -1,4 +1,4 @@
-use Rattle.std.proofs.Common.{◌≡◌, ◌≤◌, ◌+◌, ◌∙◌, ℕ, length, get_or, arith}
+use Rattle.std.proofs.Common.{◌∙◌, ℕ, length, get_or, arith}
 use Rattle.std.specs.Prelude.{IsTrue}
 use Rattle.type_trees.proofs.CheckLaws.{own_fit}
 use Rattle.type_trees.proofs.GuessLaws.{Became, becoming_starts, becoming_ends, became, all_left, first_left}

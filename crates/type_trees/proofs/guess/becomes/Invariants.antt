@@ -1,4 +1,4 @@
-use Rattle.std.proofs.Common.{◌≡◌, ℕ, length, get_or}
+use Rattle.std.proofs.Common.{◌≡◌, length, get_or}
 use Rattle.cv_leaves.specs.Checks.{places_of}
 use Rattle.type_trees.proofs.GuessLaws.{Becomes, IsLeft}
 use Rattle.type_trees.proofs.guess.becomes.Given as goal

@@ -1,8 +1,8 @@
-use Rattle.std.proofs.Common.{◌≡◌, ◌<◌, ◌++◌, ◌∷◌, ◌∙◌, [], length, arith, subst, rules}
+use Rattle.std.proofs.Common.{◌≡◌, ◌++◌, ◌∷◌, ◌∙◌, [], arith, rules}
 use Rattle.tpi_records.specs.Records.{IsRecord}
 use Rattle.type_trees.proofs.AddLaws.{front_holds}
 use Rattle.type_trees.proofs.CheckLaws.{each_other}
-use Rattle.type_trees.proofs.OrderedLaws.{IsTaking, taking_starts, taking_few, taking_more, taken_types, taken_all}
+use Rattle.type_trees.proofs.OrderedLaws.{taking_starts, taking_few, taking_more, taken_types, taken_all}
 use Rattle.type_trees.proofs.ordered.add_ordered.Goals as goal
 
 pub loop-bytes-init : goal.loop-bytes-init
@@ -18,12 +18,6 @@ put_record-requires-clause-table g c = c.loop-bytes.invariant.taking.adds.table
 
 pub put_record-requires-clause-framed : goal.put_record-requires-clause-framed
 put_record-requires-clause-framed g c = (each_other IsRecord c.in-Some.bytes.now c.loop-bytes.bytes-iterator c.next.new.self c.in-Some.ensures.steps c.loop-bytes.invariant.taking.framed).0
-
-pub put_record-requires-clause-small : goal.put_record-requires-clause-small
-put_record-requires-clause-small g c = rw c.deref.ensures.value c.loop-bytes.invariant.taking.small
-
-pub put_record-requires-clause-many : goal.put_record-requires-clause-many
-put_record-requires-clause-many g c = rw c.deref.ensures.value (omega (arith, c.loop-bytes.invariant.taking.within, c.len.ensures.value, c.len.ensures.few))
 
 pub put_record-requires-clause-few : goal.put_record-requires-clause-few
 put_record-requires-clause-few g c =
@@ -41,7 +35,7 @@ loop-bytes-preserved g c =
     let pushed : c.push.new.self.items ≡ c.loop-bytes.numbers.items ++ c.in_ok-position.position ∷ [] = search rules in
     record {
       taking = rw pushed (taking_more c.args.records.now c.loop-bytes.bytes-iterator c.next.new.self c.args.texts.now c.loop-bytes.texts c.put_record.new.texts c.loop-bytes.numbers.items c.in-Some.bytes.now c.in_ok-position.position c.loop-bytes.invariant.taking c.in-Some.ensures.steps
-          ok.checked (rw c.deref.ensures.value at ok.earlier) (rw c.deref.ensures.value at ok.bytes) (rw c.deref.ensures.value at ok.holds) ok.at.0 ok.small (rw c.deref.ensures.value at ok.at.1));
+          ok.checked (rw c.deref.ensures.value at ok.earlier) (rw c.deref.ensures.value at ok.bytes) (rw c.deref.ensures.value at ok.holds) ok.at.0 (rw c.deref.ensures.value at ok.at.1));
     }
 
 pub returns-clause-types : goal.returns-clause-types

@@ -1,9 +1,11 @@
-use Rattle.std.proofs.Common.{◌≡◌, ◌≤◌, ◌+◌, ◌∷◌, ◌∙◌, ap, get_or, length, rules}
+use Rattle.std.proofs.Common.{◌≡◌, ◌≤◌, ◌<◌, ◌+◌, ◌∷◌, ◌∙◌, ap, get_or, length, rules}
 use Rattle.cv_leaves.specs.Checks.{places_of}
-use Rattle.cv_leaves.specs.References.{reference_at}
+use Rattle.cv_leaves.specs.References.{reference_at, references}
+use Rattle.tpi_records.specs.Header.{first_index}
+use Rattle.type_trees.specs.Check.{NamesThere}
 use Rattle.type_trees.specs.Table.{renumber_one}
 use Rattle.type_trees.proofs.CheckLaws.{own_fit, each_other}
-use Rattle.type_trees.proofs.RenumberLaws.{all_left, all_named, one_left, first_in, others_in, none_left}
+use Rattle.type_trees.proofs.RenumberLaws.{all_left, all_named, names_left, names_more, one_left, first_in, others_in}
 use Rattle.type_trees.proofs.renumber.renumber.Goals as goal
 
 pub loop-place-init : goal.loop-place-init
@@ -16,7 +18,8 @@ loop-place-init c =
       has = rw (c.requires.same, ← own.0) c.places-place-items.ensures;
       within = λ p h. rw (← (left ∙ own.0)) h;
       fit = rw left own.1;
-      named = all_named r _ c.args.numbers.now (left ∙ own.0) c.requires.named;
+      there = names_left (length c.args.numbers.now) r _ (left ∙ own.0);
+      named = all_named r _ c.args.numbers.now (left ∙ own.0);
     }
 
 pub set_ref-requires : goal.set_ref-requires
@@ -27,18 +30,19 @@ set_ref-requires c =
 pub loop-place-preserved : goal.loop-place-preserved
 loop-place-preserved c =
     let r = c.args.bytes.now in
+    let many = length c.args.numbers.now in
     let so_far = c.loop-place.invariant in
     let left = c.loop-place.place-iterator in
     let others = c.next.new.self in
-    let split : left ≡ c.in-Some.place ∷ others = search rules in
-    let to : c.number_for-to.result ≡ renumber_one (λ k. get_or c.args.numbers.now k 0) (reference_at r c.in-Some.place) = c.number_for-to.ensures ∙ ap (renumber_one (λ k. get_or c.args.numbers.now k 0)) c.ref_at.ensures in
+    let place = c.in-Some.place in
+    let split : left ≡ place ∷ others = search rules in
+    let to : c.in-Some-number_for.to ≡ renumber_one (λ k. get_or c.args.numbers.now k 0) (reference_at r place) = c.in-Some-number_for.ensures.value ∙ ap (renumber_one (λ k. get_or c.args.numbers.now k 0)) c.ref_at.ensures in
+    let here : reference_at r place < first_index + many = rw c.ref_at.ensures at c.in-Some-number_for.ensures.there in
     record {
-      rest = one_left r (λ k. get_or c.args.numbers.now k 0) c.loop-place.copy _ _ c.in-Some.place _ left others so_far.rest split to c.set_ref.ensures.changes;
+      rest = one_left r (λ k. get_or c.args.numbers.now k 0) c.loop-place.copy _ _ place _ left others so_far.rest split to c.set_ref.ensures.changes;
       has = c.set_ref.ensures.keeps (places_of r) so_far.has;
-      within = λ p h. so_far.within p (others_in p c.in-Some.place left others split h);
-      fit = (each_other (λ p. p + 8 ≤ length r) c.in-Some.place left others split so_far.fit).1;
-      named = (rw split at so_far.named).1;
+      within = λ p h. so_far.within p (others_in p place left others split h);
+      fit = (each_other (λ p. p + 8 ≤ length r) place left others split so_far.fit).1;
+      there = names_more many r left others place (NamesThere many (references r)) split here so_far.there;
+      named = λ all. (rw split at so_far.named all).1;
     }
-
-pub returns : goal.returns
-returns c = none_left c.args.bytes.now (λ k. get_or c.args.numbers.now k 0) c.loop-place.copy c.loop-place.place-iterator _ c.loop-place.invariant.rest (c.in-None.ensures.steps).0

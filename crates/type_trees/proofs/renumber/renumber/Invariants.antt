@@ -3,7 +3,8 @@ use Rattle.std.specs.List.{AllByRecursion, Contains}
 use Rattle.cv_leaves.specs.Blank.{fill}
 use Rattle.cv_leaves.specs.Checks.{places_of}
 use Rattle.cv_leaves.specs.Place.{HasPlaces}
-use Rattle.cv_leaves.specs.References.{reference_at}
+use Rattle.cv_leaves.specs.References.{reference_at, references}
+use Rattle.type_trees.specs.Check.{NamesThere}
 use Rattle.type_trees.specs.Table.{renumber, renumbered, AreNumbered}
 use Rattle.type_trees.proofs.renumber.renumber.Given as goal
 
@@ -14,5 +15,6 @@ invariant-loop-place l = record {
   has : HasPlaces l.copy (places_of l.bytes);
   within : (p : ℕ) → Contains l.place-iterator p → Contains (places_of l.bytes) p;
   fit : AllByRecursion (λ p. p + 8 ≤ length l.bytes) l.place-iterator;
-  named : AreNumbered l.numbers (map (reference_at l.bytes) l.place-iterator);
+  there : NamesThere (length l.numbers) (map (reference_at l.bytes) l.place-iterator) → NamesThere (length l.numbers) (references l.bytes);
+  named : AreNumbered l.numbers (references l.bytes) → AreNumbered l.numbers (map (reference_at l.bytes) l.place-iterator);
 }

@@ -1,4 +1,4 @@
-use Rattle.std.proofs.Common.{◌≤◌, ap, arith, length}
+use Rattle.std.proofs.Common.{ap, arith, length}
 use Rattle.type_trees.proofs.AddLaws.{union_weighs}
 use Rattle.type_trees.proofs.table.Table.add_records.Goals as goal
 
