@@ -68,8 +68,11 @@ fn push_row<A: Allocator>(
     rows.push(copy)
 }
 
+// The memory of a level of more rows is given back before the next one.
+const KEPT_ROWS: usize = 1024;
+
 /// The rows of a level in any order, and for each the position of its record in the table. One
-/// value serves all levels, so that its memory is used again.
+/// value serves all levels, so that small levels use the same memory again.
 #[derive(Drop)]
 struct Unsorted<A: Allocator> {
     rows: PackedTexts<A>,
@@ -87,10 +90,23 @@ impl<A: Allocator + Copy> Unsorted<A> {
             copy: Vec::new(alloc),
         }
     }
+
+    /// Takes all rows out. The memory of many rows is given back.
+    fn clear(&mut self, alloc: A)
+        ensures rows { self.new.rows ≡ [] }
+        ensures positions { self.new.positions.items ≡ [] }
+    {
+        if self.rows.len() > KEPT_ROWS {
+            *self = Unsorted::new(alloc);
+        }
+        self.rows.truncate(0);
+        self.positions.clear();
+    }
 }
 
 /// Collects the rows of a level.
-fn collect<S: BuildHasher, A: Allocator>(
+fn collect<S: BuildHasher, A: Allocator + Copy>(
+    alloc: A,
     table: &TextSet<S, A>,
     depths: &Levels<'_, A>,
     level: u32,
@@ -105,8 +121,7 @@ fn collect<S: BuildHasher, A: Allocator>(
     ensures rows { IfOk result (λ _. unsorted.new.rows ≡ map (row table.now (λ k. get_or numbers.now k 0)) unsorted.new.positions.items) }
     ensures level { IfOk result (λ _. AtLevel depths.now level unsorted.new.positions.items) }
 {
-    unsorted.rows.truncate(0);
-    unsorted.positions.clear();
+    unsorted.clear(alloc);
     let mut candidate = depths.newest(level);
     while let Some(position) = candidate {
         let bytes = table.get(position);
@@ -200,7 +215,7 @@ fn list_level<S: BuildHasher, A: Allocator + Copy>(
     ensures numbered { length numbers.new ≡ length table.now }
     ensures bounded { (k : ℕ) → get_or numbers.new k 0 < 2 ^ 31 }
 {
-    collect(table, depths, level, numbers, unsorted)?;
+    collect(alloc, table, depths, level, numbers, unsorted)?;
     let order = sorted_rows(alloc, &unsorted.rows, &unsorted.positions)?;
     let first = out.len();
     append_rows(&order, out)?;

@@ -10,9 +10,9 @@ loop-candidate-init g c =
     let n = c.newest-candidate in
     record {
       here = n.ensures.found;
-      rows = rw c.clear.ensures.items c.truncate.ensures;
-      found = rw c.clear.ensures.items (collected_first c.args.depths.now c.args.level n.result n.ensures.last n.ensures.none);
-      short = rw c.truncate.ensures (omega arith);
+      rows = rw c.clear.ensures.positions c.clear.ensures.rows;
+      found = rw c.clear.ensures.positions (collected_first c.args.depths.now c.args.level n.result n.ensures.last n.ensures.none);
+      short = rw c.clear.ensures.rows (omega arith);
     }
 
 pub push_row-requires-clause-checked : goal.push_row-requires-clause-checked
