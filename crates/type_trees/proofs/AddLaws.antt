@@ -19,7 +19,7 @@ use Rattle.type_trees.specs.Canon.{weight}
 use Rattle.byte_fields.specs.Bytes.{AreBytes}
 use Rattle.type_trees.specs.Table.{IsTable, IsUnion, AreNumbered, EachNamed, renumber, renumbered}
 use Rattle.type_trees.specs.Check.{AreTypes}
-use Rattle.type_trees.specs.Merge.{Adds}
+use Rattle.type_trees.specs.Merge.{StartsWith, Adds}
 use Rattle.type_trees.specs.declared.fault.JoinFault.TheVariants as JoinFault
 use Rattle.text_set.proofs.TextSetLaws.{four_each}
 use Rattle.cv_leaves.proofs.FilledLaws.{filled_checked, filled_framed, filled_len, filled_read}
@@ -97,19 +97,30 @@ mutual
       let below : h.0 - first_index < length r = elim tail.0 [ inl small ↦ absurd (omega (arith, small, h.3)) | inr low ↦ low.0 ] in
       (h.0, h.1, h.2, h.3, stands_within r s (h.0 - first_index) t ranked below h.4, branches_within r s i h.1 bs ranked tail.1 h.5)
 
--- the first records stay when a text is added after them
-front_more : (before after : List (List ℕ)) (y : List ℕ) → (length before ≤ length after) × (take (length before) after ≡ before) → (length before ≤ length (after ++ y ∷ [])) × (take (length before) (after ++ y ∷ []) ≡ before)
-front_more before after y front = (omega (arith, front.0, length-append after (y ∷ [])), take-append-le (length before) after (y ∷ []) front.0 ∙ front.1)
+-- a list begins with itself
+pub starts_same : {A : Type 0} (xs : List A) → StartsWith xs xs
+starts_same xs = (omega arith, all_taken xs)
+  where
+    all_taken : {A : Type 0} (ys : List A) → take (length ys) ys ≡ ys
+    all_taken [] = refl
+    all_taken (y ∷ ys) = ap (λ zs. y ∷ zs) (all_taken ys)
 
--- they stay too when the text may have been there already
-pub front_holds : (before after grown : List (List ℕ)) (y : List ℕ) → Holds after grown y → (length before ≤ length after) × (take (length before) after ≡ before) → (length before ≤ length grown) × (take (length before) grown ≡ before)
-front_holds before after grown y holds front = elim holds [ inl same ↦ rw same front | inr more ↦ rw more.0 (front_more before after y front) ]
+-- the front stays when an element is added at the end
+pub starts_more : {A : Type 0} (front list : List A) (x : A) → StartsWith list front → StartsWith (list ++ x ∷ []) front
+starts_more front list x starts = (omega (arith, starts.0, length-append list (x ∷ [])), take-append-le (length front) list (x ∷ []) starts.0 ∙ starts.1)
+
+-- the front stays when a text is put in that may have been there already
+pub front_holds : (before after grown : List (List ℕ)) (y : List ℕ) → Holds after grown y → StartsWith after before → StartsWith grown before
+front_holds before after grown y holds front = elim holds [ inl same ↦ rw same front | inr more ↦ rw more.0 (starts_more before after y front) ]
+
+-- the front and the rest are the whole list
+pub starts_whole : {A : Type 0} (front list : List A) → StartsWith list front → front ++ drop (length front) list ≡ list
+starts_whole front list starts = ap (λ xs. xs ++ drop (length front) list) (sym starts.1) ∙ take-append-drop (length front) list
 
 -- a type of the first records is a type of all
-pub front_stands : (before after : List (List ℕ)) (t : Tree) → take (length before) after ≡ before → IsType before t → IsType after t
+pub front_stands : (before after : List (List ℕ)) (t : Tree) → StartsWith after before → IsType before t → IsType after t
 front_stands before after t front (i, stands) =
-    let whole : before ++ drop (length before) after ≡ after = ap (λ (x : List (List ℕ)). x ++ drop (length before) after) (sym front) ∙ take-append-drop (length before) after in
-    (i, subst (λ (x : List (List ℕ)). Stands x i t) whole (stands_still before (drop (length before) after) i t stands))
+    (i, subst (λ (x : List (List ℕ)). Stands x i t) (starts_whole before after front) (stands_still before (drop (length before) after) i t stands))
 
 -- ---- One more record
 
@@ -195,20 +206,16 @@ adds_none records before f done table none = record {
   table = table;
   inside = λ k d. absurd (none k d);
   stand = λ k t d stands. absurd (none k d);
-  front = (omega arith, all_taken before);
+  front = starts_same before;
   others = λ t h. inl h;
 }
-  where
-    all_taken : (x : List (List ℕ)) → take (length x) x ≡ x
-    all_taken [] = refl
-    all_taken (b ∷ x) = ap (λ (y : List (List ℕ)). b ∷ y) (all_taken x)
 
 -- the table has the types of both after the last record
 pub adds_all : (records before after : List (List ℕ)) (f : ℕ → ℕ) (done : ℕ → Type 0) → Adds records before after f done → ((k : ℕ) → k < length records → done k) → (t : Tree) → IsType after t ↔ (IsType before t ⊎ IsType records t)
 adds_all records before after f done adds all t = (
   adds.others t,
   λ h. elim h [
-    | inl old ↦ front_stands before after t adds.front.1 old
+    | inl old ↦ front_stands before after t adds.front old
     | inr new ↦ (f new.0, adds.stand new.0 t (all new.0 (in_range records new.0 t new.1)) new.1)
   ],
 )

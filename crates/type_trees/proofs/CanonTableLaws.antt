@@ -10,6 +10,7 @@ use Rattle.byte_fields.specs.Bytes.{AreBytes}
 use Rattle.type_trees.specs.Table.{IsTable}
 use Rattle.type_trees.specs.Finish.{IsCanon, IsCanonOf}
 use Rattle.type_trees.proofs.NextLaws.{table_weighs_all}
+use Rattle.type_trees.proofs.AddLaws.{starts_same}
 use Rattle.type_trees.proofs.PushLaws.{nothing_listed}
 use Rattle.type_trees.proofs.ReadLaws.{few, holds, canonical_reads_back}
 use Rattle.type_trees.proofs.TextLaws.{texts_differ}
@@ -85,9 +86,8 @@ next_fits r k short inside = omega (arith, short, part r k inside)
     part (x ∷ xs) (suc n) inside = omega (arith, length-append x (concat xs), length-append x (concat (take n xs)), part xs n (omega (arith, inside)))
 
 -- the first texts of a list are the whole list when there are as many
-pub all_taken : (r : List (List ℕ)) → take (length r) r ≡ r
-all_taken [] = refl
-all_taken (x ∷ r) = ap (λ (y : List (List ℕ)). x ∷ y) (all_taken r)
+pub whole_taken : (r first : List (List ℕ)) (k : ℕ) → first ≡ take k r → k ≡ length r → first ≡ r
+whole_taken r first k is all = is ∙ ap (λ (n : ℕ). take n r) all ∙ (starts_same r).1
 
 -- a canonical list stays one when its types are described by an equal condition
 pub canon_same : (out : List (List ℕ)) (P Q : Tree → Type 0) → IsCanonOf out P → ((t : Tree) → P t ↔ Q t) → IsCanonOf out Q

@@ -1,13 +1,12 @@
 -- How the positions of each level are linked.
-use Rattle.std.proofs.Common.{◌≡◌, ℕ, zero, suc, ◌+◌, ◌<◌, ◌^◌, Bool, true, false, cond, nat_eq, List, [], ◌∷◌, ◌++◌, length, take, set, get_or, replicate, Some, refl, sym, ap, ◌∙◌, arith}
+use Rattle.std.proofs.Common.{◌≡◌, ℕ, zero, suc, ◌+◌, ◌<◌, ◌^◌, max, Bool, true, false, cond, nat_eq, List, [], ◌∷◌, ◌++◌, length, take, set, get_or, replicate, Some, refl, sym, ap, ◌∙◌, arith, inl, inr}
+use Rattle.std.proofs.lemmas.Bool.{cases_lt}
 use Rattle.std.proofs.lemmas.List.{length-take-le, take_more, get_or-set_same, get_or-set_other}
 use borrow.Author.Tests.{eqb-true, eqb-false}
 use Rattle.key_chains.specs.Chains.{AreChained}
 use Rattle.key_chains.proofs.ChainLaws.{chained_pushed}
-use Rattle.type_trees.specs.Depth.{AreDepths, HasLevels, AreBelow}
-use Rattle.type_trees.specs.Table.{IsTable}
+use Rattle.type_trees.specs.Depth.{CountsLevels}
 use Rattle.type_trees.specs.Finish.{AreLinked}
-use Rattle.type_trees.proofs.TreeLaws.{tree_there}
 
 -- the number at any place among zeros is 0
 zeros_at : (n d : ℕ) → get_or (replicate {A = ℕ} n 0) d 0 ≡ 0
@@ -41,9 +40,18 @@ linked_more depths newest older k d h many inside is low =
     updated q true e = ap Some (ap (λ (n : ℕ). get_or (set newest d (k + 1)) n 0) (sym (eqb-true d q e)) ∙ get_or-set_same newest d (k + 1) 0 low)
     updated q false e = ap Some (get_or-set_other newest d q (k + 1) 0 (λ same. eqb-false d q e (sym same)))
 
--- each depth of a table's records is below the number of levels
-pub depths_low : (r : List (List ℕ)) (depths : List ℕ) (levels : ℕ) → IsTable r → length depths ≡ length r → AreDepths r depths → HasLevels r levels → AreBelow levels depths
-depths_low r depths levels table many known has = λ k inside.
-    let within : k < length r = omega (arith, inside, many) in
-    let there = tree_there r (λ i. i) k table.lower within in
-    omega (arith, known k there.0 inside there.1, has.all k there.0 within there.1)
+-- the levels stay right when one more depth is counted
+pub counts_more : (depths : List ℕ) (end levels : ℕ) → CountsLevels depths end levels → CountsLevels depths (end + 1) (max levels (get_or depths end 0 + 1))
+counts_more depths end levels counts = record {
+  all = λ k inside. elim (cases_lt k end) [
+    | inl old ↦ omega (arith, counts.all k old)
+    | inr new ↦ let at : k ≡ end = omega (arith, new, inside) in omega (arith, ap (λ (n : ℕ). get_or depths n 0) at)
+  ];
+  one = elim (cases_lt (get_or depths end 0 + 1) levels) [
+    | inl less ↦ elim counts.one [
+      | inl none ↦ absurd (omega (arith, none, less))
+      | inr some ↦ inr (some.0, omega (arith, some.1), omega (arith, some.2, less))
+    ]
+    | inr more ↦ inr (end, omega arith, omega (arith, more))
+  ];
+}

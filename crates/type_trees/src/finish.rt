@@ -14,41 +14,19 @@ ghost use Rattle.std.specs.declared.cmp.Ordering.TheVariants.{Greater};
 ghost use Rattle.tpi_records.specs.Records.{IsRecord};
 ghost use Rattle.cv_leaves.specs.Place.{IsChecked};
 ghost use Rattle.cv_leaves.specs.References.{references};
-ghost use Rattle.type_trees.specs.Depth.{AreDepths, HasLevels};
+ghost use Rattle.type_trees.specs.Depth.{AreDepths, HasDepths, HasLevels};
 ghost use Rattle.type_trees.specs.Tree.{Tree, IsType};
 ghost use Rattle.type_trees.specs.Table.{IsTable, AreNumbered, renumbered};
 ghost use Rattle.type_trees.specs.Rows.{row, IsKeyed, AreRows};
 ghost use Rattle.type_trees.specs.Finish.{Listed, AtLevel, Numbered, IsCanonOf};
 
-use crate::depth::depth_of;
-use crate::levels::Levels;
+use crate::levels::{Levels, levels_of};
 use crate::renumber::renumber_into;
 use crate::row::Row;
 use packed_texts::PackedTexts;
 use std::alloc::{AllocError, Allocator};
 use std::hash::BuildHasher;
 use text_set::TextSet;
-
-/// The depth of each record of a table, and how many levels there are.
-fn depths_of<S: BuildHasher, A: Allocator + Copy>(
-    alloc: A,
-    table: &TextSet<S, A>,
-) -> Result<(Vec<u32, A>, u32), AllocError>
-    requires table { IsTable table.now }
-    requires short { length (concat table.now) < 2 ^ 32 }
-    ensures many { IfOk result (λ m. length m.0.items ≡ length table.now) }
-    ensures depths { IfOk result (λ m. AreDepths table.now m.0.items) }
-    ensures levels { IfOk result (λ m. HasLevels table.now m.1) }
-{
-    let mut depths = Vec::with_capacity(alloc, table.len())?;
-    let mut levels = 0;
-    for position in 0..table.len() {
-        let depth = depth_of(table.get(position), &depths);
-        depths.push(depth)?;
-        levels = levels.max(depth + 1);
-    }
-    Ok((depths, levels))
-}
 
 /// Appends the row of a record to the other rows.
 #[tactic(auto, using(crate::proofs::AddLaws::padded_record, crate::proofs::AddLaws::renumbered_long))]
@@ -258,36 +236,20 @@ fn list_levels<S: BuildHasher, A: Allocator + Copy>(
     Ok(out)
 }
 
-/// The canonical list of the types of a table whose depths are known. `levels` is how many levels
-/// there are.
+/// The canonical list of the types of a table whose depths are known.
 #[tactic(auto, using(crate::proofs::LinkLaws::zeros_small, crate::proofs::FinishLaws::table_small))]
-fn list_types<S: BuildHasher, A: Allocator + Copy>(
-    alloc: A,
-    table: &TextSet<S, A>,
-    depths: &[u32],
-    levels: u32,
-) -> Result<PackedTexts<A>, AllocError>
-    requires table { IsTable table.now }
-    requires short { length (concat table.now) < 2 ^ 32 }
-    requires many { length depths.now ≡ length table.now }
-    requires depths { AreDepths table.now depths.now }
-    requires levels { HasLevels table.now levels }
-    ensures { IfOk result (λ out. IsCanonOf out (IsType table.now)) }
-{
-    let chained = Levels::of(alloc, depths, levels)?;
-    let mut numbers = vec![in alloc; 0u32; table.len()]?;
-    list_levels(alloc, table, &chained, levels, &mut numbers)
-}
-
-/// The canonical list of the types of a table.
 pub fn canonical_list<S: BuildHasher, A: Allocator + Copy>(
     alloc: A,
     table: &TextSet<S, A>,
+    depths: &[u32],
 ) -> Result<PackedTexts<A>, AllocError>
     requires table { IsTable table.now }
     requires short { length (concat table.now) < 2 ^ 32 }
+    requires known { HasDepths table.now depths.now }
     ensures { IfOk result (λ out. IsCanonOf out (IsType table.now)) }
 {
-    let (depths, levels) = depths_of(alloc, table)?;
-    list_types(alloc, table, &depths, levels)
+    let levels = levels_of(depths);
+    let chained = Levels::of(alloc, depths, levels)?;
+    let mut numbers = vec![in alloc; 0u32; table.len()]?;
+    list_levels(alloc, table, &chained, levels, &mut numbers)
 }

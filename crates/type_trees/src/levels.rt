@@ -2,7 +2,7 @@
 
 ghost use Rattle.std.specs.Prelude.{◌≡◌, ◌+◌, ◌<◌, ◌^◌, length, get_or, IfOk, IfSome, IfNone};
 ghost use Rattle.key_chains.specs.Chains.{NoneFrom};
-ghost use Rattle.type_trees.specs.Depth.{AreBelow};
+ghost use Rattle.type_trees.specs.Depth.{AreBelow, CountsLevels};
 
 use std::alloc::{AllocError, Allocator, Global};
 use std::marker::Model;
@@ -30,6 +30,18 @@ impl<'a, A: Allocator> Model for Levels<'a, A> {
     ghost view = { λ l. l.depths.now };
 
     ghost invariant = { λ l. (length l.older.items ≡ length l.depths.now) × AreLinked l.depths.now l.newest.items l.older.items };
+}
+
+/// How many levels there are: one more than the greatest depth, or 0 where there are no depths.
+pub fn levels_of(depths: &[u32]) -> u32
+    requires low { AreBelow (2 ^ 31) depths.now }
+    ensures { CountsLevels depths.now (length depths.now) result }
+{
+    let mut levels = 0;
+    for position in 0..depths.len() {
+        levels = levels.max(depths[position] + 1);
+    }
+    levels
 }
 
 /// The position that a link leads to. `None` for the link 0.

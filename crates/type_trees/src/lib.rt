@@ -44,6 +44,7 @@ mod fault;
 mod finish;
 mod graph;
 mod guess;
+mod kept;
 pub mod laws;
 mod levels;
 mod order;

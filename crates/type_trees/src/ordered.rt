@@ -13,6 +13,7 @@ ghost use Rattle.byte_fields.specs.Bytes.{AreBytes};
 ghost use Rattle.text_set.specs.TextSet.{Holds};
 ghost use Rattle.type_trees.specs.Tree.{Tree, IsType};
 ghost use Rattle.type_trees.specs.Check.{AreTypes, NamesThere};
+ghost use Rattle.type_trees.specs.Merge.{StartsWith};
 ghost use Rattle.type_trees.specs.Table.{IsTable, renumbered};
 
 use crate::guess::is_at;
@@ -70,7 +71,8 @@ pub fn add_ordered<S: BuildHasher, A: Allocator + Copy>(
     ensures types { IfSome result (λ _. AreTypes records.now) }
     ensures table { IfSome result (λ _. IsTable texts.new) }
     ensures value { IfSome result (λ _. (t : Tree) → IsType texts.new t ↔ (IsType texts.old t ⊎ IsType records.now t)) }
-    ensures front { (length texts.old ≤ length texts.new) × (take (length texts.old) texts.new ≡ texts.old) }
+    ensures few { IfSome result (λ _. length texts.new < 2 ^ 31) }
+    ensures front { StartsWith texts.new texts.old }
 {
     let mut numbers = Vec::with_capacity(alloc, records.len()).ok()?;
     let mut copy = Vec::new(alloc);

@@ -1,6 +1,6 @@
 //! Tables: types in the order in which they came, each once.
 
-ghost use Rattle.std.specs.Prelude.{◌≡◌, ◌≢◌, ◌⊎◌, ◌↔◌, ◌+◌, ◌-◌, ◌%◌, ◌^◌, ◌<◌, ◌≤◌, [], ℕ, List, IsTrue, length, get_or, map, take, IfOk, IfErr};
+ghost use Rattle.std.specs.Prelude.{◌≡◌, ◌≢◌, ◌⊎◌, ◌↔◌, ◌+◌, ◌-◌, ◌%◌, ◌^◌, ◌<◌, ◌≤◌, [], ℕ, List, IsTrue, length, get_or, map, take, IfOk, IfErr, IfSome};
 ghost use Rattle.std.specs.List.{AllByRecursion, concat};
 ghost use Rattle.tpi_records.specs.Records.{IsRecord};
 ghost use Rattle.cv_leaves.specs.Place.{IsChecked};
@@ -9,8 +9,9 @@ ghost use Rattle.cv_leaves.specs.References.{references};
 ghost use Rattle.type_trees.specs.Tree.{Tree, IsType};
 ghost use Rattle.type_trees.specs.Canon.{weight};
 ghost use Rattle.byte_fields.specs.Bytes.{AreBytes};
+ghost use Rattle.type_trees.specs.Depth.{HasDepths};
 ghost use Rattle.type_trees.specs.Table.{IsTable, IsUnion, AreNumbered, renumbered};
-ghost use Rattle.type_trees.specs.Merge.{Adds};
+ghost use Rattle.type_trees.specs.Merge.{StartsWith};
 ghost use Rattle.type_trees.specs.Check.{AreTypes};
 ghost use Rattle.type_trees.specs.Finish.{IsCanon, IsCanonOf};
 
@@ -18,6 +19,7 @@ use crate::canon::Canon;
 use crate::fault::JoinFault;
 use crate::finish::canonical_list;
 use crate::guess::is_at;
+use crate::kept::measure_new;
 use crate::order::record_at;
 use crate::ordered::add_ordered;
 use crate::renumber::renumber_into;
@@ -73,7 +75,8 @@ fn add_all<S: BuildHasher, A: Allocator + Copy>(
     requires table { IsTable texts.old }
     requires short { length (concat texts.old) < 2 ^ 32 }
     ensures ok { IfOk result (λ _. IsTable texts.new × ((t : Tree) → IsType texts.new t ↔ (IsType texts.old t ⊎ IsType types.now t))) }
-    ensures front { (length texts.old ≤ length texts.new) × (take (length texts.old) texts.new ≡ texts.old) }
+    ensures few { IfOk result (λ _. length texts.new < 2 ^ 31) }
+    ensures front { StartsWith texts.new texts.old }
 {
     let mut positions = vec![in alloc; 0u32; types.len()]?;
     let mut copy = Vec::new(alloc);
@@ -88,6 +91,62 @@ fn add_all<S: BuildHasher, A: Allocator + Copy>(
     Ok(())
 }
 
+/// Puts all types into the set, and measures the new ones. If this runs out of memory, some of them
+/// stay there.
+fn add_measured<S: BuildHasher, A: Allocator + Copy>(
+    alloc: A,
+    texts: &mut TextSet<S, A>,
+    depths: &mut Vec<u32, A>,
+    types: &Types<'_, A>,
+) -> Result<(), AllocError>
+    requires table { IsTable texts.old }
+    requires short { length (concat texts.old) < 2 ^ 32 }
+    requires depths { HasDepths texts.old depths.old.items }
+    ensures ok { IfOk result (λ _. IsTable texts.new × ((t : Tree) → IsType texts.new t ↔ (IsType texts.old t ⊎ IsType types.now t))) }
+    ensures depths { IfOk result (λ _. HasDepths texts.new depths.new.items) }
+    ensures front { StartsWith texts.new texts.old }
+    ensures measured { StartsWith depths.new.items depths.old.items }
+{
+    add_all(alloc, texts, types)?;
+    measure_new(texts, depths)
+}
+
+/// Puts all records into the set, in order, and measures the new ones. `None` where that does not
+/// succeed; some of them may then be in the set.
+fn order_measured<S: BuildHasher, A: Allocator + Copy>(
+    alloc: A,
+    texts: &mut TextSet<S, A>,
+    depths: &mut Vec<u32, A>,
+    records: &Records<'_, A>,
+) -> Option<()>
+    requires table { IsTable texts.old }
+    requires short { length (concat texts.old) < 2 ^ 32 }
+    requires depths { HasDepths texts.old depths.old.items }
+    ensures types { IfSome result (λ _. AreTypes records.now) }
+    ensures table { IfSome result (λ _. IsTable texts.new) }
+    ensures value { IfSome result (λ _. (t : Tree) → IsType texts.new t ↔ (IsType texts.old t ⊎ IsType records.now t)) }
+    ensures depths { IfSome result (λ _. HasDepths texts.new depths.new.items) }
+    ensures front { StartsWith texts.new texts.old }
+    ensures measured { StartsWith depths.new.items depths.old.items }
+{
+    add_ordered(alloc, texts, records)?;
+    measure_new(texts, depths).ok()
+}
+
+/// Keeps the first `held` records and their depths, and removes the others.
+fn undo<S: BuildHasher, A: Allocator>(
+    texts: &mut TextSet<S, A>,
+    depths: &mut Vec<u32, A>,
+    held: usize,
+)
+    requires inside { held ≤ length texts.old }
+    ensures texts { texts.new ≡ take held texts.old }
+    ensures depths { depths.new.items ≡ take held depths.old.items }
+{
+    texts.truncate(held);
+    depths.truncate(held);
+}
+
 /// A set of types, each once, in the order in which they came.
 ///
 /// If the table holds a type, it holds each type that this one names. The records have fewer than
@@ -95,18 +154,21 @@ fn add_all<S: BuildHasher, A: Allocator + Copy>(
 #[derive(Drop)]
 pub struct Table<S: BuildHasher, A: Allocator = Global> {
     texts: TextSet<S, A>,
+    // the depth of each type
+    depths: Vec<u32, A>,
 }
 
 impl<S: BuildHasher, A: Allocator> Model for Table<S, A> {
     ghost use Rattle.std.specs.Prelude.{List, ℕ, ◌<◌, ◌^◌, length};
     ghost use Rattle.std.specs.List.{concat};
+    ghost use Rattle.type_trees.specs.Depth.{HasDepths};
     ghost use Rattle.type_trees.specs.Table.{IsTable};
 
     ghost Value = { List (List ℕ) };
 
     ghost view = { λ t. t.texts };
 
-    ghost invariant = { λ t. IsTable t.texts × (length (concat t.texts) < 2 ^ 32) };
+    ghost invariant = { λ t. IsTable t.texts × (length (concat t.texts) < 2 ^ 32) × HasDepths t.texts t.depths.items };
 }
 
 impl<S: BuildHasher, A: Allocator + Copy> Table<S, A> {
@@ -117,6 +179,7 @@ impl<S: BuildHasher, A: Allocator + Copy> Table<S, A> {
     {
         Table {
             texts: TextSet::with_hasher(alloc, hasher),
+            depths: Vec::new(alloc),
         }
     }
 
@@ -138,15 +201,15 @@ impl<S: BuildHasher, A: Allocator + Copy> Table<S, A> {
         // The union is larger than the limit, and has this many bytes.
         ensures large { IfErr result (λ fault. (bytes : ℕ) → fault ≡ JoinFault.TooLarge bytes → (limit < bytes) × ((l : List Tree) × IsUnion l self.old types.now × (weight l ≡ bytes))) }
     {
-        let before = self.texts.len();
-        let added = add_all(alloc, &mut self.texts, types);
+        let held = self.texts.len();
+        let added = add_measured(alloc, &mut self.texts, &mut self.depths, types);
         let bytes = self.texts.bytes().len() as u64;
         if let Err(fault) = added {
-            self.texts.truncate(before);
+            undo(&mut self.texts, &mut self.depths, held);
             return Err(JoinFault::from(fault));
         }
         if bytes > u64::from(limit) {
-            self.texts.truncate(before);
+            undo(&mut self.texts, &mut self.depths, held);
             return Err(JoinFault::TooLarge { bytes });
         }
         Ok(())
@@ -167,12 +230,12 @@ impl<S: BuildHasher, A: Allocator + Copy> Table<S, A> {
         ensures kept { IsTrue result ⊎ (self.new ≡ self.old) }
     {
         let held = self.texts.len();
-        if let Some(()) = add_ordered(alloc, &mut self.texts, records) {
+        if let Some(()) = order_measured(alloc, &mut self.texts, &mut self.depths, records) {
             if self.texts.bytes().len() as u64 <= u64::from(limit) {
                 return true;
             }
         }
-        self.texts.truncate(held);
+        undo(&mut self.texts, &mut self.depths, held);
         false
     }
 
@@ -191,20 +254,21 @@ impl<S: BuildHasher, A: Allocator + Copy> Table<S, A> {
         for position in 0..canon.len() {
             texts.intern(canon.texts.get(position))?;
         }
-        Ok(Table { texts })
+        let mut depths = Vec::new(alloc);
+        measure_new(&texts, &mut depths)?;
+        Ok(Table { texts, depths })
     }
 
     /// Makes the canonical list of the types.
     ///
     /// The only fault is `Memory`. The table stays as it is in any case. This allocates the list.
-    /// While the list is made, the depth and the number of each type and the rows of one level are
-    /// allocated too. Nothing recurses along references.
+    /// While the list is made, the number of each type and the rows of one level are allocated too. Nothing recurses along references.
     pub fn finish(&self, alloc: A) -> Result<Canon<A>, JoinFault>
         ensures value { IfOk result (λ canon. IsCanonOf canon (IsType self.now)) }
         ensures bytes { IfOk result (λ canon. length (concat canon) ≡ length (concat self.now)) }
         ensures memory { IfErr result (λ fault. fault ≡ JoinFault.Memory) }
     {
-        let texts = canonical_list(alloc, &self.texts)?;
+        let texts = canonical_list(alloc, &self.texts, &self.depths)?;
         are_bytes(texts.bytes());
         Ok(Canon { texts })
     }

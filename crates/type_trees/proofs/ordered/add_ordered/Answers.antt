@@ -1,6 +1,6 @@
 use Rattle.std.proofs.Common.{◌≡◌, ◌++◌, ◌∷◌, ◌∙◌, [], arith, rules}
 use Rattle.tpi_records.specs.Records.{IsRecord}
-use Rattle.type_trees.proofs.AddLaws.{front_holds}
+use Rattle.type_trees.proofs.AddLaws.{front_holds, table_few}
 use Rattle.type_trees.proofs.CheckLaws.{each_other}
 use Rattle.type_trees.proofs.OrderedLaws.{taking_starts, taking_few, taking_more, taken_types, taken_all}
 use Rattle.type_trees.proofs.ordered.add_ordered.Goals as goal
@@ -49,3 +49,8 @@ returns-clause-value g c = taken_all c.args.records.now c.loop-bytes.bytes-itera
 
 pub returns-clause-front : goal.returns-clause-front
 returns-clause-front g c = c.loop-bytes.invariant.taking.adds.front
+
+pub returns-clause-few : goal.returns-clause-few
+returns-clause-few g c =
+    let taking = c.loop-bytes.invariant.taking in
+    table_few c.loop-bytes.texts taking.adds.table (omega (arith, taking.few))

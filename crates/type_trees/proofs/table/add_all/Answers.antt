@@ -1,5 +1,5 @@
 use Rattle.std.proofs.Common.{◌≡◌, ◌∙◌, ℕ, List, [], replicate, get_or, ap, arith, rules}
-use Rattle.type_trees.proofs.AddLaws.{adding_starts, adding_inside, adding_few, adding_numbered, adding_more, all_added}
+use Rattle.type_trees.proofs.AddLaws.{adding_starts, adding_inside, adding_few, adding_numbered, adding_more, all_added, table_few}
 use Rattle.type_trees.proofs.table.add_all.Goals as goal
 
 pub loop-position-init : goal.loop-position-init
@@ -40,3 +40,8 @@ pub returns-clause-ok : goal.returns-clause-ok
 returns-clause-ok g c =
     let so_far = c.loop-position in
     (so_far.invariant.adding.adds.table, all_added c.args.types.now so_far.position-iterator c.args.texts.now so_far.texts so_far.positions.items so_far.invariant.adding (c.in-None.ensures.steps).0)
+
+pub returns-clause-few : goal.returns-clause-few
+returns-clause-few g c =
+    let adding = c.loop-position.invariant.adding in
+    table_few c.loop-position.texts adding.adds.table (omega (arith, adding.few))
