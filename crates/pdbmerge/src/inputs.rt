@@ -2,9 +2,10 @@
 
 ghost use Rattle.std.specs.Prelude.{None};
 
-use byte_io::{In, InputFault, Inputs, read_into, skip_all};
+use byte_io::{In, InputFault, Inputs, ReadFault, read_into, skip_all};
 use std::alloc::Allocator;
 use std::fs;
+use std::fs::OpenFile;
 use std::rt::Files;
 
 /// The files with these names. One of them is open at a time.
@@ -21,13 +22,17 @@ impl<'a, R: Files> InputFiles<'a, R> {
     }
 
     /// Opens the file at a position, from 0.
-    fn open(&self, input: usize) -> Result<In<R::File>, InputFault> {
+    fn open(&self, input: usize) -> Result<R::File, InputFault> {
         let name = self.names.get(input).ok_or(InputFault::Open)?;
-        match fs::open(self.rt, name.as_str()) {
-            Ok(file) => Ok(In::new(file)),
-            Err(_) => Err(InputFault::Open),
-        }
+        fs::open(self.rt, name.as_str()).map_err(|_| InputFault::Open)
     }
+}
+
+/// How many bytes the system says that a file has. 0 where it does not say, or where they are more
+/// than can be read.
+fn told_length<F: OpenFile>(file: &F) -> usize {
+    let length = file.metadata().map_or(0, |metadata| metadata.len());
+    u32::try_from(length).unwrap_or(0) as usize
 }
 
 impl<R: Files> Inputs for InputFiles<'_, R> {
@@ -42,13 +47,18 @@ impl<R: Files> Inputs for InputFiles<'_, R> {
         input: usize,
         buffer: &'b mut Vec<u8, A>,
     ) -> Result<&'b [u8], InputFault> {
-        let mut file = self.open(input)?;
-        read_into(&mut file, u32::MAX, buffer).map_err(InputFault::Read)?;
+        let file = self.open(input)?;
+        buffer.clear();
+        // One allocation serves a whole file, and later files of at most its length.
+        buffer
+            .reserve_exact(told_length(&file))
+            .map_err(|_| InputFault::Read(ReadFault::Memory))?;
+        read_into(&mut In::new(file), u32::MAX, buffer).map_err(InputFault::Read)?;
         Ok(buffer)
     }
 
     fn check(&self, input: usize) -> Result<(), InputFault> {
-        let mut file = self.open(input)?;
-        skip_all(&mut file, u32::MAX).map_err(InputFault::Read)
+        let file = self.open(input)?;
+        skip_all(&mut In::new(file), u32::MAX).map_err(InputFault::Read)
     }
 }
