@@ -79,6 +79,15 @@ fn push_names<A: Allocator>(text: &mut String<A>, names: &[Name<'_>]) -> Result<
     Ok(())
 }
 
+/// How many bytes the names have together.
+fn names_length(names: &[Name<'_>]) -> usize {
+    let mut length = 0usize;
+    for name in names {
+        length = length.saturating_add(name.text.len());
+    }
+    length
+}
+
 /// Appends the lines of all feature codes.
 fn push_features<A: Allocator>(text: &mut String<A>, features: &[u32]) -> Result<(), AllocError>
     ensures { OnOk result (string_bytes text.new ≡ string_bytes text.old ++ flat_map feature_line features.now) }
@@ -117,6 +126,9 @@ impl<A: Allocator + Copy> Show<A> for Info {
         let stream = info_stream(alloc, file, &mut buffer)?;
         let info = pdb_info::Info::read(alloc, stream)?;
         let mut text = String::new(alloc);
+        // Names may share their bytes, and have far more together than the file. So the space for
+        // them is asked for before any of them is copied.
+        text.reserve(names_length(info.names()))?;
         push_header(&mut text, info.header())?;
         push_names(&mut text, info.names())?;
         push_features(&mut text, info.features())?;

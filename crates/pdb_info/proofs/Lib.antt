@@ -1,6 +1,7 @@
 pub mod GuidLaws
 pub mod MapLaws
 pub mod NameLaws
+pub mod EndLaws
 pub mod BucketLaws
 pub mod PairLaws
 pub mod InfoLaws

@@ -64,8 +64,9 @@ impl<'a, A: Allocator + Copy> Info<'a, A> {
     ///    all checks passed.
     ///
     /// One to three bytes after the last feature code are ignored. This allocates room for the
-    /// names and the feature codes of the stream, and nothing else. ("The PDB Info Stream", "Named
-    /// Stream Map".)
+    /// names and the feature codes of the stream, and while the names are read 4 bytes for each 64
+    /// bytes of the string buffer. It takes time in proportion to the stream. ("The PDB Info
+    /// Stream", "Named Stream Map".)
     pub fn read(alloc: A, stream: &'a [u8]) -> Result<Info<'a, A>, InfoFault>
         ensures value { IfOk result (HasInfo stream.now) }
         // A stream that has these parts is refused only when out of memory.

@@ -23,9 +23,9 @@
 //! a check that it fits. So a stream that announces more than it has is refused before anything is
 //! allocated.
 //!
-//! Each bit and each number is read a fixed number of times. The end of a name is searched from its
-//! offset on, once to check the name and once to read it. Names may share bytes of the buffer, so
-//! in a hostile stream the same bytes may be searched once for every pair.
+//! Each bit and each number is read a fixed number of times, and an info stream is read in linear
+//! time. Names may share bytes of the buffer, so the end of a name is not searched from its offset on:
+//! the next NUL is found once for each 64th byte of the buffer.
 //!
 //! What is proved: the bytes of a stream that is read are just what the format says for the values
 //! that were read (`HasInfo` of `specs/Info`). A stream of this form is refused only when out of
@@ -35,6 +35,7 @@
 //! The file `src/examples.rt` of the crate `acceptance` shows this crate in use, in a few lines.
 #![tactic(auto)]
 
+mod ends;
 mod fault;
 mod guid;
 mod header;

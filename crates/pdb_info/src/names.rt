@@ -4,11 +4,13 @@ ghost use Rattle.std.specs.Prelude.{◌≡◌, ◌+◌, ◌*◌, ◌≤◌, true
 ghost use Rattle.byte_fields.specs.Number.{number_at};
 ghost use Rattle.byte_fields.specs.Check.{first_failing, checks_below};
 ghost use Rattle.pdb_info.specs.Names.{IsMap, is_named, named_in, pair_at, pair_checks, pair_offset, pairs_offset, names_below, size_of, buffer_of, features_of, features_offset};
+ghost use Rattle.pdb_info.specs.Ends.{AreEnds};
 ghost use Rattle.pdb_info.specs.Name.{named};
 
+use crate::ends::{between, end_at, ends_of};
 use crate::fault::InfoFault;
 use crate::map::NameMap;
-use byte_fields::{name_at, u32_at};
+use byte_fields::u32_at;
 use std::alloc::Allocator;
 
 /// A stream with its name, which is lent from the info stream. ("The PDB Info Stream", "Named
@@ -22,28 +24,29 @@ pub struct Name<'a> {
 }
 
 impl NameMap {
-    /// The stream of the `k`-th pair, with its name.
+    /// The stream of the `k`-th pair, with its name. The ends of names at the parts of the buffer are
+    /// known.
     #[tactic(auto, unfolding(crate::specs::Names::pair_at))]
-    fn name<'a>(&self, stream: &'a [u8], k: u32) -> Name<'a>
+    fn name<'a>(&self, stream: &'a [u8], ends: &[u32], k: u32) -> Name<'a>
         requires map { IsMap stream.now self.now }
+        requires ends { AreEnds (buffer_of stream.now) ends.now }
         requires inside { pair_offset stream.now k + 8 ≤ length stream.now }
         requires named { is_named (buffer_of stream.now) (number_at 4 stream.now (pair_offset stream.now k)) ≡ true }
         ensures { named result ≡ named_in (buffer_of stream.now) (pair_at stream.now k) }
     {
         let offset = self.pairs_offset + 8 * k as usize;
-        let text = name_at(
-            self.buffer(stream),
-            u32_at(stream, offset) as usize,
-        ).unwrap_or_default();
+        let buffer = self.buffer(stream);
+        let start = u32_at(stream, offset) as usize;
         Name {
-            text,
+            text: between(buffer, start, end_at(buffer, ends, start)),
             stream: u32_at(stream, offset + 4),
         }
     }
 
-    /// The streams of all pairs, with their names. This allocates room for exactly these names.
+    /// The streams of all pairs, with their names. This allocates room for exactly these names, and
+    /// meanwhile 4 bytes for each 64 bytes of the buffer.
     #[tactic(auto, using(crate::proofs::PairLaws::names_more))]
-    pub(crate) fn names<'a, A: Allocator>(
+    pub(crate) fn names<'a, A: Allocator + Copy>(
         &self,
         alloc: A,
         stream: &'a [u8],
@@ -54,9 +57,10 @@ impl NameMap {
         ensures value { IfOk result (λ names. map named names.items ≡ names_below stream.now (size_of stream.now)) }
         ensures memory { IfErr result (λ fault. fault ≡ InfoFault.Memory) }
     {
+        let ends = ends_of(alloc, self.buffer(stream))?;
         let mut names = Vec::with_capacity(alloc, self.size as usize)?;
         for k in 0..self.size {
-            names.push(self.name(stream, k))?;
+            names.push(self.name(stream, &ends, k))?;
         }
         Ok(names)
     }
