@@ -26,12 +26,13 @@ demo:
 	@echo 'The order of the files makes no difference: the same bytes.'
 
 # The gate: every proof from nothing, every must-fail edit, every test; then the program as a
-# process, and on the shipped files.
+# process, on the shipped files, and a minute of damaged ones.
 test:
 	$(RT) ci
 	$(MAKE) $(PROGRAM)
 	tests/program $(PROGRAM)
 	tests/examples $(PROGRAM)
+	PDBMERGE=$(PROGRAM) tests/campaign 60 1
 
 install: $(PROGRAM)
 	install -D $(PROGRAM) $(DESTDIR)$(PREFIX)/bin/pdbmerge
