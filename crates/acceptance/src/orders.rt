@@ -5,7 +5,7 @@ ghost use Rattle.std.specs.Prelude.{◌≡◌, ◌≤◌, ◌<◌, [], length, I
 ghost use Rattle.std.specs.List.{All};
 ghost use Rattle.topological_order.specs.Graph.{NamesNodes};
 
-use linked_list_allocator::LocalHeap;
+use samples::refusals;
 use std::alloc::{AllocError, Allocator, Global};
 use std::process::Abort;
 use std::test::Fail;
@@ -158,33 +158,26 @@ const SMALL: [&[u32]; 4] = [&[2, 1], &[2], &[], &[0, 1, 2]];
 
 #[test]
 fn refused_memory(rt: HostRuntime) -> Result<(), Fail> {
-    // how often a push was refused, and how often the order was
-    let mut pushes = 0u32;
-    let mut orders = 0u32;
-    let mut found = 0u32;
-    for size in 0..64usize {
-        let heap = LocalHeap::new(rt.alloc(), 4096 + 16 * size)?;
-        // takes up most of the heap
-        let _filler: Vec<u8, &LocalHeap> = Vec::with_capacity(&heap, 4072)?;
-        let mut graph = Graph::with_capacity(&heap, 0)?;
+    refusals(rt.alloc(), 16, 64, |heap| {
+        let Ok(mut graph) = Graph::with_capacity(heap, 0) else {
+            return Ok(true);
+        };
         let pushed = push_each(&rt, &mut graph, &SMALL);
         assert_eq!(rt; (graph.len(), graph.is_empty()), (pushed, pushed == 0));
         if pushed < SMALL.len() {
-            pushes = pushes.saturating_add(1);
-            continue;
+            return Ok(true);
         }
-        match order_of(&rt, &heap, &graph) {
+        match order_of(&rt, heap, &graph) {
             Ok(order) => {
-                found = found.saturating_add(1);
                 assert_eq!(rt; order.as_slice(), [2, 1, 0, 3].as_slice());
+                Ok(false)
             }
             Err(fault) => {
-                orders = orders.saturating_add(1);
                 assert!(rt; matches!(fault, OrderFault::Memory));
+                Ok(true)
             }
         }
-    }
-    assert!(rt; 0 < pushes && 0 < orders && 0 < found);
+    })?;
     Ok(())
 }
 

@@ -3,7 +3,7 @@
 ghost use Rattle.std.specs.Prelude.{◌≤◌, length};
 
 use key_chains::KeyChains;
-use linked_list_allocator::LocalHeap;
+use samples::refusals_amid;
 use std::alloc::Allocator;
 use std::process::Abort;
 use std::test::Fail;
@@ -63,26 +63,19 @@ fn chains_walked_by_hand(rt: HostRuntime) -> Result<(), Fail> {
 #[test]
 fn a_refused_push_changes_nothing(rt: HostRuntime) -> Result<(), Fail> {
     let keys = [3u32, 1, 4, 1, 5, 9, 2, 6, 5, 3, 5, 8];
-    let mut refused = 0u32;
-    for size in 0..64usize {
-        let heap = LocalHeap::new(rt.alloc(), 4096 + 16 * size)?;
-        // takes up the space that the chains get later
-        let filler: Vec<u8, &LocalHeap> = Vec::with_capacity(&heap, 4000)?;
-        let mut chains = KeyChains::new(&heap);
+    refusals_amid(rt.alloc(), 1024, 16, |heap, refusal| {
+        let filler = refusal.begin(heap)?;
+        let mut chains = KeyChains::new(heap);
         let pushed = push_each(&rt, &mut chains, &keys);
         assert_eq!(rt; chains.keys(), &keys[..pushed.min(keys.len())]);
-        if pushed < keys.len() {
-            refused = refused.saturating_add(1);
-            drop(filler);
-            assert_eq!(rt;
-                push_each(&rt, &mut chains, &keys[pushed..]),
-                keys.len() - pushed
-            );
-        }
+        drop(filler);
+        heap.stop_failing();
+        let later = push_each(&rt, &mut chains, keys.get(pushed..).unwrap_or_default());
+        assert_eq!(rt; pushed + later, keys.len());
         assert_eq!(rt; chains.keys(), keys.as_slice());
         assert!(rt; has_chain(&chains, 1, &[3, 1]));
         assert!(rt; has_chain(&chains, 5, &[10, 8, 4]));
-    }
-    assert!(rt; 0 < refused && refused < 64);
+        Ok(pushed < keys.len())
+    })?;
     Ok(())
 }

@@ -2,8 +2,8 @@
 
 ghost use Rattle.std.specs.Prelude.{◌≤◌, length};
 
-use linked_list_allocator::LocalHeap;
 use packed_texts::PackedTexts;
+use samples::refusals_amid;
 use std::alloc::Allocator;
 use std::process::Abort;
 use std::test::Fail;
@@ -46,24 +46,17 @@ fn push_each<A: Allocator>(rt: &impl Abort, texts: &mut PackedTexts<A>, more: &[
 
 #[test]
 fn a_refused_push_changes_nothing(rt: HostRuntime) -> Result<(), Fail> {
-    let mut refused = 0u32;
-    for size in 0..40usize {
-        let heap = LocalHeap::new(rt.alloc(), 1024 + 8 * size)?;
-        // takes up the space that the texts get later
-        let filler: Vec<u8, &LocalHeap> = Vec::with_capacity(&heap, 1000)?;
-        let mut texts = PackedTexts::new(&heap);
+    refusals_amid(rt.alloc(), 512, 8, |heap, refusal| {
+        let filler = refusal.begin(heap)?;
+        let mut texts = PackedTexts::new(heap);
         let pushed = push_each(&rt, &mut texts, &TEXTS);
         assert_eq!(rt; texts.len(), pushed);
-        if pushed < TEXTS.len() {
-            refused = refused.saturating_add(1);
-            drop(filler);
-            assert_eq!(rt;
-                push_each(&rt, &mut texts, &TEXTS[pushed..]),
-                TEXTS.len() - pushed
-            );
-        }
+        drop(filler);
+        heap.stop_failing();
+        let later = push_each(&rt, &mut texts, TEXTS.get(pushed..).unwrap_or_default());
+        assert_eq!(rt; pushed + later, TEXTS.len());
         assert_eq!(rt; texts.bytes(), b"foureight bytwelve bytes".as_slice());
-    }
-    assert!(rt; 0 < refused && refused < 40);
+        Ok(pushed < TEXTS.len())
+    })?;
     Ok(())
 }

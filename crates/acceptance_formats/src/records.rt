@@ -1,7 +1,7 @@
 //! What no clause says: the texts of the faults, that a call succeeds, and out of memory.
 
 use linked_list_allocator::LocalHeap;
-use samples::{CONST, TO_INT, pointer, put, refusals, stream_of, stream_with};
+use samples::{CONST, TO_INT, TestHeap, pointer, put, refusals, stream_of, stream_with};
 use std::alloc::Allocator;
 use std::test::Fail;
 use tpi_records::{Records, TpiFault, TpiHeader, tpi_header_bytes};
@@ -94,6 +94,9 @@ fn growth_is_refused(rt: HostRuntime) -> Result<(), Fail> {
     };
     for room in 0..64usize {
         let heap = LocalHeap::new(rt.alloc(), room.saturating_mul(16))?;
+        assert_eq!(rt; fault_of(&heap, &short), Some(fault), "{room}");
+        let heap = TestHeap::new(LocalHeap::new(rt.alloc(), 4096)?);
+        heap.fail_at(room as u64);
         assert_eq!(rt; fault_of(&heap, &short), Some(fault), "{room}");
     }
     Ok(())

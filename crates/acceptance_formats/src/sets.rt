@@ -2,8 +2,7 @@
 
 ghost use Rattle.std.specs.Prelude.{◌≤◌, length};
 
-use linked_list_allocator::LocalHeap;
-use samples::{Constant, folding};
+use samples::{Constant, folding, refusals_amid};
 use std::alloc::Allocator;
 use std::hash::BuildHasher;
 use std::process::Abort;
@@ -84,25 +83,18 @@ const TEXTS: [&[u8]; 3] = [b"four", b"eight by", b"twelve bytes"];
 
 #[test]
 fn a_refused_text_changes_nothing(rt: HostRuntime) -> Result<(), Fail> {
-    let mut refused = 0u32;
-    for size in 0..64usize {
-        let heap = LocalHeap::new(rt.alloc(), 4096 + 16 * size)?;
-        // takes up the space that the texts get later
-        let filler: Vec<u8, &LocalHeap> = Vec::with_capacity(&heap, 4000)?;
-        let mut texts = TextSet::with_hasher(&heap, Constant);
+    refusals_amid(rt.alloc(), 1024, 16, |heap, refusal| {
+        let filler = refusal.begin(heap)?;
+        let mut texts = TextSet::with_hasher(heap, Constant);
         let interned = intern_each(&rt, &mut texts, &TEXTS);
         assert_eq!(rt; texts.len(), interned);
-        if interned < TEXTS.len() {
-            refused = refused.saturating_add(1);
-            drop(filler);
-            assert_eq!(rt;
-                intern_each(&rt, &mut texts, &TEXTS[interned..]),
-                TEXTS.len() - interned
-            );
-        }
+        drop(filler);
+        heap.stop_failing();
+        let later = intern_each(&rt, &mut texts, TEXTS.get(interned..).unwrap_or_default());
+        assert_eq!(rt; interned + later, TEXTS.len());
         assert_eq!(rt; texts.bytes(), b"foureight bytwelve bytes".as_slice());
         assert_eq!(rt; intern(&rt, &mut texts, b"eight by"), Some(1));
-    }
-    assert!(rt; 0 < refused && refused < 64);
+        Ok(interned < TEXTS.len())
+    })?;
     Ok(())
 }

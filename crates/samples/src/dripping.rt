@@ -4,13 +4,14 @@ ghost use Rattle.std.specs.Prelude.{None};
 
 use msf_blocks::Source;
 
-/// Gives one byte a call, and counts the calls. After its last byte it ends, or it fails where
-/// `fails` is true.
+/// Gives at most `step` bytes a call, and counts the calls. After its last byte it ends, or it fails
+/// where `fails` is true.
 ///
 /// Clauses do not see its bytes.
 #[derive(Drop)]
 pub struct Dripping<'a> {
     pub bytes: &'a [u8],
+    pub step: usize,
     pub calls: usize,
     pub fails: bool,
 }
@@ -22,14 +23,13 @@ impl Source for Dripping<'_> {
 
     fn fetch(&mut self, into: &mut [u8]) -> Option<usize> {
         self.calls = self.calls.saturating_add(1);
-        let Some(place) = into.first_mut() else {
-            return Some(0);
-        };
-        let Some((byte, others)) = self.bytes.split_first() else {
-            return if self.fails { None } else { Some(0) };
-        };
-        *place = *byte;
-        self.bytes = others;
-        Some(1)
+        if self.bytes.is_empty() && self.fails {
+            return None;
+        }
+        let count = into.len().min(self.bytes.len()).min(self.step);
+        let (given, left) = self.bytes.split_at(count);
+        into[..count].copy_from_slice(given);
+        self.bytes = left;
+        Some(count)
     }
 }

@@ -4,7 +4,8 @@
 //!   [`offset`] has the places of its parts.
 //! - [`CONST`], [`pointer`] and the like are type records. [`stream_with`] and [`stream_of`] give a
 //!   stream of records, and [`pdb_with`] and [`pdb`] write a file with it.
-//! - [`refusals`] makes a try on heaps of increasing size.
+//! - [`refusals`] makes a try on heaps of increasing size, and on heaps of which one allocation
+//!   fails.
 //! - [`Narrow`] is a sink with little room. [`Dripping`] is a source that gives one byte a call.
 //! - [`folding`] is a good hasher. For [`Constant`] all texts have one hash.
 //!
@@ -21,7 +22,7 @@ mod records;
 
 pub use dripping::Dripping;
 pub use file::{LENGTH, offset, put, sample};
-pub use growth::refusals;
+pub use growth::{Refusal, TestHeap, refusals, refusals_amid};
 pub use hashers::{Constant, folding};
 pub use images::{GUID, LIMIT, pdb, pdb_with, settings};
 pub use narrow::Narrow;

@@ -6,6 +6,7 @@ use msf_blocks::Sink;
 use std::alloc::Global;
 
 /// Takes at most `step` bytes a call and `room` bytes in all. A call that takes nothing breaks it.
+/// From then on it takes bytes again, so a test sees if anything is put into a broken sink.
 ///
 /// A test sees the bytes that it took. Clauses do not.
 #[derive(Drop)]
@@ -34,12 +35,13 @@ impl Sink for Narrow {
     ghost is_broken = { λ s. s.broken };
 
     fn put(&mut self, bytes: &[u8]) -> usize {
-        let count = bytes.len().min(self.room).min(self.step);
+        let room = if self.broken { usize::MAX } else { self.room };
+        let count = bytes.len().min(room).min(self.step);
         if self.taken.extend_from_slice(&bytes[..count]).is_err() || count == 0 {
             self.broken = true;
             return 0;
         }
-        self.room -= count;
+        self.room = self.room.saturating_sub(count);
         count
     }
 }

@@ -4,7 +4,7 @@ ghost use Rattle.std.specs.Prelude.{None};
 
 use byte_io::{InputFault, Inputs, Out, ReadFault};
 use pdb_commands::{RunFault, run_merge};
-use samples::{folding, offset, put, refusals, sample, settings};
+use samples::{Narrow, folding, offset, put, refusals, sample, settings};
 use std::alloc::{Allocator, Global};
 use std::test::Fail;
 
@@ -171,28 +171,60 @@ fn an_unread_file_comes_before_other_faults(rt: HostRuntime) -> Result<(), Fail>
     Ok(())
 }
 
+/// Merges the sample into a sink that takes `room` bytes, and reports into one that takes
+/// `report_room`. Both take at most `step` bytes a call. Returns the answer and what they took.
+fn ran_into(
+    alloc: Global,
+    sample: &[u8],
+    room: usize,
+    report_room: usize,
+    step: usize,
+) -> Result<Answer, Fail> {
+    let files = [sample];
+    let mut out = Narrow::new(alloc, step, room);
+    let mut report = Narrow::new(alloc, step, report_room);
+    let answer = run_merge(
+        alloc,
+        files.as_slice(),
+        &settings(24, 4096)?,
+        &mut out,
+        &mut report,
+        folding(),
+    );
+    Ok((answer, out.taken, report.taken))
+}
+
 #[test]
 fn a_report_that_is_not_taken(rt: HostRuntime) -> Result<(), Fail> {
     let sample = sample(rt.alloc())?;
-    let settings = settings(24, 4096)?;
     let (answer, want, report) = ran(rt.alloc(), rt.alloc(), &[&sample], 24)?;
     assert_eq!(rt; answer, Ok(()));
     assert_eq!(rt; report.as_slice(), REPORT.as_bytes());
-    let files = [sample.as_slice()];
     for room in 0..REPORT.len() {
-        let mut file = Vec::new(rt.alloc());
-        let mut report = [0u8; 32];
-        let answer = run_merge(
-            rt.alloc(),
-            files.as_slice(),
-            &settings,
-            &mut Out::new(&mut file),
-            &mut Out::new(&mut report[..room]),
-            folding(),
-        );
+        let (answer, file, report) = ran_into(rt.alloc(), &sample, LENGTH, room, 5000)?;
         assert_eq!(rt; answer, Err(RunFault::Write));
         assert!(rt; file == want);
-        assert_eq!(rt; &report[..room], &REPORT.as_bytes()[..room]);
+        assert_eq!(rt; report.as_slice(), &REPORT.as_bytes()[..room]);
+    }
+    Ok(())
+}
+
+#[test]
+fn a_file_that_is_not_taken(rt: HostRuntime) -> Result<(), Fail> {
+    let sample = sample(rt.alloc())?;
+    let (answer, want, _) = ran(rt.alloc(), rt.alloc(), &[&sample], 24)?;
+    assert_eq!(rt; answer, Ok(()));
+    for step in [1, 5000] {
+        for room in [0, 1, 55, 56, 4095, 4096, 4097, 12287, 28671] {
+            let (answer, file, report) = ran_into(rt.alloc(), &sample, room, 100, step)?;
+            assert_eq!(rt; answer, Err(RunFault::Write));
+            assert!(rt; file.len() == room && want.starts_with(&file));
+            assert!(rt; report.is_empty());
+        }
+        let (answer, file, report) = ran_into(rt.alloc(), &sample, LENGTH, 100, step)?;
+        assert_eq!(rt; answer, Ok(()));
+        assert!(rt; file == want);
+        assert_eq!(rt; report.as_slice(), REPORT.as_bytes());
     }
     Ok(())
 }
@@ -209,8 +241,9 @@ fn merges_on_small_heaps(rt: HostRuntime) -> Result<(), Fail> {
             return Ok(false);
         }
         assert!(rt; matches!(answer, Err(RunFault::Memory)));
-        // The merge needs more memory than the report, so no file stands without its report.
-        assert!(rt; file.is_empty() && report.is_empty());
+        // Nothing is written, or the whole file if there is no memory for the report.
+        assert!(rt; file.is_empty() || file.len() == LENGTH);
+        assert!(rt; report.is_empty());
         Ok(true)
     })?;
     assert!(rt; 8 < refused);

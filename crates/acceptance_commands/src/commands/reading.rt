@@ -1,8 +1,8 @@
 //! Sources that give little, that give too much, or that fail.
 
-use super::shown::SAMPLE;
+use super::each::COMMANDS;
 use byte_io::{Out, ReadFault, read_all};
-use pdb_commands::run_records;
+use pdb_commands::RunFault;
 use samples::{Dripping, sample};
 use std::test::Fail;
 
@@ -18,6 +18,7 @@ fn sources_at_the_limit(rt: HostRuntime) {
     ] {
         let mut source = Dripping {
             bytes: &bytes[..len],
+            step: 1,
             calls: 0,
             fails,
         };
@@ -30,32 +31,37 @@ fn sources_at_the_limit(rt: HostRuntime) {
 #[test]
 fn a_source_that_gives_one_byte_a_call(rt: HostRuntime) -> Result<(), Fail> {
     let file = sample(rt.alloc())?;
-    let mut source = Dripping {
-        bytes: &file,
-        calls: 0,
-        fails: false,
-    };
-    let mut text = Vec::new(rt.alloc());
-    let answer = run_records(rt.alloc(), &mut source, u32::MAX, &mut Out::new(&mut text));
-    assert!(rt; answer.is_ok());
-    assert_eq!(rt; text.as_slice(), SAMPLE.as_bytes());
+    for (command, want) in COMMANDS {
+        let mut source = Dripping {
+            bytes: &file,
+            step: 1,
+            calls: 0,
+            fails: false,
+        };
+        let mut text = Vec::new(rt.alloc());
+        command.run(rt.alloc(), &mut source, &mut Out::new(&mut text))?;
+        assert_eq!(rt; text.as_slice(), want.as_bytes());
+    }
     Ok(())
 }
 
 #[test]
-fn a_source_that_fails_late(rt: HostRuntime) -> Result<(), Fail> {
+fn a_source_that_fails_at_each_call(rt: HostRuntime) -> Result<(), Fail> {
     let file = sample(rt.alloc())?;
-    for len in [0, 1, 56, 3583, 3584] {
-        let mut source = Dripping {
-            bytes: file.get(..len).unwrap_or_default(),
-            calls: 0,
-            fails: true,
-        };
-        let mut text = Vec::new(rt.alloc());
-        let answer = run_records(rt.alloc(), &mut source, u32::MAX, &mut Out::new(&mut text));
-        let fault = answer.err().ok_or("it was read")?.to_string(rt.alloc())?;
-        assert_eq!(rt; fault.as_str(), "37 Read");
-        assert!(rt; text.is_empty());
+    // A call gives at most 64 bytes, so the file takes 56 calls.
+    for (command, _) in COMMANDS {
+        for calls in 0..57usize {
+            let mut source = Dripping {
+                bytes: file.get(..64 * calls).unwrap_or_default(),
+                step: 64,
+                calls: 0,
+                fails: true,
+            };
+            let mut text = Vec::new(rt.alloc());
+            let answer = command.run(rt.alloc(), &mut source, &mut Out::new(&mut text));
+            assert!(rt; matches!(answer, Err(RunFault::Read(ReadFault::Read))));
+            assert!(rt; text.is_empty() && source.calls == calls + 1);
+        }
     }
     Ok(())
 }

@@ -1,33 +1,37 @@
 //! Sinks that fail.
 
-use super::shown::SAMPLE;
-use msf_blocks::In;
-use pdb_commands::run_records;
+use super::each::{COMMANDS, Command};
+use byte_io::In;
+use pdb_commands::RunFault;
 use samples::{Narrow, sample};
 use std::alloc::Global;
 use std::test::Fail;
 
-/// Runs the command on the sample with a sink that takes `room` bytes.
-fn written(alloc: Global, room: usize) -> Result<(Narrow, Option<String>), Fail> {
-    let file = sample(alloc)?;
+/// Runs a command on a file with a sink that takes `room` bytes. Returns the sink and the answer.
+fn written(
+    alloc: Global,
+    command: Command,
+    file: &[u8],
+    room: usize,
+) -> (Narrow, Result<(), RunFault>) {
     let mut out = Narrow::new(alloc, 5, room);
-    let fault = match run_records(alloc, &mut In::new(file.as_slice()), u32::MAX, &mut out) {
-        Ok(()) => None,
-        Err(fault) => Some(fault.to_string(alloc)?),
-    };
-    Ok((out, fault))
+    let answer = command.run(alloc, &mut In::new(file), &mut out);
+    (out, answer)
 }
 
 #[test]
 fn sinks_that_fail_after_each_byte(rt: HostRuntime) -> Result<(), Fail> {
-    let text = SAMPLE.as_bytes();
-    for room in 0..text.len() {
-        let (out, fault) = written(rt.alloc(), room)?;
-        assert_eq!(rt; fault.ok_or("it was written")?.as_str(), "36 Write");
-        assert_eq!(rt; out.taken.as_slice(), &text[..room]);
+    let file = sample(rt.alloc())?;
+    for (command, text) in COMMANDS {
+        let text = text.as_bytes();
+        for room in 0..text.len() {
+            let (out, answer) = written(rt.alloc(), command, &file, room);
+            assert!(rt; matches!(answer, Err(RunFault::Write)));
+            assert_eq!(rt; out.taken.as_slice(), &text[..room]);
+        }
+        let (out, answer) = written(rt.alloc(), command, &file, text.len());
+        assert!(rt; answer.is_ok());
+        assert_eq!(rt; out.taken.as_slice(), text);
     }
-    let (out, fault) = written(rt.alloc(), text.len())?;
-    assert!(rt; fault.is_none());
-    assert_eq!(rt; out.taken.as_slice(), text);
     Ok(())
 }

@@ -1,7 +1,6 @@
 //! Merging: what is written for some lists of files, the faults, sinks that break, and out of
 //! memory.
 
-use linked_list_allocator::LocalHeap;
 use msf_blocks::{MsfFault, Out};
 use msf_streams::WriteFault;
 use pdb_merge::{
@@ -10,10 +9,12 @@ use pdb_merge::{
 };
 use samples::{
     CONST, DECLARATION, DEFINITION, LIMIT, LIST, LIST_BEFORE_FIRST, MEMBER_OF_FIRST,
-    MEMBER_OF_SECOND, NO_MEMBER, Narrow, TO_FIFTH, TO_FIRST, TO_FOURTH, TO_INT, TO_SECOND,
-    TO_THIRD, VOLATILE, bytes_of, folding, pdb_with, refusals, sample, settings,
+    MEMBER_OF_SECOND, NO_MEMBER, Narrow, Refusal, TO_FIFTH, TO_FIRST, TO_FOURTH, TO_INT, TO_SECOND,
+    TO_THIRD, TestHeap, VOLATILE, bytes_of, folding, pdb_with, refusals, refusals_amid, sample,
+    settings,
 };
 use std::alloc::{Allocator, Global};
+use std::hash::BuildHasher;
 use std::test::Fail;
 use type_trees::Canon;
 
@@ -329,30 +330,21 @@ fn merges_are_refused_growth_in_turn(rt: HostRuntime) -> Result<(), Fail> {
     Ok(())
 }
 
-/// Writes the file of a list while `taken` bytes of a heap are in use, and again after they are
-/// freed.
-fn written_beside<A: Allocator + Copy>(
-    heap: A,
+/// Writes the file of a list while memory is refused, and again after that.
+fn written_amid(
+    heap: &TestHeap,
+    refusal: Refusal,
     alloc: Global,
-    canon: &Canon<A>,
-    taken: usize,
+    canon: &Canon<&TestHeap>,
 ) -> Result<(Result<(), WriteFault>, Vec<u8>, Vec<u8>), Fail> {
+    let settings = settings(LIMIT, 4096)?;
     let mut file = Vec::new(alloc);
     let mut again = Vec::new(alloc);
-    let filler: Vec<u8, A> = Vec::with_capacity(heap, taken)?;
-    let answer = write_merged(
-        heap,
-        canon,
-        &settings(LIMIT, 4096)?,
-        &mut Out::new(&mut file),
-    );
+    let filler = refusal.begin(heap);
+    let answer = write_merged(heap, canon, &settings, &mut Out::new(&mut file));
     drop(filler);
-    write_merged(
-        heap,
-        canon,
-        &settings(LIMIT, 4096)?,
-        &mut Out::new(&mut again),
-    )?;
+    heap.stop_failing();
+    write_merged(heap, canon, &settings, &mut Out::new(&mut again))?;
     Ok((answer, file, again))
 }
 
@@ -361,22 +353,66 @@ fn writers_are_refused_growth_in_turn(rt: HostRuntime) -> Result<(), Fail> {
     let first = pdb_with(rt.alloc(), &[VOLATILE, CONST, TO_FIRST, TO_SECOND])?;
     let second = pdb_with(rt.alloc(), &[TO_INT, CONST])?;
     let want = pdb_with(rt.alloc(), &[CONST, VOLATILE, TO_INT, TO_FIRST, TO_SECOND])?;
-    let heap = LocalHeap::new(rt.alloc(), 65536)?;
-    let canon = listed(&heap, &[&first, &second], 60)?
-        .ok()
-        .ok_or("no list")?;
-    let mut refused = 0u32;
-    for step in 0..400usize {
-        let (answer, file, again) = written_beside(&heap, rt.alloc(), &canon, 64000 - 32 * step)?;
+    let refused = refusals_amid(rt.alloc(), 16384, 64, |heap, refusal| {
+        let canon = listed(heap, &[&first, &second], 60)?.ok().ok_or("no list")?;
+        let (answer, file, again) = written_amid(heap, refusal, rt.alloc(), &canon)?;
         assert!(rt; again == want);
         if answer.is_ok() {
             assert!(rt; file == want);
-        } else {
-            refused = refused.saturating_add(1);
-            assert_eq!(rt; answer, Err(WriteFault::Memory));
-            assert!(rt; file.is_empty());
+            return Ok(false);
         }
+        assert_eq!(rt; answer, Err(WriteFault::Memory));
+        assert!(rt; file.is_empty());
+        Ok(true)
+    })?;
+    assert!(rt; 2 < refused);
+    Ok(())
+}
+
+/// The bytes of the types that a merge has taken.
+fn bytes_of_merge<S: BuildHasher + Drop, A: Allocator + Copy>(
+    heap: A,
+    alloc: Global,
+    merge: &Merge<S, A>,
+) -> Result<Vec<u8>, Fail> {
+    let canon = merge.finish(heap)?;
+    let mut bytes = Vec::new(alloc);
+    bytes.extend_from_slice(canon.bytes())?;
+    Ok(bytes)
+}
+
+#[test]
+fn a_merge_goes_on_after_refused_growth(rt: HostRuntime) -> Result<(), Fail> {
+    let first = pdb_with(rt.alloc(), &[VOLATILE, CONST, TO_FIRST, TO_SECOND])?;
+    // The second file is in the order of its records, the third one is not.
+    let second = pdb_with(rt.alloc(), &[TO_INT, CONST])?;
+    let third = pdb_with(rt.alloc(), &[TO_SECOND, TO_INT])?;
+    let before = bytes_of(rt.alloc(), &[CONST, VOLATILE, TO_FIRST, TO_SECOND])?;
+    let with_second = [CONST, VOLATILE, TO_INT, TO_FIRST, TO_SECOND];
+    let with_third = [CONST, VOLATILE, TO_INT, TO_FIRST, TO_SECOND, TO_THIRD];
+    for (file, records) in [
+        (second, with_second.as_slice()),
+        (third, with_third.as_slice()),
+    ] {
+        let want = bytes_of(rt.alloc(), records)?;
+        refusals_amid(rt.alloc(), 8192, 32, |heap, refusal| {
+            let mut buffer = Buffer::new(heap);
+            let mut merge = Merge::new(heap, 1000, folding());
+            merge
+                .add(heap, &first, &mut buffer)
+                .ok()
+                .ok_or("not added")?;
+            let filler = refusal.begin(heap);
+            let answer = merge.add(heap, &file, &mut buffer);
+            drop(filler);
+            heap.stop_failing();
+            let after = bytes_of_merge(heap, rt.alloc(), &merge)?;
+            let refused = matches!(answer, Err(AddFault::Memory));
+            assert!(rt; refused && after == before || answer.is_ok() && after == want);
+            merge.add(heap, &file, &mut buffer).ok().ok_or("not added")?;
+            assert!(rt; bytes_of_merge(heap, rt.alloc(), &merge)? == want);
+            Ok(refused)
+        })?;
     }
-    assert!(rt; 2 < refused && refused < 400);
     Ok(())
 }

@@ -1,7 +1,7 @@
 //! A file whose TPI stream is in consecutive blocks, and one in which they are in falling order.
 
-use super::read;
 use super::sizes::merged_at;
+use super::{read, read_twice};
 use linked_list_allocator::LocalHeap;
 use pdb_merge::{Buffer, PdbFault, read_records};
 use samples::{pdb, pointer, refusals};
@@ -94,16 +94,7 @@ fn a_buffer_grows_in_its_own_memory(rt: HostRuntime) -> Result<(), Fail> {
 fn growth_is_refused(rt: HostRuntime) -> Result<(), Fail> {
     let falling = falling(rt.alloc(), &rising(rt.alloc())?)?;
     refusals(rt.alloc(), 64, 64, |heap| {
-        let mut buffer = Buffer::new(heap);
-        let found = read(heap, &falling, &mut buffer);
-        if matches!(found, Err(PdbFault::Memory)) {
-            return Ok(true);
-        }
-        assert_eq!(rt; found.ok(), Some((130, 1560, 1)));
-        // The old bytes are dropped first, so the heap has room for the same bytes again.
-        let again = read(heap, &falling, &mut buffer);
-        assert_eq!(rt; again.ok(), Some((130, 1560, 1)));
-        Ok(false)
+        read_twice(heap, &falling, (130, 1560, 1))
     })?;
     Ok(())
 }

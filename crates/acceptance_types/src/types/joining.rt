@@ -4,10 +4,10 @@
 use linked_list_allocator::LocalHeap;
 use samples::{
     CONST, Constant, DECLARATION, DEFINITION, LIST, LIST_BEFORE_FIRST, LIST_BEFORE_SECOND,
-    MEMBER_OF_FIRST, MEMBER_OF_SECOND, TO_FIRST, TO_INT, TO_SECOND, VOLATILE, bytes_of, folding,
-    stream_with,
+    MEMBER_OF_FIRST, MEMBER_OF_SECOND, Refusal, TO_FIRST, TO_INT, TO_SECOND, TestHeap, VOLATILE,
+    bytes_of, folding, refusals_amid, stream_with,
 };
-use std::alloc::{AllocError, Allocator, Global};
+use std::alloc::{Allocator, Global};
 use std::hash::BuildHasher;
 use std::test::Fail;
 use tpi_records::Records;
@@ -180,11 +180,10 @@ fn copied<A: Allocator>(alloc: Global, canon: &Canon<A>) -> Result<Vec<u8>, Fail
     Ok(bytes)
 }
 
-/// Adds the types of a second stream to those of a first at this limit, while some bytes of the
-/// heap are taken.
-fn add_beside<A: Allocator + Copy>(
-    heap: A,
-    taken: usize,
+/// Adds the types of a second stream to those of a first at this limit, while memory is refused.
+fn add_amid(
+    heap: &TestHeap,
+    refusal: Refusal,
     limit: u32,
     alloc: Global,
     first: &[u8],
@@ -193,19 +192,20 @@ fn add_beside<A: Allocator + Copy>(
     let mut table = Table::with_hasher(heap, folding());
     table.add(heap, &types_of(heap, first)?, LIMIT)?;
     let types = types_of(heap, second)?;
-    let filler: Result<Vec<u8, A>, AllocError> = Vec::with_capacity(heap, taken);
+    let filler = refusal.begin(heap);
     let answer = table.add(heap, &types, limit);
     drop(filler);
+    heap.stop_failing();
     let after = copied(alloc, &table.finish(heap)?)?;
     table.add(heap, &types, LIMIT)?;
     Ok((answer, after, copied(alloc, &table.finish(heap)?)?))
 }
 
-/// Adds the records of a second stream, as they stand, to the types of a first one, while some bytes
-/// of the heap are taken. Where they are not added, the answer is out of memory.
-fn add_records_beside<A: Allocator + Copy>(
-    heap: A,
-    taken: usize,
+/// Adds the records of a second stream, as they stand, to the types of a first one, while memory is
+/// refused. Where they are not added, the answer is out of memory.
+fn add_records_amid(
+    heap: &TestHeap,
+    refusal: Refusal,
     alloc: Global,
     first: &[u8],
     second: &[u8],
@@ -213,23 +213,23 @@ fn add_records_beside<A: Allocator + Copy>(
     let mut table = Table::with_hasher(heap, folding());
     table.add(heap, &types_of(heap, first)?, LIMIT)?;
     let records = Records::read(heap, second)?;
-    let filler: Result<Vec<u8, A>, AllocError> = Vec::with_capacity(heap, taken);
+    let filler = refusal.begin(heap);
     let answer = if table.add_records(heap, &records, LIMIT) {
         Ok(())
     } else {
         Err(JoinFault::Memory)
     };
     drop(filler);
+    heap.stop_failing();
     let after = copied(alloc, &table.finish(heap)?)?;
     table.add(heap, &types_of(heap, second)?, LIMIT)?;
     Ok((answer, after, copied(alloc, &table.finish(heap)?)?))
 }
 
-/// Joins a list with the types of a second stream at this limit, while some bytes of the heap are
-/// taken.
-fn join_beside<A: Allocator + Copy>(
-    heap: A,
-    taken: usize,
+/// Joins a list with the types of a second stream at this limit, while memory is refused.
+fn join_amid(
+    heap: &TestHeap,
+    refusal: Refusal,
     limit: u32,
     alloc: Global,
     first: &[u8],
@@ -237,9 +237,10 @@ fn join_beside<A: Allocator + Copy>(
 ) -> Result<Answer, Fail> {
     let canon = Canon::empty(heap).join(heap, &types_of(heap, first)?, LIMIT)?;
     let types = types_of(heap, second)?;
-    let filler: Result<Vec<u8, A>, AllocError> = Vec::with_capacity(heap, taken);
+    let filler = refusal.begin(heap);
     let answer = canon.join(heap, &types, limit);
     drop(filler);
+    heap.stop_failing();
     let (answer, after) = match answer {
         Ok(both) => (Ok(()), copied(alloc, &both)?),
         Err(fault) => (Err(fault), copied(alloc, &canon)?),
@@ -248,11 +249,11 @@ fn join_beside<A: Allocator + Copy>(
     Ok((answer, after, copied(alloc, &end)?))
 }
 
-/// Makes the list of two streams, while some bytes of the heap are taken. After a refusal the first
-/// of the two lists in the answer is that of the first stream.
-fn finish_beside<A: Allocator + Copy>(
-    heap: A,
-    taken: usize,
+/// Makes the list of two streams, while memory is refused. After a refusal the first of the two
+/// lists in the answer is that of the first stream.
+fn finish_amid(
+    heap: &TestHeap,
+    refusal: Refusal,
     alloc: Global,
     first: &[u8],
     second: &[u8],
@@ -261,9 +262,10 @@ fn finish_beside<A: Allocator + Copy>(
     table.add(heap, &types_of(heap, first)?, LIMIT)?;
     let before = copied(alloc, &table.finish(heap)?)?;
     table.add(heap, &types_of(heap, second)?, LIMIT)?;
-    let filler: Result<Vec<u8, A>, AllocError> = Vec::with_capacity(heap, taken);
+    let filler = refusal.begin(heap);
     let answer = table.finish(heap);
     drop(filler);
+    heap.stop_failing();
     let (answer, after) = match answer {
         Ok(canon) => (Ok(()), copied(alloc, &canon)?),
         Err(fault) => (Err(fault), before),
@@ -280,20 +282,20 @@ enum Call {
     Finish,
 }
 
-/// What this call returns while some bytes of a heap are taken.
-fn beside(
+/// What this call returns while memory is refused.
+fn amid(
     call: Call,
+    heap: &TestHeap,
+    refusal: Refusal,
     alloc: Global,
-    taken: usize,
     first: &[u8],
     second: &[u8],
 ) -> Result<Answer, Fail> {
-    let heap = LocalHeap::new(alloc, HEAP)?;
     match call {
-        Call::Add => add_beside(&heap, taken, LIMIT, alloc, first, second),
-        Call::AddRecords => add_records_beside(&heap, taken, alloc, first, second),
-        Call::Join => join_beside(&heap, taken, LIMIT, alloc, first, second),
-        Call::Finish => finish_beside(&heap, taken, alloc, first, second),
+        Call::Add => add_amid(heap, refusal, LIMIT, alloc, first, second),
+        Call::AddRecords => add_records_amid(heap, refusal, alloc, first, second),
+        Call::Join => join_amid(heap, refusal, LIMIT, alloc, first, second),
+        Call::Finish => finish_amid(heap, refusal, alloc, first, second),
     }
 }
 
@@ -324,17 +326,13 @@ fn memory_is_refused(rt: HostRuntime) -> Result<(), Fail> {
         (Call::Join, &later),
         (Call::Finish, &lower),
     ] {
-        let mut refused = false;
-        let mut accepted = false;
-        for words in 0..HEAP / 8 {
-            let answer = beside(call, rt.alloc(), 8 * words, &first, second)?;
+        refusals_amid(rt.alloc(), HEAP, 8, |heap, refusal| {
+            let answer = amid(call, heap, refusal, rt.alloc(), &first, second)?;
             match was_accepted(&answer, &before, &want) {
-                Some(true) => accepted = true,
-                Some(false) => refused = true,
-                None => assert!(rt; false, "with {words} words taken"),
+                Some(accepted) => Ok(!accepted),
+                None => Err("another answer".into()),
             }
-        }
-        assert!(rt; refused && accepted);
+        })?;
     }
     Ok(())
 }
@@ -362,11 +360,13 @@ fn a_union_at_the_limit(rt: HostRuntime) -> Result<(), Fail> {
     let other = stream_with(rt.alloc(), &[CONST])?;
     let both = stream_with(rt.alloc(), &[TO_INT, CONST])?;
     let want = bytes_of(rt.alloc(), &[CONST, TO_INT])?;
-    let answer = join_beside(rt.alloc(), 0, 23, rt.alloc(), &pointer, &other)?;
+    let heap = TestHeap::new(LocalHeap::new(rt.alloc(), HEAP)?);
+    let none = Refusal::Taken(0);
+    let answer = join_amid(&heap, none, 23, rt.alloc(), &pointer, &other)?;
     assert!(rt; is_answer(&answer, large, TO_INT, &want));
-    let answer = join_beside(rt.alloc(), 0, 24, rt.alloc(), &pointer, &other)?;
+    let answer = join_amid(&heap, none, 24, rt.alloc(), &pointer, &other)?;
     assert!(rt; is_answer(&answer, Ok(()), &want, &want));
-    let answer = add_beside(rt.alloc(), 0, 24, rt.alloc(), &other, &both)?;
+    let answer = add_amid(&heap, none, 24, rt.alloc(), &other, &both)?;
     assert!(rt; is_answer(&answer, Ok(()), &want, &want));
     let answer = add_again(rt.alloc(), &other, &both)?;
     assert!(rt; is_answer(&answer, large, CONST, CONST));
