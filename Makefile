@@ -26,12 +26,14 @@ demo:
 	@echo 'The order of the files makes no difference: the same bytes.'
 
 # The gate: every proof from nothing, every must-fail edit, every test; then the program as a
-# process, on the shipped files, and a minute of damaged ones.
+# process, on the shipped files, with each call to the system failing in turn, and a minute of
+# damaged files.
 test:
 	$(RT) ci
 	$(MAKE) $(PROGRAM)
 	tests/program $(PROGRAM)
 	tests/examples $(PROGRAM)
+	tests/failures $(PROGRAM)
 	PDBMERGE=$(PROGRAM) tests/campaign 60 1
 
 install: $(PROGRAM)
