@@ -4,7 +4,7 @@ PREFIX ?= /usr/local
 PROGRAM := build/pdbmerge
 SOURCES := $(shell find crates -name '*.rt' -o -name '*.antt') crates.txt
 
-.PHONY: all demo test install clean
+.PHONY: all demo test bench install clean
 
 all: $(PROGRAM)
 
@@ -31,10 +31,15 @@ demo:
 test:
 	$(RT) ci
 	$(MAKE) $(PROGRAM)
+	docs/figures --check
 	tests/program $(PROGRAM)
 	tests/examples $(PROGRAM)
 	tests/failures $(PROGRAM)
 	PDBMERGE=$(PROGRAM) tests/campaign 60 1
+
+# Times merges of growing size beside llvm-pdbutil, and plots them in docs/sizes.svg.
+bench: $(PROGRAM)
+	bench/sizes $(PROGRAM)
 
 install: $(PROGRAM)
 	install -D $(PROGRAM) $(DESTDIR)$(PREFIX)/bin/pdbmerge

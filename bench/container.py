@@ -98,3 +98,12 @@ def write_pdb(path, body, count, block=BLOCK):
     """Writes a file with so many records."""
     with open(path, 'wb') as file:
         file.write(pdb(tpi(body, count), info=INFO, block=block))
+
+
+def write_classes(path, number, count):
+    """A file with so many records of classes. One class of ten is its own, and they come first. No
+    two files have as many of these, so that shared records have other type indices in each."""
+    own = count // 40 + number
+    names = [f'own{number}::Class{k}'.encode() for k in range(own)]
+    names += [f'shared::Class{k}'.encode() for k in range(count // 4 - own)]
+    write_pdb(path, classes(names, 0x1000), 4 * len(names))

@@ -25,6 +25,27 @@ def aside(function, *values):
         sys.exit(f'{function.__name__}: status {process.exitcode}')
 
 
+def llvm_pdbutil():
+    """The program llvm-pdbutil, which is installed if it can be. None where there is none."""
+    for package in (None, 'llvm', 'llvm-14'):
+        if package and shutil.which('apt-get'):
+            words = ['apt-get', 'install', '-y', package]
+            subprocess.run(words, stdout=subprocess.DEVNULL, stderr=subprocess.DEVNULL)
+        program = shutil.which('llvm-pdbutil') or shutil.which('llvm-pdbutil-14')
+        if program:
+            return program
+    print('llvm-pdbutil is not there and was not installed: pdbmerge is timed alone')
+    return None
+
+
+def written(folder, name, write, *values):
+    """The four files of a set that is made, each written by this function."""
+    files = [os.path.join(folder, f'{name}{number}.pdb') for number in range(4)]
+    for number, file in enumerate(files):
+        aside(write, file, number, *values)
+    return files
+
+
 def unpacked(source, folder):
     """The PDB files of a folder, or of an archive, which is unpacked somewhere in `folder`."""
     if not os.path.isdir(source):
