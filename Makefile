@@ -26,15 +26,19 @@ demo:
 	@echo 'The order of the files makes no difference: the same bytes.'
 
 # The gate: every proof from nothing, every must-fail edit, every test; then the program as a
-# process, on the shipped files, with each call to the system failing in turn, and a minute of
-# damaged files.
+# process, on the shipped files, with each call to the system failing in turn, with what is built
+# around it, and a minute of damaged files. tests/tools installs the tools that this needs.
 test:
+	tests/tools
 	$(RT) ci
 	$(MAKE) $(PROGRAM)
 	docs/figures --check
 	tests/program $(PROGRAM)
 	tests/examples $(PROGRAM)
 	tests/failures $(PROGRAM)
+	tests/faults $(PROGRAM)
+	tests/cookbook $(PROGRAM)
+	tests/spread $(PROGRAM)
 	PDBMERGE=$(PROGRAM) tests/campaign 60 1
 
 # Times merges of growing size beside llvm-pdbutil, and plots them in docs/sizes.svg.
