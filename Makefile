@@ -4,7 +4,7 @@ PREFIX ?= /usr/local
 PROGRAM := build/pdbmerge
 SOURCES := $(shell find crates -name '*.rt' -o -name '*.antt') crates.txt
 
-.PHONY: all demo test bench install clean
+.PHONY: all demo test bench install dist clean
 
 all: $(PROGRAM)
 
@@ -38,6 +38,8 @@ test:
 	tests/failures $(PROGRAM)
 	tests/faults $(PROGRAM)
 	tests/cookbook $(PROGRAM)
+	tests/manual $(PROGRAM)
+	tests/dist $(PROGRAM)
 	tests/spread $(PROGRAM)
 	PDBMERGE=$(PROGRAM) tests/campaign 60 1
 
@@ -45,8 +47,17 @@ test:
 bench: $(PROGRAM)
 	bench/sizes $(PROGRAM)
 
+SHARE = $(DESTDIR)$(PREFIX)/share
 install: $(PROGRAM)
 	install -D $(PROGRAM) $(DESTDIR)$(PREFIX)/bin/pdbmerge
+	install -D -m 644 man/pdbmerge.1 $(SHARE)/man/man1/pdbmerge.1
+	install -D -m 644 completions/pdbmerge.bash $(SHARE)/bash-completion/completions/pdbmerge
+	install -D -m 644 completions/_pdbmerge $(SHARE)/zsh/site-functions/_pdbmerge
+	install -D -m 644 completions/pdbmerge.fish $(SHARE)/fish/vendor_completions.d/pdbmerge.fish
+
+# A tar file and a Debian package, in build/dist.
+dist: $(PROGRAM)
+	tools/dist $(PROGRAM) build/dist
 
 clean:
 	rm -rf build crates/*/out

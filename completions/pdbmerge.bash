@@ -1,0 +1,73 @@
+# Completion of pdbmerge for bash. It needs only builtins.
+
+# Offers the files that end in .pdb, and the folders.
+_pdbmerge_files() { # WORD
+    # This fails where no completion is under way, as in a test.
+    compopt -o filenames 2>/dev/null
+    mapfile -t COMPREPLY < <(compgen -f -X '!*.pdb' -- "$1"; compgen -d -- "$1")
+}
+
+# Offers those of the given words that begin as WORD does.
+_pdbmerge_words() { # WORD WORDS
+    mapfile -t COMPREPLY < <(compgen -W "$2" -- "$1")
+}
+
+_pdbmerge() {
+    local commands='merge records record types check streams info help'
+    local sizes='512 1024 2048 4096 8192 16384 32768'
+    local word=${COMP_WORDS[COMP_CWORD]}
+    local before=${COMP_WORDS[COMP_CWORD - 1]}
+    local command=${COMP_WORDS[1]}
+    local options given k
+    COMPREPLY=()
+    if ((COMP_CWORD == 1)); then
+        if [[ $word == -* ]]; then
+            _pdbmerge_words "$word" '-h --help'
+        else
+            _pdbmerge_words "$word" "$commands"
+        fi
+        return
+    fi
+    case $command in
+        merge) options='--guid --age --limit --block-size -h --help' ;;
+        records | record | types | check | streams | info) options='-h --help' ;;
+        help)
+            if ((COMP_CWORD == 2)); then
+                _pdbmerge_words "$word" "$commands"
+            fi
+            return
+            ;;
+        *) return ;;
+    esac
+    # Bash takes = for a word of its own.
+    if [[ $word == '=' ]]; then
+        word=
+    elif [[ $before == '=' ]]; then
+        before=${COMP_WORDS[COMP_CWORD - 2]}
+    fi
+    if [[ $command == merge ]]; then
+        case $before in
+            --block-size)
+                _pdbmerge_words "$word" "$sizes"
+                return
+                ;;
+            --guid | --age | --limit) return ;;
+        esac
+    fi
+    if [[ $word == -* ]]; then
+        _pdbmerge_words "$word" "$options"
+        return
+    fi
+    # All commands but merge read one file.
+    given=0
+    for ((k = 2; k < COMP_CWORD; k++)); do
+        if [[ ${COMP_WORDS[k]} != -* ]]; then
+            given=1
+        fi
+    done
+    if [[ $command == merge || $given == 0 ]]; then
+        _pdbmerge_files "$word"
+    fi
+}
+
+complete -F _pdbmerge pdbmerge

@@ -1,0 +1,48 @@
+# Completion of pdbmerge for fish.
+
+# Prints the files that end in .pdb, and the folders.
+function __pdbmerge_files
+    complete -C "'' "(commandline -ct) | string match -r '^[^\t]*(?:/|\.pdb)(?=\t|$)'
+end
+
+# Whether the command of the line is one of the given ones.
+function __pdbmerge_command_is
+    set -l words (commandline -opc)
+    contains -- "$words[2]" $argv
+end
+
+# Whether no command was given yet.
+function __pdbmerge_has_no_command
+    test (count (commandline -opc)) = 1
+end
+
+# Whether the command of the line is one of the given ones, and nothing but options follows it.
+function __pdbmerge_has_only
+    set -l words (commandline -opc)
+    contains -- "$words[2]" $argv
+    or return 1
+    for word in $words[3..]
+        string match -q -- '-*' $word
+        or return 1
+    end
+end
+
+complete -c pdbmerge -f
+complete -c pdbmerge -n __pdbmerge_has_no_command -a merge -d 'Merges the types of files into one'
+complete -c pdbmerge -n __pdbmerge_has_no_command -a records -d 'Shows each type record'
+complete -c pdbmerge -n __pdbmerge_has_no_command -a record -d 'Shows one type record'
+complete -c pdbmerge -n __pdbmerge_has_no_command -a types -d 'Shows each type record, with the types that it names'
+complete -c pdbmerge -n __pdbmerge_has_no_command -a check -d 'Shows whether the types of a file can be trusted'
+complete -c pdbmerge -n __pdbmerge_has_no_command -a streams -d 'Shows the container'
+complete -c pdbmerge -n __pdbmerge_has_no_command -a info -d 'Shows what identifies the file'
+complete -c pdbmerge -n __pdbmerge_has_no_command -a help -d 'Prints the help of a command'
+
+complete -c pdbmerge -n 'not __pdbmerge_command_is help' -s h -l help -d 'Prints help'
+complete -c pdbmerge -n '__pdbmerge_command_is merge' -x -l guid -d 'The GUID of the file that is written'
+complete -c pdbmerge -n '__pdbmerge_command_is merge' -x -l age -d 'Its age'
+complete -c pdbmerge -n '__pdbmerge_command_is merge' -x -l limit -d 'How many bytes the types may have together'
+complete -c pdbmerge -n '__pdbmerge_command_is merge' -x -l block-size -a '512 1024 2048 4096 8192 16384 32768' -d 'How many bytes a block of the file has'
+
+complete -c pdbmerge -n '__pdbmerge_command_is merge' -a '(__pdbmerge_files)'
+complete -c pdbmerge -n '__pdbmerge_has_only records record types check streams info' -a '(__pdbmerge_files)'
+complete -c pdbmerge -n '__pdbmerge_has_only help' -a 'merge records record types check streams info help'
