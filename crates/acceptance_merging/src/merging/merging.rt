@@ -331,11 +331,11 @@ fn merges_are_refused_growth_in_turn(rt: HostRuntime) -> Result<(), Fail> {
 }
 
 /// Writes the file of a list while memory is refused, and again after that.
-fn written_amid(
-    heap: &TestHeap,
+fn written_amid<'a>(
+    heap: &'a TestHeap,
     refusal: Refusal,
     alloc: Global,
-    canon: &Canon<&TestHeap>,
+    canon: &Canon<&'a TestHeap>,
 ) -> Result<(Result<(), WriteFault>, Vec<u8>, Vec<u8>), Fail> {
     let settings = settings(LIMIT, 4096)?;
     let mut file = Vec::new(alloc);
