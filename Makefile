@@ -27,11 +27,13 @@ demo:
 
 # The gate: every proof from nothing, every must-fail edit, every test; then the program as a
 # process, on the shipped files, with each call to the system failing in turn, with what is built
-# around it, and a minute of damaged files. tests/tools installs the tools that this needs.
+# around it, and a minute of damaged files. tests/tools installs the tools that this needs, and
+# `rt ci` leaves the program that it proved and linked.
 test:
 	tests/tools
 	$(RT) ci
-	$(MAKE) $(PROGRAM)
+	mkdir -p build
+	cp crates/pdbmerge/out/pdbmerge $(PROGRAM)
 	docs/figures --check
 	tests/program $(PROGRAM)
 	tests/examples $(PROGRAM)
