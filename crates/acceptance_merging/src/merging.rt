@@ -4,6 +4,7 @@
 mod damaged;
 mod forward;
 mod merging;
+mod readers;
 mod scattered;
 mod sizes;
 
