@@ -1,5 +1,5 @@
 -- How a source is read to its end.
-use Rattle.std.specs.Prelude.{ℕ, ◌≡◌, ◌<◌, ◌≤◌, Bool, true, List, length, take, Option}
+use Rattle.std.specs.Prelude.{ℕ, ◌≡◌, ◌<◌, ◌≤◌, Bool, true, List, ◌++◌, length, Option}
 use Rattle.std.specs.Io.KnownBytes.{Consumes, IsAtEnd}
 use Rattle.byte_io.specs.declared.input.ReadFault.{ReadFault}
 use Rattle.byte_io.specs.declared.input.ReadFault.TheVariants.{Read, TooLong, Memory}
@@ -16,8 +16,15 @@ IsNotRead old new broken limit Read = broken ≡ true
 IsNotRead old new broken limit TooLong = (bytes : List ℕ) × (limit < length bytes) × Consumes old new bytes
 IsNotRead old new broken limit Memory = ⊥
 
--- this is why a piece is not fetched: the source is broken, or more bytes came than there is room for
-abbrev pub IsNotFetched : Option (List ℕ) → Option (List ℕ) → Bool → List ℕ → ℕ → ReadFault → Type 0
-IsNotFetched old new broken piece room Read = broken ≡ true
-IsNotFetched old new broken piece room TooLong = (n : ℕ) × (room < n) × (n ≤ length piece) × Consumes old new (take n piece)
-IsNotFetched old new broken piece room Memory = ⊥
+-- at most `limit` bytes have come from the source
+abbrev pub HasGiven : Option (List ℕ) → Option (List ℕ) → ℕ → Type 0
+HasGiven old new limit = (bytes : List ℕ) × (length bytes ≤ limit) × Consumes old new bytes
+
+-- `count` bytes came from the source, and they stand behind those that the buffer had; 0 bytes are its end
+pub record GivesMore (old new : Option (List ℕ)) (limit : ℕ) (before after : List ℕ) (count : ℕ) : Type 0 where
+  pub bytes : List ℕ
+  pub came : Consumes old new bytes
+  pub joined : after ≡ before ++ bytes
+  pub counted : length bytes ≡ count
+  pub short : length after ≤ limit
+  pub ended : count ≡ 0 → IsAtEnd new

@@ -1,5 +1,5 @@
 -- What reading each of several inputs gives.
-use Rattle.std.specs.Prelude.{ℕ, ◌≡◌, ◌<◌, List, Option, Some, Result, Ok, Err, length, map, slice_get}
+use Rattle.std.specs.Prelude.{ℕ, ◌≡◌, ◌<◌, List, Option, Some, Result, Ok, Err, map, slice_get}
 use Rattle.byte_io.specs.declared.inputs.InputFault.{InputFault}
 
 -- every input can be read, and these are the bytes of each

@@ -1,15 +1,15 @@
-use Rattle.std.proofs.Common.{◌++◌, ◌<◌, take, arith, sym, length}
+use Rattle.std.proofs.Common.{◌++◌, ◌<◌, take, arith, sym}
 use Rattle.std.proofs.KnownBytes.{Consumes-trans}
 use Rattle.std.proofs.lemmas.List.{length-append, length-take}
 use Rattle.std.proofs.lemmas.Result.{err_from_is_err_and}
-use Rattle.byte_io.proofs.InputLaws.{not_fetched}
+use Rattle.byte_io.proofs.InputLaws.{not_read}
 use Rattle.byte_io.proofs.input.skip_all.Goals as goal
 
 pub returns-in_err-count-clause-first : goal.returns-in_err-count-clause-first
 returns-in_err-count-clause-first g c =
     let p = err_from_is_err_and c.from_residual.result c.from_residual.ensures.1 in
     let so_far = c.loop-turn.invariant in
-    rw (p.1, p.2) (not_fetched _ (g.R.Source.left c.loop-turn.input) _ _ so_far.0 c.fetch_piece.new.piece c.loop-turn.room c.args.limit _ so_far.1 (sym so_far.2) c.in_err-count.ensures.first)
+    rw (p.1, p.2) (not_read _ (g.R.Source.left c.loop-turn.input) _ _ so_far.0 c.loop-turn.room c.args.limit _ so_far.1 (sym so_far.2) c.in_err-count.ensures.first)
 
 pub loop-turn-preserved : goal.loop-turn-preserved
 loop-turn-preserved g c =
