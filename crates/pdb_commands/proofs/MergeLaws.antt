@@ -1,13 +1,15 @@
 -- The faults of merging.
-use Rattle.std.proofs.Common.{◌≡◌, refl, ap}
-use Rattle.std.specs.Prelude.{◌≢◌, Result, Err}
+use Rattle.std.proofs.Common.{◌≡◌, ◌⊎◌, refl, ap, inl, inr}
+use Rattle.std.specs.Prelude.{◌≢◌, Result, Ok, Err, IfErr}
 use Rattle.pdb_merge.specs.declared.fault.MergeFault.{MergeFault}
 use Rattle.pdb_merge.specs.declared.fault.MergeFault.TheVariants as merges
 use Rattle.pdb_merge.specs.declared.fault.OutFault.{OutFault}
 use Rattle.pdb_merge.specs.declared.fault.OutFault.TheVariants as outs
+use Rattle.pdb_merge.specs.Fault.{NamesFault}
 use Rattle.pdb_commands.specs.Fault.{of_out}
+use Rattle.pdb_commands.specs.Merge.{IsOfMerging}
 use Rattle.pdb_commands.specs.declared.fault.RunFault.{RunFault}
-use Rattle.pdb_commands.specs.declared.fault.RunFault.TheVariants.{Merge, Write}
+use Rattle.pdb_commands.specs.declared.fault.RunFault.TheVariants.{Merge, Memory, Write}
 
 one_inside : {A : Type 0} (a b : MergeFault A) → Merge a ≡ Merge b → a ≡ b
 one_inside a b same = cc
@@ -29,3 +31,18 @@ write_inside (outs.Merge (merges.TooLarge file bytes)) answer outer is made wrot
 write_inside (outs.Merge merges.Memory) answer outer is made wrote = absurd cc
 write_inside outs.Memory answer outer is made wrote = absurd cc
 write_inside outs.Write answer outer is made wrote = refl
+
+-- a fault of merging or of writing is one that the command can have
+pub of_merging : {A : Type 0} (fault : OutFault A) → ((inner : MergeFault A) → fault ≡ outs.Merge inner → NamesFault inner) → IsOfMerging (of_out fault)
+of_merging (outs.Merge (merges.Input file unread)) named = (λ memory. cc, named (merges.Input file unread) refl)
+of_merging (outs.Merge (merges.Refused file refused)) named = (λ memory. cc, named (merges.Refused file refused) refl)
+of_merging (outs.Merge (merges.TooLarge file bytes)) named = (λ memory. cc, tt)
+of_merging (outs.Merge merges.Memory) named = tt
+of_merging outs.Memory named = tt
+of_merging outs.Write named = tt
+
+-- so is a fault of the report
+pub of_report : {T A : Type 0} (answer : Result T (RunFault A)) → IfErr answer (λ fault. (fault ≡ Memory) ⊎ (fault ≡ Write)) → IfErr answer IsOfMerging
+of_report (Ok value) is = tt
+of_report (Err fault) (inl is) = rw is tt
+of_report (Err fault) (inr is) = rw is tt

@@ -3,6 +3,7 @@ use Rattle.std.specs.Prelude.{ℕ, ◌≢◌, List, ◌++◌, Option, codes}
 use Rattle.std.specs.Io.KnownBytes.{Appends}
 use Rattle.msf_streams.specs.Put.{AppendsPart}
 use Rattle.pdb_info.specs.Settings.{SettingsView}
+use Rattle.pdb_merge.specs.Fault.{NamesFault}
 use Rattle.pdb_merge.specs.Union.{Stops}
 use Rattle.pdb_merge.specs.Merged.{Wrote}
 use Rattle.pdb_merge.specs.declared.summary.Summary.{Summary}
@@ -35,3 +36,10 @@ IsNotMerged files limit (Merge inner) = Stops files limit inner × (inner ≢ me
 IsNotMerged files limit Memory = Unit {0}
 IsNotMerged files limit Write = Unit {0}
 IsNotMerged files limit _ = ⊥
+
+-- a fault that the command can have: one of merging, in which out of memory is not inside, or out of memory, or that a sink broke
+abbrev pub IsOfMerging : {A : Type 0} → RunFault A → Type 0
+IsOfMerging (Merge inner) = (inner ≢ merge.Memory) × NamesFault inner
+IsOfMerging Memory = Unit {0}
+IsOfMerging Write = Unit {0}
+IsOfMerging _ = ⊥

@@ -7,7 +7,7 @@ use Rattle.byte_io.specs.Inputs.{Give, CanRead}
 use Rattle.byte_io.specs.declared.inputs.InputFault.{InputFault}
 use Rattle.byte_io.specs.declared.inputs.InputFault.TheVariants as inputs
 use Rattle.byte_io.specs.declared.input.ReadFault.TheVariants as reads
-use Rattle.pdb_merge.specs.Fault.{of_input, of_add}
+use Rattle.pdb_merge.specs.Fault.{of_input, of_add, AddNamesFault, NamesFault}
 use Rattle.pdb_merge.specs.Union.{ReadsFirst}
 use Rattle.pdb_merge.specs.declared.fault.AddFault.{AddFault}
 use Rattle.pdb_merge.specs.declared.fault.AddFault.TheVariants as add
@@ -93,3 +93,18 @@ refused_last None i inner outer all made = tt
 refused_last (Some each) i (add.Refused fault) outer all made = rw made all
 refused_last (Some each) i (add.TooLarge bytes) outer all made = rw made all
 refused_last (Some each) i add.Memory outer all made = rw made tt
+
+-- ---- out of memory is never inside another fault
+
+-- nor inside a fault of reading
+pub input_named : {A : Type 0} (file : ℕ) (inner : InputFault) (outer : MergeFault A) → outer ≡ of_input file inner → NamesFault outer
+input_named file inputs.Open outer made = rw made (λ is. cc)
+input_named file (inputs.Read reads.Read) outer made = rw made (λ is. cc)
+input_named file (inputs.Read reads.TooLong) outer made = rw made (λ is. cc)
+input_named file (inputs.Read reads.Memory) outer made = rw made tt
+
+-- nor inside a fault of a file
+pub add_named : {A : Type 0} (file : ℕ) (inner : AddFault A) (outer : MergeFault A) → AddNamesFault inner → outer ≡ of_add file inner → NamesFault outer
+add_named file (add.Refused fault) outer named made = rw made named
+add_named file (add.TooLarge bytes) outer named made = rw made tt
+add_named file add.Memory outer named made = rw made tt

@@ -7,9 +7,14 @@ use Rattle.msf_blocks.specs.declared.fault.MsfFault.{MsfFault}
 use Rattle.msf_blocks.specs.declared.fault.MsfFault.TheVariants as msf
 use Rattle.msf_blocks.proofs.FoundLaws.{layout_holds}
 use Rattle.msf_blocks.proofs.MemoryLaws.{layout_wants_none}
-use Rattle.pdb_merge.specs.Fault.{of_msf}
+use Rattle.pdb_merge.specs.Fault.{of_msf, of_pdb, AddNamesFault}
+use Rattle.pdb_merge.specs.Read.{HasPdbFault}
+use Rattle.pdb_merge.specs.Union.{Hinders}
+use Rattle.pdb_merge.specs.declared.fault.AddFault.{AddFault}
+use Rattle.pdb_merge.specs.declared.fault.AddFault.TheVariants as add
 use Rattle.pdb_merge.specs.declared.fault.PdbFault.{PdbFault}
 use Rattle.pdb_merge.specs.declared.fault.PdbFault.TheVariants.{Memory}
+use Rattle.pdb_merge.specs.declared.fault.PdbFault.TheVariants as pdb
 
 -- if a fault of a container becomes out of memory for the file, it was out of memory
 of_msf_want : {A : Type 0} (inner : MsfFault) → ◌≡◌ {A = PdbFault A} (of_msf inner) Memory → inner ≡ msf.Memory
@@ -25,3 +30,34 @@ layout_want file inner fault made (inl first) is = absurd (layout_wants_none fil
 pub layout_sound : {T A : Type 0} (file : List ℕ) (layout : LayoutView) (result : Result T (PdbFault A)) → ((i : ℕ) → get_or file i 0 < 256) → HasLayout file layout → IfErr result (λ fault. fault ≡ Memory → first_failing (layout_checks file) ≡ None)
 layout_sound file layout (Ok value) bytes has = tt
 layout_sound file layout (Err fault) bytes has = λ is. layout_holds file layout bytes has
+
+-- ---- the same for a file that is added
+
+-- if a fault of a file becomes out of memory for the merge, it was out of memory
+of_pdb_want : {A : Type 0} (inner : PdbFault A) → ◌≡◌ {A = AddFault A} (of_pdb inner) add.Memory → inner ≡ Memory
+of_pdb_want pdb.Memory is = refl
+of_pdb_want inner is = absurd cc
+
+-- a file that was not listed when out of memory has no fault of its container
+pub pdb_want : {A : Type 0} (file : List ℕ) (inner : PdbFault A) (outer : AddFault A) → outer ≡ of_pdb inner → (inner ≡ Memory → first_failing (layout_checks file) ≡ None) → outer ≡ add.Memory → first_failing (layout_checks file) ≡ None
+pdb_want file inner outer made want is = want (of_pdb_want inner (sym made ∙ is))
+
+-- a container that was read has no fault
+pub added_sound : {T A : Type 0} (file : List ℕ) (layout : LayoutView) (result : Result T (AddFault A)) → ((i : ℕ) → get_or file i 0 < 256) → HasLayout file layout → IfErr result (λ fault. fault ≡ add.Memory → first_failing (layout_checks file) ≡ None)
+added_sound file layout (Ok value) bytes has = tt
+added_sound file layout (Err fault) bytes has = λ is. layout_holds file layout bytes has
+
+-- ---- out of memory is never inside another fault
+
+-- a fault of a file is not out of memory
+pub file_named : {A : Type 0} (file : List ℕ) (inner : PdbFault A) → HasPdbFault file inner → inner ≡ Memory → ⊥
+file_named file pdb.Memory (layout, has, inl bad) is = bad
+file_named file pdb.Memory (layout, has, inr (info, bad)) is = bad
+file_named file inner has is = absurd cc
+
+-- so the fault of a file that hinders a merge is not
+pub hinders_named : {T A : Type 0} (before : List (List ℕ)) (limit : ℕ) (file : List ℕ) (answer : Result T (AddFault A)) → IfErr answer (Hinders before limit file) → IfErr answer AddNamesFault
+hinders_named before limit file (Ok value) is = tt
+hinders_named before limit file (Err (add.Refused inner)) is = file_named file inner is
+hinders_named before limit file (Err (add.TooLarge bytes)) is = tt
+hinders_named before limit file (Err add.Memory) is = tt

@@ -12,7 +12,7 @@ use Rattle.tpi_records.specs.declared.fault.TpiFault.{TpiFault}
 use Rattle.tpi_records.specs.declared.fault.TpiFault.TheVariants as tpi
 use Rattle.type_trees.specs.declared.fault.TypeFault.{TypeFault}
 use Rattle.type_trees.specs.declared.fault.TypeFault.TheVariants as types
-use Rattle.std.specs.Prelude.{ℕ}
+use Rattle.std.specs.Prelude.{ℕ, ◌≢◌}
 use Rattle.type_trees.specs.declared.fault.JoinFault.{JoinFault}
 use Rattle.type_trees.specs.declared.fault.JoinFault.TheVariants as join
 use Rattle.pdb_merge.specs.declared.fault.AddFault.{AddFault}
@@ -69,3 +69,16 @@ of_add file add.Memory = merge.Memory
 abbrev pub of_input : {A : Type 0} → ℕ → InputFault → MergeFault A
 of_input file (inputs.Read reads.Memory) = merge.Memory
 of_input file fault = merge.Input file fault
+
+-- ---- out of memory is never inside another fault
+
+-- the fault of a file that is added is not out of memory
+abbrev pub AddNamesFault : {A : Type 0} → AddFault A → Type 0
+AddNamesFault (add.Refused inner) = inner ≢ fault.Memory
+AddNamesFault _ = Unit {0}
+
+-- the fault of the file that is named is not out of memory
+abbrev pub NamesFault : {A : Type 0} → MergeFault A → Type 0
+NamesFault (merge.Input file inner) = inner ≢ inputs.Read reads.Memory
+NamesFault (merge.Refused file inner) = inner ≢ fault.Memory
+NamesFault _ = Unit {0}

@@ -6,7 +6,7 @@ ghost use Rattle.byte_io.specs.Inputs.{Give, CanRead};
 ghost use Rattle.type_trees.specs.Tree.{IsType};
 ghost use Rattle.type_trees.specs.Finish.{IsCanonOf};
 ghost use Rattle.pdb_info.specs.Settings.{record_limit};
-ghost use Rattle.pdb_merge.specs.Fault.{of_add, of_input};
+ghost use Rattle.pdb_merge.specs.Fault.{of_add, of_input, NamesFault};
 ghost use Rattle.pdb_merge.specs.Union.{HasType, Within, SameFiles, CanMerge, Stops, ReadsFirst};
 ghost use Rattle.pdb_merge.specs.Merging.{HasTaken};
 
@@ -45,6 +45,7 @@ fn check_rest<I: Inputs, A: Allocator>(inputs: &I, first: usize) -> Result<(), M
     requires { IfSome (I.known inputs.now) (λ each. CanRead each first) }
     ensures value { OnOk result (IfSome (I.known inputs.now) (λ each. CanRead each (length each))) }
     ensures fault { IfErr result (λ fault. IfSome (I.known inputs.now) (λ each. ReadsFirst each fault)) }
+    ensures named { IfErr result NamesFault }
     ensures unread { (files : List (List ℕ)) → Give (I.known inputs.now) files → IfErr result (λ fault. fault ≡ MergeFault.Memory) }
 {
     for input in first..inputs.count() {
@@ -75,6 +76,7 @@ fn add_input<I: Inputs, S: BuildHasher, A: Allocator + Copy>(
     ensures found { (files : List (List ℕ)) → Give (I.known inputs.now) files → HasTaken merge.old (take input files) → CanMerge files merge.old.limit → IfErr result (λ fault. fault ≡ MergeFault.Memory) }
     ensures first { (files : List (List ℕ)) → Give (I.known inputs.now) files → HasTaken merge.old (take input files) → IfErr result (Stops files merge.old.limit) }
     ensures reads { IfErr result (λ fault. IfSome (I.known inputs.now) (λ each. ReadsFirst each fault)) }
+    ensures named { IfErr result NamesFault }
 {
     let file = match inputs.read(input, bytes) {
         Ok(file) => file,
@@ -101,6 +103,7 @@ fn add_all<I: Inputs, S: BuildHasher, A: Allocator + Copy>(
     ensures found { (files : List (List ℕ)) → Give (I.known inputs.now) files → CanMerge files merge.old.limit → IfErr result (λ fault. fault ≡ MergeFault.Memory) }
     ensures first { (files : List (List ℕ)) → Give (I.known inputs.now) files → IfErr result (Stops files merge.old.limit) }
     ensures reads { IfErr result (λ fault. IfSome (I.known inputs.now) (λ each. ReadsFirst each fault)) }
+    ensures named { IfErr result NamesFault }
 {
     let mut bytes = Vec::new(alloc);
     let mut buffer = Buffer::new(alloc);
@@ -124,6 +127,7 @@ fn list_all<I: Inputs, S: BuildHasher + Drop, A: Allocator + Copy>(
     ensures found { (files : List (List ℕ)) → Give (I.known inputs.now) files → CanMerge files limit → IfErr result (λ fault. fault ≡ MergeFault.Memory) }
     ensures first { (files : List (List ℕ)) → Give (I.known inputs.now) files → IfErr result (Stops files limit) }
     ensures reads { IfErr result (λ fault. IfSome (I.known inputs.now) (λ each. ReadsFirst each fault)) }
+    ensures named { IfErr result NamesFault }
 {
     let mut merge = Merge::new(alloc, limit, hasher);
     add_all(alloc, inputs, &mut merge)?;
@@ -155,6 +159,8 @@ pub fn merge_files<I: Inputs + Drop, S: BuildHasher + Drop, A: Allocator + Copy>
     // Reading comes first: every file was read, or the fault is that of the first unread file.
     ensures read { OnOk result (IfSome (I.known files) (λ each. CanRead each (length each))) }
     ensures reads { IfErr result (λ fault. IfSome (I.known files) (λ each. ReadsFirst each fault)) }
+    // Out of memory is always `Memory`, whatever is known of the inputs.
+    ensures named { IfErr result NamesFault }
     // Files that are refused in one order are refused in any order.
     ensures any_order { (given : List (List ℕ)) → Give (I.known files) given → IfErr result (λ fault. fault ≢ MergeFault.Memory → (others : List (List ℕ)) → SameFiles given others → CanMerge others (record_limit settings.now) → ⊥) }
 {

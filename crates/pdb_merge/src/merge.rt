@@ -1,9 +1,11 @@
 //! A merge in progress.
 
-ghost use Rattle.std.specs.Prelude.{◌≡◌, ◌++◌, [], ◌∷◌, ℕ, List, length, IfOk, IfErr};
+ghost use Rattle.std.specs.Prelude.{◌≡◌, ◌++◌, [], ◌∷◌, ℕ, List, None, length, IfOk, IfErr};
+ghost use Rattle.byte_fields.specs.Check.{first_failing};
+ghost use Rattle.msf_blocks.specs.Layout.{layout_checks};
 ghost use Rattle.type_trees.specs.Tree.{IsType};
 ghost use Rattle.type_trees.specs.Finish.{IsCanonOf};
-ghost use Rattle.pdb_merge.specs.Fault.{of_add};
+ghost use Rattle.pdb_merge.specs.Fault.{of_add, AddNamesFault};
 ghost use Rattle.pdb_merge.specs.Union.{HasType, Within, Takes, Hinders, CanMerge, Stops};
 ghost use Rattle.pdb_merge.specs.Merging.{HasTaken};
 
@@ -60,6 +62,7 @@ impl<S: BuildHasher, A: Allocator + Copy> Merge<S, A> {
         ensures limit { self.new.limit ≡ self.old.limit }
         ensures kept { IfErr result (λ _. self.new ≡ self.old) }
         ensures first { IfErr result (Hinders self.old.types self.old.limit file.now) }
+        ensures memory { IfErr result (λ fault. fault ≡ AddFault.Memory → first_failing (layout_checks file.now) ≡ None) }
     {
         let records = buffer.listed(alloc, file)?;
         if self.table.add_records(alloc, &records, self.limit) {
@@ -81,6 +84,9 @@ impl<S: BuildHasher, A: Allocator + Copy> Merge<S, A> {
         ensures limit { self.new.limit ≡ self.old.limit }
         ensures kept { IfErr result (λ _. self.new ≡ self.old) }
         ensures first { IfErr result (Hinders self.old.types self.old.limit file.now) }
+        ensures named { IfErr result AddNamesFault }
+        // Out of memory comes only where the container has no fault.
+        ensures memory { IfErr result (λ fault. fault ≡ AddFault.Memory → first_failing (layout_checks file.now) ≡ None) }
 
         // The merge has taken the files so far, and this one.
         ensures taken { IfOk result (λ _. (files : List (List ℕ)) → HasTaken self.old files → HasTaken self.new (files ++ file.now ∷ [])) }

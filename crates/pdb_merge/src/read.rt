@@ -60,6 +60,7 @@ impl<A: Allocator + Copy> Buffer<A> {
     fn records<'a>(&'a mut self, alloc: A, file: &'a [u8]) -> Result<Records<'a, A>, PdbFault<A>>
         ensures value { IfOk result (HasTypeRecords file.now) }
         ensures first { IfErr result (λ fault. HasRecordsFault file.now fault ⊎ (fault ≡ PdbFault.Memory)) }
+        ensures memory { IfErr result (λ fault. fault ≡ PdbFault.Memory → first_failing (layout_checks file.now) ≡ None) }
     {
         self.clear();
         let layout = Layout::read(alloc, file)?;
@@ -113,6 +114,8 @@ pub fn read_records<'a, A: Allocator + Copy>(
     // A file that has type records is refused only when out of memory.
     ensures found { (records : List (List ℕ)) → HasTypeRecords file.now records → IfErr result (λ fault. fault ≡ PdbFault.Memory) }
     ensures first { IfErr result (λ fault. HasRecordsFault file.now fault ⊎ (fault ≡ PdbFault.Memory)) }
+    // Out of memory comes only where the container has no fault.
+    ensures memory { IfErr result (λ fault. fault ≡ PdbFault.Memory → first_failing (layout_checks file.now) ≡ None) }
 {
     buffer.records(alloc, file)
 }

@@ -1,6 +1,6 @@
 use Rattle.std.proofs.Common.{[], take}
 use Rattle.std.proofs.lemmas.List.{take_more}
-use Rattle.pdb_merge.proofs.InputLaws.{given_file, given_unread, some_bytes, more_read}
+use Rattle.pdb_merge.proofs.InputLaws.{given_file, given_unread, some_bytes, more_read, input_named, add_named}
 use Rattle.pdb_merge.proofs.MergingLaws.{stops_whole, alone_whole}
 use Rattle.pdb_merge.proofs.files.add_input.Goals as goal
 
@@ -38,3 +38,9 @@ pub returns-clause-read : goal.returns-clause-read
 returns-clause-read g c =
     let known = g.I.Inputs.known c.args.inputs.now in
     more_read known c.args.input c.requires.before (some_bytes known c.args.input c.in-Ok.file.now c.in-Ok.ensures.value)
+
+pub returns-in-Err-clause-named : goal.returns-in-Err-clause-named
+returns-in-Err-clause-named g c = input_named c.args.input c.in-Err.fault c.unread.result c.unread.ensures
+
+pub returns-in-Err-add-clause-named : goal.returns-in-Err-add-clause-named
+returns-in-Err-add-clause-named g c = add_named c.args.input c.in-Err-add.fault c.at_file.result c.in-Err-add.ensures.named c.at_file.ensures

@@ -1,4 +1,5 @@
 use Rattle.pdb_merge.proofs.MergingLaws.{taken_after, stops_after, alone_after}
+use Rattle.pdb_merge.proofs.MemoryLaws.{hinders_named}
 use Rattle.pdb_merge.proofs.merge.Merge.add.Goals as goal
 
 pub returns-clause-taken : goal.returns-clause-taken
@@ -10,3 +11,6 @@ returns-clause-stops g c = stops_after c.args.self.now c.args.file.now c.add_typ
 
 pub returns-clause-found : goal.returns-clause-found
 returns-clause-found g c = alone_after c.args.self.now c.args.file.now c.add_types.result c.add_types.ensures.first
+
+pub returns-clause-named : goal.returns-clause-named
+returns-clause-named g c = hinders_named c.args.self.now.types c.args.self.now.limit c.args.file.now c.add_types.result c.add_types.ensures.first

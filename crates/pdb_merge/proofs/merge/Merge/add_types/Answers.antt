@@ -1,6 +1,7 @@
-use Rattle.std.proofs.Common.{◌≡◌, ap}
+use Rattle.std.proofs.Common.{◌≡◌, ap, arith}
 use Rattle.std.proofs.lemmas.Result.{err_from_is_err_and}
 use Rattle.pdb_merge.specs.Merging.{MergeView}
+use Rattle.pdb_merge.proofs.MemoryLaws.{pdb_want, added_sound}
 use Rattle.pdb_merge.proofs.ReadLaws.{listed_accepted}
 use Rattle.pdb_merge.proofs.UnionLaws.{union_within, join_hinders, not_added}
 use Rattle.pdb_merge.proofs.merge.Merge.add_types.Goals as goal
@@ -37,3 +38,18 @@ pub returns-clause-within : goal.returns-clause-within
 returns-clause-within g c =
     let same = not_added c.add_records.result c.self.inside.table c.add_records.new.self c.add_records.ensures.kept c.if-add_records.false in
     union_within c.self.inside.table c.in_ok-types.types c.add.new.self c.self.inside.limit (rw same at c.in_ok-add.ensures.within) (rw same at c.in_ok-add.ensures.value)
+
+pub returns-in_err-records-clause-memory : goal.returns-in_err-records-clause-memory
+returns-in_err-records-clause-memory g c =
+    let p = err_from_is_err_and c.from_residual.result c.from_residual.ensures.1 in
+    rw p.1 (pdb_want c.args.file.now c.in_err-records.field-0.0 p.0 p.2 c.in_err-records.ensures.memory)
+
+pub returns-in_err-types-clause-memory : goal.returns-in_err-types-clause-memory
+returns-in_err-types-clause-memory g c =
+    let has = c.in_ok-records.ensures.value.has in
+    added_sound c.args.file.now has.layout c.from_residual-in_err-types.result (λ i. omega (arith, c.type_inv.file i)) has.has_layout
+
+pub returns-in_err-add-clause-memory : goal.returns-in_err-add-clause-memory
+returns-in_err-add-clause-memory g c =
+    let has = c.in_ok-records.ensures.value.has in
+    added_sound c.args.file.now has.layout c.from_residual-in_err-add.result (λ i. omega (arith, c.type_inv.file i)) has.has_layout
