@@ -61,6 +61,13 @@ impl<W: Write> Out<W> {
             broken: false,
         }
     }
+
+    /// The writer.
+    pub fn writer(&self) -> &W
+        ensures { W.contents result.now ≡ ⟦<Out<W> as Sink>⟧.taken self.now }
+    {
+        &self.writer
+    }
 }
 
 /// Puts all bytes into a sink, by as many calls of `put` as it needs.

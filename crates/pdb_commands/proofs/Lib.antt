@@ -1,5 +1,7 @@
+pub mod BoundLaws
 pub mod MergeLaws
 pub mod RecordsLaws
+pub mod ShownLaws
 pub mod StreamsLaws
 pub mod TextLaws
 pub mod TypesLaws

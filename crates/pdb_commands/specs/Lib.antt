@@ -5,6 +5,7 @@ pub mod Merge
 pub mod Record
 pub mod Records
 pub mod Show
+pub mod Shown
 pub mod Streams
 pub mod Text
 pub mod Types

@@ -30,7 +30,7 @@ fn push_checked<A: Allocator>(
 
 /// The command `check`.
 #[derive(Clone, Copy, Debug)]
-struct Check;
+pub(crate) struct Check;
 
 impl<A: Allocator + Copy> Show<A> for Check {
     ghost shows = { λ _. ShowsChecked };

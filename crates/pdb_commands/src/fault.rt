@@ -19,6 +19,9 @@ pub enum RunFault<A: Allocator = Global> {
     /// The input was not read to its end.
     #[error("{0}")]
     Read(ReadFault),
+    /// A stream of the file has more bytes than the limit allows.
+    #[error("38 TooLong")]
+    TooLong,
     /// The file is refused: its container, a stream that it lacks, or its type records.
     #[error("{0}")]
     Pdb(PdbFault<A>),

@@ -8,6 +8,7 @@ ghost use Rattle.pdb_info.specs.Name.{named};
 ghost use Rattle.pdb_commands.specs.Show.{Answers};
 ghost use Rattle.pdb_commands.specs.Info.{ShowsInfo, HasNoInfo, HasNoInfoStream, signature_line, guid_line, header_lines, name_line, feature_line};
 
+use crate::bound::INFO_STREAM;
 use crate::fault::RunFault;
 use crate::show::{Show, run};
 use crate::streams::read_layout;
@@ -18,9 +19,6 @@ use pdb_info::{InfoHeader, Name};
 use pdb_merge::PdbFault;
 use std::alloc::{AllocError, Allocator};
 use uuid::Uuid;
-
-/// The stream that identifies a file.
-const INFO_STREAM: u32 = 1;
 
 /// Appends the line of the signature.
 #[tactic(auto, unfolding(crate::specs::Info::signature_line))]
@@ -114,7 +112,7 @@ fn info_stream<'a, A: Allocator + Copy>(
 
 /// The command `info`.
 #[derive(Clone, Copy, Debug)]
-struct Info;
+pub(crate) struct Info;
 
 impl<A: Allocator + Copy> Show<A> for Info {
     ghost shows = { λ _. ShowsInfo };

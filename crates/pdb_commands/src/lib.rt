@@ -4,7 +4,8 @@
 //! [`run_info`] and [`run_streams`]. Such a command reads a [`Source`](msf_blocks::Source) to its
 //! end, makes its whole text, and then writes it into a [`Sink`](msf_blocks::Sink). [`run_merge`]
 //! writes one file with the types of several files, and a report on it. Each refusal is a
-//! [`RunFault`].
+//! [`RunFault`]. [`run_shown`] runs any command that shows a file, with a limit on the stream that it
+//! reads, and [`check_type_stream`] is that limit.
 //!
 //! What is proved of the commands that show a file: the text that is written is the text of the
 //! file (`Shows..` of `specs/`), byte for byte. A refusal is the first fault of reading or of the
@@ -17,6 +18,7 @@
 //! The file `src/examples.rt` of the crate `acceptance` shows this crate in use, in a few lines.
 #![tactic(auto)]
 
+mod bound;
 mod check;
 mod fault;
 mod info;
@@ -24,15 +26,18 @@ mod merge;
 mod record;
 mod records;
 mod show;
+mod shown;
 mod streams;
 mod text;
 mod types;
 
+pub use bound::check_type_stream;
 pub use check::run_check;
 pub use fault::RunFault;
 pub use info::run_info;
 pub use merge::run_merge;
 pub use record::run_record;
 pub use records::run_records;
+pub use shown::{Shown, run_shown};
 pub use streams::run_streams;
 pub use types::run_types;

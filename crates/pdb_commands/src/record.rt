@@ -97,8 +97,8 @@ fn record_text<A: Allocator + Copy>(alloc: A, bytes: &[u8]) -> Result<String<A>,
 
 /// The command `record`.
 #[derive(Clone, Copy, Debug)]
-struct Record {
-    index: u32,
+pub(crate) struct Record {
+    pub(crate) index: u32,
 }
 
 impl<A: Allocator + Copy> Show<A> for Record {

@@ -50,7 +50,7 @@ fn record_lines<A: Allocator + Copy>(
 
 /// The command `records`.
 #[derive(Clone, Copy, Debug)]
-struct Records;
+pub(crate) struct Records;
 
 impl<A: Allocator + Copy> Show<A> for Records {
     ghost shows = { λ _. ShowsRecords };

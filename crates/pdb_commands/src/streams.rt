@@ -134,7 +134,7 @@ pub fn read_layout<A: Allocator + Copy>(alloc: A, file: &[u8]) -> Result<Layout<
 
 /// The command `streams`.
 #[derive(Clone, Copy, Debug)]
-struct Streams;
+pub(crate) struct Streams;
 
 impl<A: Allocator + Copy> Show<A> for Streams {
     ghost shows = { λ _. ShowsStreams };

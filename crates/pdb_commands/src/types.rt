@@ -134,7 +134,7 @@ fn type_lines<A: Allocator + Copy>(
 
 /// The command `types`.
 #[derive(Clone, Copy, Debug)]
-struct Types;
+pub(crate) struct Types;
 
 impl<A: Allocator + Copy> Show<A> for Types {
     ghost shows = { λ _. ShowsTypes };

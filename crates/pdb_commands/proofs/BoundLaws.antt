@@ -1,0 +1,16 @@
+-- A limit on a stream of a file.
+use Rattle.std.proofs.Common.{◌≡◌, ◌<◌, ◌∙◌, ℕ, List, Option, Some, ap}
+use Rattle.std.specs.Prelude.{slice_get, option_map}
+use Rattle.byte_fields.specs.Bytes.{AreBytes}
+use Rattle.msf_blocks.specs.Directory.{Listed, bytes_of}
+use Rattle.msf_blocks.specs.Layout.{LayoutView, HasLayout}
+use Rattle.msf_blocks.proofs.OneLayoutLaws.{one_layout}
+use Rattle.pdb_commands.specs.Shown.{HasLongStream}
+
+-- a stream whose size is within the limit is not too long
+pub not_long : (file : List ℕ) (layout : LayoutView) (limit s : ℕ) (size : Option ℕ) → AreBytes file → HasLayout file layout
+    → size ≡ option_map (λ l. bytes_of l.size) (slice_get layout.streams s) → ((n : ℕ) → size ≡ Some n → limit < n → ⊥) → HasLongStream limit s file → ⊥
+not_long file layout limit s size bytes has is short long =
+    let size_of : Listed → ℕ = λ l. bytes_of l.size in
+    let same = one_layout file long.layout layout bytes long.has_layout has in
+    short (bytes_of long.stream.size) (is ∙ ap (option_map size_of) (rw same at long.is_stream)) long.long

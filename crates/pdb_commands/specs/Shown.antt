@@ -1,0 +1,60 @@
+-- What the commands that show a file print and refuse, with a limit on the stream that they read.
+use Rattle.std.specs.Prelude.{ℕ, ◌≡◌, ◌<◌, ◌-◌, ◌^◌, ◌⊎◌, List, Option, Some, None, slice_get}
+use Rattle.msf_blocks.specs.Directory.{Listed, bytes_of}
+use Rattle.msf_blocks.specs.Layout.{LayoutView, HasLayout}
+use Rattle.pdb_commands.specs.Check.{ShowsChecked, HasNoAccepted}
+use Rattle.pdb_commands.specs.Info.{ShowsInfo, HasNoInfo}
+use Rattle.pdb_commands.specs.Record.{ShowsRecord, HasNoRecord}
+use Rattle.pdb_commands.specs.Records.{ShowsRecords, HasNoTypeRecords}
+use Rattle.pdb_commands.specs.Streams.{ShowsStreams, HasNoLayout}
+use Rattle.pdb_commands.specs.Types.{ShowsTypes, HasNoTypes}
+use Rattle.pdb_commands.specs.declared.fault.RunFault.{RunFault}
+use Rattle.pdb_commands.specs.declared.fault.RunFault.TheVariants.{TooLong}
+use Rattle.pdb_commands.specs.declared.shown.Shown.{Shown}
+use Rattle.pdb_commands.specs.declared.shown.Shown.TheVariants as shown
+
+-- the command prints this text for this file
+abbrev pub ShowsIt : Shown → List ℕ → List ℕ → Type 0
+ShowsIt shown.Records = ShowsRecords
+ShowsIt (shown.Record index) = ShowsRecord index
+ShowsIt shown.Types = ShowsTypes
+ShowsIt shown.Check = ShowsChecked
+ShowsIt shown.Info = ShowsInfo
+ShowsIt shown.Streams = ShowsStreams
+
+-- the command refuses this file with this fault
+abbrev pub RefusesIt : {A : Type 0} → Shown → List ℕ → RunFault A → Type 0
+RefusesIt shown.Records = HasNoTypeRecords
+RefusesIt (shown.Record index) = HasNoRecord index
+RefusesIt shown.Types = HasNoTypes
+RefusesIt shown.Check = HasNoAccepted
+RefusesIt shown.Info = HasNoInfo
+RefusesIt shown.Streams = HasNoLayout
+
+-- the stream that the command reads whole, if it reads one
+abbrev pub stream_of : Shown → Option ℕ
+stream_of shown.Info = Some 1
+stream_of shown.Streams = None
+stream_of _ = Some 2
+
+-- the stream at this position has more bytes than the limit; the greatest limit is none
+pub record HasLongStream (limit s : ℕ) (file : List ℕ) : Type 0 where
+  pub limited : limit < 2 ^ 32 - 1
+  pub layout : LayoutView
+  pub has_layout : HasLayout file layout
+  pub stream : Listed
+  pub is_stream : slice_get layout.streams s ≡ Some stream
+  pub long : limit < bytes_of stream.size
+
+-- the stream that the command reads has more bytes than the limit
+abbrev pub ReadsTooLong : Shown → ℕ → List ℕ → Type 0
+ReadsTooLong command limit file = (s : ℕ) × (stream_of command ≡ Some s) × HasLongStream limit s file
+
+-- the command prints this text for this file, and the stream that it reads is within the limit
+abbrev pub ShowsWithin : Shown → ℕ → List ℕ → List ℕ → Type 0
+ShowsWithin command limit file text = (ReadsTooLong command limit file → ⊥) × ShowsIt command file text
+
+-- the command refuses this file with this fault: the stream that it reads is longer than the limit, else the command's own
+abbrev pub RefusesWithin : {A : Type 0} → Shown → ℕ → List ℕ → RunFault A → Type 0
+RefusesWithin command limit file fault =
+    ((fault ≡ TooLong) × ReadsTooLong command limit file) ⊎ ((ReadsTooLong command limit file → ⊥) × RefusesIt command file fault)
