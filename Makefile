@@ -38,6 +38,7 @@ test:
 	tests/program $(PROGRAM)
 	tests/examples $(PROGRAM)
 	tests/failures $(PROGRAM)
+	tests/surroundings $(PROGRAM)
 	tests/faults $(PROGRAM)
 	tests/cookbook $(PROGRAM)
 	tests/manual $(PROGRAM)

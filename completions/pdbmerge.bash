@@ -29,8 +29,8 @@ _pdbmerge() {
         return
     fi
     case $command in
-        merge) options='--guid --age --limit --block-size -h --help' ;;
-        records | record | types | check | streams | info) options='-h --help' ;;
+        merge) options='--guid --age --limit --block-size --max-bytes -h --help' ;;
+        records | record | types | check | streams | info) options='--max-bytes -h --help' ;;
         help)
             if ((COMP_CWORD == 2)); then
                 _pdbmerge_words "$word" "$commands"
@@ -45,23 +45,21 @@ _pdbmerge() {
     elif [[ $before == '=' ]]; then
         before=${COMP_WORDS[COMP_CWORD - 2]}
     fi
-    if [[ $command == merge ]]; then
-        case $before in
-            --block-size)
-                _pdbmerge_words "$word" "$sizes"
-                return
-                ;;
-            --guid | --age | --limit) return ;;
-        esac
-    fi
+    case $before in
+        --block-size)
+            _pdbmerge_words "$word" "$sizes"
+            return
+            ;;
+        --guid | --age | --limit | --max-bytes) return ;;
+    esac
     if [[ $word == -* ]]; then
         _pdbmerge_words "$word" "$options"
         return
     fi
-    # All commands but merge read one file.
+    # All commands but merge read one file. The number behind an option is none.
     given=0
     for ((k = 2; k < COMP_CWORD; k++)); do
-        if [[ ${COMP_WORDS[k]} != -* ]]; then
+        if [[ ${COMP_WORDS[k]} != -* && ${COMP_WORDS[k]} != '=' && ${COMP_WORDS[k - 1]} != --max-bytes && ${COMP_WORDS[k - 1]} != '=' ]]; then
             given=1
         fi
     done

@@ -21,9 +21,12 @@ function __pdbmerge_has_only
     set -l words (commandline -opc)
     contains -- "$words[2]" $argv
     or return 1
+    set -l before ''
     for word in $words[3..]
         string match -q -- '-*' $word
+        or test "$before" = --max-bytes
         or return 1
+        set before $word
     end
 end
 
@@ -41,6 +44,7 @@ complete -c pdbmerge -n 'not __pdbmerge_command_is help' -s h -l help -d 'Prints
 complete -c pdbmerge -n '__pdbmerge_command_is merge' -x -l guid -d 'The GUID of the file that is written'
 complete -c pdbmerge -n '__pdbmerge_command_is merge' -x -l age -d 'Its age'
 complete -c pdbmerge -n '__pdbmerge_command_is merge' -x -l limit -d 'How many bytes the types may have together'
+complete -c pdbmerge -n '__pdbmerge_command_is merge records record types check streams info' -x -l max-bytes -d 'The greatest number of bytes of a file or a stream'
 complete -c pdbmerge -n '__pdbmerge_command_is merge' -x -l block-size -a '512 1024 2048 4096 8192 16384 32768' -d 'How many bytes a block of the file has'
 
 complete -c pdbmerge -n '__pdbmerge_command_is merge' -a '(__pdbmerge_files)'

@@ -1,6 +1,6 @@
 /* A library that lets one call of a process fail, for tests/failures. It is loaded by LD_PRELOAD.
  *
- * FAILING names the call: memory, open, stat, read or write. FAILING_AT is its number, counted from 1
+ * FAILING names the call: memory, open, stat, read, write, sync or random. FAILING_AT is its number, counted from 1
  * over the calls of this kind; that call fails, and all others are passed on. A write to standard
  * error is not counted. If FAILING_ZERO is set, the write doesn't fail, but takes no bytes.
  * FAILING_TOLD names a file that is made when the call comes. FAILING_MOST is the most bytes that a
@@ -16,8 +16,8 @@
 #include <sys/syscall.h>
 #include <unistd.h>
 
-enum kind { MEMORY, OPEN, STAT, READ, WRITE, KINDS };
-static const char *const names[KINDS] = {"memory", "open", "stat", "read", "write"};
+enum kind { MEMORY, OPEN, STAT, READ, WRITE, SYNC, RANDOM, KINDS };
+static const char *const names[KINDS] = {"memory", "open", "stat", "read", "write", "sync", "random"};
 static unsigned long counts[KINDS], fails_at[KINDS];
 static const char *told;
 static size_t most = -1;
@@ -96,4 +96,12 @@ ssize_t write(int file, const void *bytes, size_t size) {
 
 ssize_t __write(int file, const void *bytes, size_t size) {
     return put(file, bytes, size);
+}
+
+int fsync(int file) {
+    return fails(SYNC) ? failed(EIO) : syscall(SYS_fsync, file);
+}
+
+int getentropy(void *bytes, size_t size) {
+    return fails(RANDOM) ? failed(ENOSYS) : syscall(SYS_getrandom, bytes, size, 0) == (long)size ? 0 : failed(EIO);
 }

@@ -1,11 +1,12 @@
 //! Why arguments are no command, and why the program did not do what they ask for.
 
-ghost use Rattle.std.specs.Prelude.{◌≡◌, ◌⊎◌};
-ghost use Rattle.pdbmerge.specs.Fault.{IsStatus};
+ghost use Rattle.std.specs.Prelude.{◌≡◌};
+ghost use Rattle.pdbmerge.specs.Fault.{IsStatus, IsOfClap, of_input};
 ghost use Rattle.pdbmerge.specs.declared.fault.LineFault.TheVariants as line;
 ghost use Rattle.pdbmerge.specs.declared.fault.ProgramFault.TheVariants.{Run};
-ghost use Rattle.pdb_commands.specs.declared.fault.RunFault.TheVariants.{Memory};
+ghost use Rattle.pdb_commands.specs.declared.fault.RunFault.TheVariants.{Memory, Write};
 
+use byte_io::{InputFault, NotTaken};
 use clap::error::ErrorKind;
 use pdb_commands::RunFault;
 use std::alloc::{AllocError, AllocFailed};
@@ -16,8 +17,8 @@ use thiserror::Error;
 pub enum LineFault {
     /// The arguments are refused, or they ask for help. The error has the text to print.
     Refused(clap::Error),
-    /// An argument has no value that the command can use.
-    Argument,
+    /// A word among the arguments has no value that the command can use.
+    Word,
     /// Out of memory.
     Memory,
 }
@@ -39,7 +40,7 @@ impl<T: Drop> From<AllocFailed<T>> for LineFault {
 }
 
 impl From<clap::Error> for LineFault {
-    ghost from_gives = { λ error fault. (fault ≡ line.Memory) ⊎ (fault ≡ line.Refused error) };
+    ghost from_gives = { IsOfClap };
 
     fn from(error: clap::Error) -> LineFault {
         if error.kind() == ErrorKind::OutOfMemory {
@@ -57,7 +58,7 @@ impl LineFault {
     {
         match self {
             LineFault::Refused(error) => { if error.use_stderr() { 2 } else { 0 } }
-            LineFault::Argument => 2,
+            LineFault::Word => 2,
             LineFault::Memory => 1,
         }
     }
@@ -90,6 +91,25 @@ impl<T: Drop> From<AllocFailed<T>> for ProgramFault {
 
     fn from(_error: AllocFailed<T>) -> ProgramFault {
         ProgramFault::Run(RunFault::Memory)
+    }
+}
+
+impl From<InputFault> for ProgramFault {
+    ghost from_gives = { λ inner fault. fault ≡ of_input inner };
+
+    fn from(fault: InputFault) -> ProgramFault {
+        match fault {
+            InputFault::Open => ProgramFault::Open,
+            InputFault::Read(fault) => ProgramFault::Run(RunFault::from(fault)),
+        }
+    }
+}
+
+impl From<NotTaken> for ProgramFault {
+    ghost from_gives = { λ _ fault. fault ≡ Run Write };
+
+    fn from(_error: NotTaken) -> ProgramFault {
+        ProgramFault::Run(RunFault::Write)
     }
 }
 

@@ -2,9 +2,10 @@
 
 ghost use Rattle.std.specs.Prelude.{None};
 
+use crate::files::open_within;
 use byte_io::{In, InputFault, Inputs, ReadFault, read_into, skip_all};
+use pdb_commands::{RunFault, check_type_stream};
 use std::alloc::Allocator;
-use std::fs;
 use std::fs::OpenFile;
 use std::rt::Files;
 
@@ -13,18 +14,33 @@ use std::rt::Files;
 pub struct InputFiles<'a, R: Files> {
     rt: &'a R,
     names: &'a [String],
+    max_bytes: u32,
 }
 
-impl<'a, R: Files> InputFiles<'a, R> {
-    /// The files with these names. None of them is opened yet.
-    pub fn new(rt: &'a R, names: &'a [String]) -> InputFiles<'a, R> {
-        InputFiles { rt, names }
+impl<'a, R: Files + AllocGlobal> InputFiles<'a, R> {
+    /// The files with these names. None of them is opened yet. A file with more than `max_bytes`
+    /// bytes is too long, and so is one whose stream of types has more.
+    pub fn new(rt: &'a R, names: &'a [String], max_bytes: u32) -> InputFiles<'a, R> {
+        InputFiles {
+            rt,
+            names,
+            max_bytes,
+        }
     }
 
     /// Opens the file at a position, from 0.
     fn open(&self, input: usize) -> Result<R::File, InputFault> {
         let name = self.names.get(input).ok_or(InputFault::Open)?;
-        fs::open(self.rt, name.as_str()).map_err(|_| InputFault::Open)
+        open_within(self.rt, name.as_str(), self.max_bytes)
+    }
+
+    /// Checks that the stream of types of a file is not too long.
+    fn check_types(&self, file: &[u8]) -> Result<(), InputFault> {
+        match check_type_stream(self.rt.alloc(), file, self.max_bytes) {
+            Ok(()) => Ok(()),
+            Err(RunFault::Memory) => Err(InputFault::Read(ReadFault::Memory)),
+            Err(_) => Err(InputFault::Read(ReadFault::TooLong)),
+        }
     }
 }
 
@@ -35,7 +51,7 @@ fn told_length<F: OpenFile>(file: &F) -> usize {
     u32::try_from(length).unwrap_or(0) as usize
 }
 
-impl<R: Files> Inputs for InputFiles<'_, R> {
+impl<R: Files + AllocGlobal> Inputs for InputFiles<'_, R> {
     ghost known = { λ _. None };
 
     fn count(&self) -> usize {
@@ -49,16 +65,18 @@ impl<R: Files> Inputs for InputFiles<'_, R> {
     ) -> Result<&'b [u8], InputFault> {
         let file = self.open(input)?;
         buffer.clear();
-        // One allocation serves a whole file, and later files of at most its length.
+        // One allocation serves a whole file, and later files of at most its length. The last byte
+        // is room in which the end of the file is seen.
         buffer
-            .reserve_exact(told_length(&file))
+            .reserve_exact(told_length(&file).saturating_add(1))
             .map_err(|_| InputFault::Read(ReadFault::Memory))?;
-        read_into(&mut In::new(file), u32::MAX, buffer).map_err(InputFault::Read)?;
+        read_into(&mut In::new(file), self.max_bytes, buffer).map_err(InputFault::Read)?;
+        self.check_types(buffer)?;
         Ok(buffer)
     }
 
     fn check(&self, input: usize) -> Result<(), InputFault> {
         let file = self.open(input)?;
-        skip_all(&mut In::new(file), u32::MAX).map_err(InputFault::Read)
+        skip_all(&mut In::new(file), self.max_bytes).map_err(InputFault::Read)
     }
 }

@@ -19,24 +19,84 @@ const ABOUT: &str =
 /// What `merge` does.
 const MERGE: &str = "Merges the types of files into one: the same types give the same bytes";
 
-/// What `records` does.
-const RECORDS: &str = "Shows each type record: its type index, its kind, its size in bytes";
+/// A command that reads one file and shows something of it.
+struct ShownCommand {
+    name: &'static str,
+    about: &'static str,
+}
 
-/// What `record` does.
-const RECORD: &str = "Shows one type record: its bytes, what it names, what it is called";
+/// The commands that read one file.
+const SHOWN: [ShownCommand; 6] = [
+    ShownCommand {
+        name: "records",
+        about: "Shows each type record: its type index, its kind, its size in bytes",
+    },
+    ShownCommand {
+        name: "record",
+        about: "Shows one type record: its bytes, what it names, what it is called",
+    },
+    ShownCommand {
+        name: "types",
+        about: "Shows each type record: its leaf, its size, the types that it names, its name",
+    },
+    ShownCommand {
+        name: "check",
+        about: "Shows whether the types of a file can be trusted, and how many there are",
+    },
+    ShownCommand {
+        name: "streams",
+        about: "Shows the container: its blocks, and each stream with its size and blocks",
+    },
+    ShownCommand {
+        name: "info",
+        about: "Shows what identifies the file: version, signature, age, GUID, named streams, feature codes",
+    },
+];
 
-/// What `types` does.
-const TYPES: &str = "Shows each type record: its leaf, its size, the types that it names, its name";
+/// An option that takes a value.
+struct Choice {
+    name: &'static str,
+    value: &'static str,
+    help: &'static str,
+    is_required: bool,
+}
 
-/// What `check` does.
-const CHECK: &str = "Shows whether the types of a file can be trusted, and how many there are";
+/// The option of every command: what limits its reading.
+const MAX: Choice = Choice {
+    name: "max-bytes",
+    value: "N",
+    help: "The greatest number of bytes of a file, or of a stream that is read; up to 4294967295",
+    is_required: false,
+};
 
-/// What `info` does.
-const INFO: &str =
-    "Shows what identifies the file: version, signature, age, GUID, named streams, feature codes";
-
-/// What `streams` does.
-const STREAMS: &str = "Shows the container: its blocks, and each stream with its size and blocks";
+/// The options of `merge`.
+const OF_MERGE: [Choice; 5] = [
+    Choice {
+        name: "guid",
+        value: "G",
+        help: "The GUID of the file that is written",
+        is_required: true,
+    },
+    Choice {
+        name: "age",
+        value: "N",
+        help: "Its age, a number up to 4294967295",
+        is_required: true,
+    },
+    Choice {
+        name: "limit",
+        value: "L",
+        help: "How many bytes the types may have together, up to 1073741824, which is the default",
+        is_required: false,
+    },
+    Choice {
+        name: "block-size",
+        value: "B",
+        help: "How many bytes a block of the file has: 512, 1024, 2048, 4096 (the default), 8192, 16384 or 32768",
+        is_required: false,
+    },
+    MAX,
+];
 
 /// The exit statuses, at the end of each help text.
 const STATUSES: &str =
@@ -49,134 +109,141 @@ const LIMIT: u32 = 1_073_741_824;
 /// The size of a block where the arguments of `merge` give none, in bytes.
 const BLOCK_SIZE: u32 = 4096;
 
+/// The greatest number of bytes of a file or a stream where the arguments give none: no limit.
+const MAX_BYTES: u32 = u32::MAX;
+
 /// A command with its arguments as values.
 #[derive(Debug, Drop)]
 pub enum Line {
     /// There are no arguments.
     Usage,
-    /// `records FILE`
+    /// `records [--max-bytes N] FILE`
     Records {
         file: String,
+        max_bytes: u32,
     },
-    /// `record FILE INDEX`
+    /// `record [--max-bytes N] FILE INDEX`
     Record {
         file: String,
         index: u32,
+        max_bytes: u32,
     },
-    /// `types FILE`
+    /// `types [--max-bytes N] FILE`
     Types {
         file: String,
+        max_bytes: u32,
     },
-    /// `check FILE`
+    /// `check [--max-bytes N] FILE`
     Check {
         file: String,
+        max_bytes: u32,
     },
-    /// `info FILE`
+    /// `info [--max-bytes N] FILE`
     Info {
         file: String,
+        max_bytes: u32,
     },
-    /// `streams FILE`
+    /// `streams [--max-bytes N] FILE`
     Streams {
         file: String,
+        max_bytes: u32,
     },
-    /// `merge --guid G --age N [--limit L] [--block-size B] OUT IN...`
+    /// `merge --guid G --age N [--limit L] [--block-size B] [--max-bytes N] OUT IN...`
     Merge {
         settings: Settings,
         out: String,
         inputs: Vec<String>,
+        max_bytes: u32,
     },
 }
 
-/// A command that reads one file and shows something of it.
-fn showing<'a>(alloc: Global, name: &'a str, about: &'a str) -> Result<Command<'a>, AllocError> {
-    let file = Arg::new(alloc, "FILE")
-        .help("The PDB file to read")
+// Commands and arguments are large values. Each is made by a function of its own, one at a time, so
+// that the stack has few of them.
+
+/// An option that takes a value.
+#[inline(never)]
+fn option<'a>(alloc: Global, choice: &'a Choice) -> Arg<'a> {
+    Arg::new(alloc, choice.name)
+        .long(choice.name)
+        .value_name(choice.value)
+        .help(choice.help)
+        .required(choice.is_required)
+        .action(ArgAction::Set)
+}
+
+/// The path of a file.
+#[inline(never)]
+fn path<'a>(alloc: Global, name: &'a str, help: &'a str) -> Arg<'a> {
+    Arg::new(alloc, name)
+        .help(help)
         .required(true)
-        .action(ArgAction::Set);
+        .action(ArgAction::Set)
+}
+
+/// The paths of the files that are merged.
+#[inline(never)]
+fn inputs<'a>(alloc: Global) -> Arg<'a> {
+    path(alloc, "IN", "The PDB files whose types are merged")
+        .num_args(1..)
+        .action(ArgAction::Append)
+}
+
+/// A command without arguments.
+#[inline(never)]
+fn command<'a>(alloc: Global, name: &'a str, about: &'a str) -> Command<'a> {
     Command::new(alloc, name)
         .before_help(ABOUT)
         .about(about)
         .after_help(STATUSES)
-        .arg(file)
 }
 
-/// The command that reads one file and shows one type record of it.
-fn showing_record<'a>(alloc: Global) -> Result<Command<'a>, AllocError> {
-    let index = Arg::new(alloc, "INDEX")
-        .help("The type index of the record, as 0x1000")
-        .required(true)
-        .action(ArgAction::Set);
-    showing(alloc, "record", RECORD)?.arg(index)
-}
-
-/// An option that takes a value.
-fn option<'a>(alloc: Global, name: &'a str, value: &'a str, help: &'a str) -> Arg<'a> {
-    Arg::new(alloc, name)
-        .long(name)
-        .value_name(value)
-        .help(help)
-        .action(ArgAction::Set)
+/// A command that reads one file and shows something of it.
+#[inline(never)]
+fn showing<'a>(alloc: Global, shown: &'a ShownCommand) -> Result<Command<'a>, AllocError> {
+    let mut command = command(alloc, shown.name, shown.about).arg(option(alloc, &MAX))?;
+    command = command.arg(path(alloc, "FILE", "The PDB file to read"))?;
+    if shown.name == "record" {
+        command = command.arg(path(alloc, "INDEX", "The type index of the record, as 0x1000"))?;
+    }
+    Ok(command)
 }
 
 /// The command that reads files and writes one file with their types.
+#[inline(never)]
 fn merging<'a>(alloc: Global) -> Result<Command<'a>, AllocError> {
-    let guid = option(alloc, "guid", "G", "The GUID of the file that is written");
-    let age = option(alloc, "age", "N", "Its age, a number up to 4294967295");
-    let limit = option(
-        alloc,
-        "limit",
-        "L",
-        "How many bytes the types may have together, up to 1073741824, which is the default",
-    );
-    let block_size = option(
-        alloc,
-        "block-size",
-        "B",
-        "How many bytes a block of the file has: 512, 1024, 2048, 4096 (the default), 8192, 16384 or 32768",
-    );
-    let out = Arg::new(alloc, "OUT")
-        .help("The PDB file to write")
-        .required(true)
-        .action(ArgAction::Set);
-    let inputs = Arg::new(alloc, "IN")
-        .help("The PDB files whose types are merged")
-        .required(true)
-        .num_args(1..)
-        .action(ArgAction::Append);
-    Command::new(alloc, "merge")
-        .before_help(ABOUT)
-        .about(MERGE)
+    let mut command = command(alloc, "merge", MERGE);
+    for choice in &OF_MERGE {
+        command = command.arg(option(alloc, choice))?;
+    }
+    command = command.arg(path(alloc, "OUT", "The PDB file to write"))?;
+    command.arg(inputs(alloc))
+}
+
+/// The program without its commands.
+#[inline(never)]
+fn bare<'a>(alloc: Global) -> Result<Command<'a>, AllocError> {
+    let program = Command::new(alloc, "pdbmerge")
+        .about(ABOUT)
         .after_help(STATUSES)
-        .arg(guid.required(true))?
-        .arg(age.required(true))?
-        .arg(limit)?
-        .arg(block_size)?
-        .arg(out)?
-        .arg(inputs)
+        .bin_name("pdbmerge")?;
+    Ok(program.no_binary_name(true).subcommand_required(true))
 }
 
 /// The program with its commands.
+#[inline(never)]
 fn program<'a>(alloc: Global) -> Result<Command<'a>, AllocError> {
-    Command::new(alloc, "pdbmerge")
-        .about(ABOUT)
-        .after_help(STATUSES)
-        .bin_name("pdbmerge")?
-        .no_binary_name(true)
-        .subcommand_required(true)
-        .subcommand(merging(alloc)?)?
-        .subcommand(showing(alloc, "records", RECORDS)?)?
-        .subcommand(showing_record(alloc)?)?
-        .subcommand(showing(alloc, "types", TYPES)?)?
-        .subcommand(showing(alloc, "check", CHECK)?)?
-        .subcommand(showing(alloc, "streams", STREAMS)?)?
-        .subcommand(showing(alloc, "info", INFO)?)
+    let mut program = bare(alloc)?.subcommand(merging(alloc)?)?;
+    for command in &SHOWN {
+        program = program.subcommand(showing(alloc, command)?)?;
+    }
+    Ok(program)
 }
 
 /// A copy of the argument that has a name.
 fn argument_of(alloc: Global, arguments: &ArgMatches<'_>, name: &str) -> Result<String, LineFault> {
     match arguments.get_str(name) {
         Some(argument) => Ok(String::from_str(alloc, argument)?),
-        None => Err(LineFault::Argument),
+        None => Err(LineFault::Word),
     }
 }
 
@@ -190,13 +257,13 @@ fn index_of(arguments: &ArgMatches<'_>) -> Result<u32, LineFault> {
     arguments
         .get_str("INDEX")
         .and_then(read_index)
-        .ok_or(LineFault::Argument)
+        .ok_or(LineFault::Word)
 }
 
 /// The number in the argument that has a name.
 fn number_of(arguments: &ArgMatches<'_>, name: &str) -> Result<u32, LineFault> {
-    let argument = arguments.get_str(name).ok_or(LineFault::Argument)?;
-    argument.parse().map_err(|_| LineFault::Argument)
+    let argument = arguments.get_str(name).ok_or(LineFault::Word)?;
+    argument.parse().map_err(|_| LineFault::Word)
 }
 
 /// The number in the argument that has a name, or `default` where there is no such argument.
@@ -208,20 +275,25 @@ fn number_or(arguments: &ArgMatches<'_>, name: &str, default: u32) -> Result<u32
     }
 }
 
+/// The greatest number of bytes of a file or a stream that is read.
+fn max_bytes_of(arguments: &ArgMatches<'_>) -> Result<u32, LineFault> {
+    number_or(arguments, "max-bytes", MAX_BYTES)
+}
+
 /// The settings of the file that is written.
 fn settings_of(arguments: &ArgMatches<'_>) -> Result<Settings, LineFault> {
-    let guid = arguments.get_str("guid").ok_or(LineFault::Argument)?;
-    let guid = Uuid::parse_str(guid).map_err(|_| LineFault::Argument)?;
+    let guid = arguments.get_str("guid").ok_or(LineFault::Word)?;
+    let guid = Uuid::parse_str(guid).map_err(|_| LineFault::Word)?;
     let age = number_of(arguments, "age")?;
     let limit = number_or(arguments, "limit", LIMIT)?;
     let block_size = number_or(arguments, "block-size", BLOCK_SIZE)?;
-    Settings::new(guid, age, limit, block_size).ok_or(LineFault::Argument)
+    Settings::new(guid, age, limit, block_size).ok_or(LineFault::Word)
 }
 
 /// The files that are merged.
 fn inputs_of(alloc: Global, arguments: &ArgMatches<'_>) -> Result<Vec<String>, LineFault> {
     let mut inputs = Vec::new(alloc);
-    for input in arguments.get_strs("IN").ok_or(LineFault::Argument)? {
+    for input in arguments.get_strs("IN").ok_or(LineFault::Word)? {
         inputs.push(String::from_str(alloc, input)?)?;
     }
     Ok(inputs)
@@ -238,28 +310,35 @@ pub fn read_line(alloc: Global, arguments: &[String]) -> Result<Line, LineFault>
     match matches.subcommand() {
         Some(("records", arguments)) => Ok(Line::Records {
             file: file_of(alloc, arguments)?,
+            max_bytes: max_bytes_of(arguments)?,
         }),
         Some(("record", arguments)) => Ok(Line::Record {
             file: file_of(alloc, arguments)?,
             index: index_of(arguments)?,
+            max_bytes: max_bytes_of(arguments)?,
         }),
         Some(("types", arguments)) => Ok(Line::Types {
             file: file_of(alloc, arguments)?,
+            max_bytes: max_bytes_of(arguments)?,
         }),
         Some(("check", arguments)) => Ok(Line::Check {
             file: file_of(alloc, arguments)?,
+            max_bytes: max_bytes_of(arguments)?,
         }),
         Some(("streams", arguments)) => Ok(Line::Streams {
             file: file_of(alloc, arguments)?,
+            max_bytes: max_bytes_of(arguments)?,
         }),
         Some(("info", arguments)) => Ok(Line::Info {
             file: file_of(alloc, arguments)?,
+            max_bytes: max_bytes_of(arguments)?,
         }),
         Some(("merge", arguments)) => Ok(Line::Merge {
             settings: settings_of(arguments)?,
             out: argument_of(alloc, arguments, "OUT")?,
             inputs: inputs_of(alloc, arguments)?,
+            max_bytes: max_bytes_of(arguments)?,
         }),
-        _ => Err(LineFault::Argument),
+        _ => Err(LineFault::Word),
     }
 }

@@ -1,32 +1,37 @@
 //! The command `pdbmerge`: merges the types of Program Database (PDB) files, and shows what files
 //! hold.
 //!
-//! `line` reads the arguments, and `index` reads a type index among them. `inputs` are the files that
-//! a merge reads, and `output` is a file that is created at its first write. The commands are those of `pdb_commands`. This module joins these
-//! to the system: arguments, files, the standard streams and the exit status.
+//! `line` reads the arguments, and `index` reads a type index among them. `files` opens a file,
+//! `inputs` are the files that a merge reads, and `output` is a file that is created at its first
+//! write. `report` prints the report of a merge, and `hold` keeps files off the numbers of the
+//! standard streams. The commands are those of `pdb_commands`. This module joins these to the
+//! system: arguments, files, the standard streams and the exit status.
 #![tactic(auto)]
 
 mod fault;
+mod files;
+mod hold;
 mod index;
 mod inputs;
 mod line;
 mod output;
+mod report;
 
 use byte_io::{In, Out, put_all};
 use fault::{LineFault, ProgramFault};
+use files::open_within;
+use hold::hold;
 use inputs::InputFiles;
 use line::{Line, USAGE, read_line};
 use output::NewFile;
-use pdb_commands::{
-    RunFault, run_check, run_info, run_merge, run_record, run_records, run_streams, run_types,
-};
+use pdb_commands::{RunFault, Shown, run_merge, run_shown};
 use pdb_info::Settings;
-use std::hash::{BuildHasher, BuildHasherDefault, FoldHasher, RandomState};
+use report::{REPORT_LENGTH, is_standard_output, print};
+use std::env;
+use std::hash::{BuildHasher, BuildHasherDefault, DefaultHasher, RandomState};
 use std::io::{self, ErrorKind, writer};
 use std::process::ExitCode;
-use std::random::RandomSource;
-use std::rt::{Env, Files};
-use std::{env, fs};
+use std::rt::Env;
 
 /// The arguments of the command line, without the program's name.
 fn arguments<R: Env + AllocGlobal>(rt: &R) -> Result<Vec<String>, LineFault> {
@@ -34,105 +39,118 @@ fn arguments<R: Env + AllocGlobal>(rt: &R) -> Result<Vec<String>, LineFault> {
         Ok(args) => Ok(args.skip(1).collect(rt.alloc())?),
         Err(error) if error.kind() == ErrorKind::OutOfMemory => Err(LineFault::Memory),
         // An argument is not UTF-8.
-        Err(_) => Err(LineFault::Argument),
+        Err(_) => Err(LineFault::Word),
     }
 }
 
-/// Opens a file to read it.
-fn open<R: Files>(rt: &R, file: &str) -> Result<In<R::File>, ProgramFault> {
-    match fs::open(rt, file) {
-        Ok(file) => Ok(In::new(file)),
-        Err(_) => Err(ProgramFault::Open),
-    }
+/// The files to merge, the file to write, and the greatest number of bytes of a file or a stream.
+#[derive(Clone, Copy)]
+struct Merging<'a> {
+    inputs: &'a [String],
+    out: &'a str,
+    max_bytes: u32,
 }
 
-/// Merges files into a new one, and writes the report on it to standard output.
-fn merge_with<R: Files + Print + AllocGlobal, S: BuildHasher + Drop>(
-    rt: &R,
+/// Merges files into a new one, which is stored and closed then. Returns the report on it.
+fn write_merged<S: BuildHasher + Drop>(
+    rt: &HostRuntime,
     settings: &Settings,
-    out: &str,
-    inputs: &[String],
+    files: &Merging<'_>,
     hasher: S,
-) -> Result<(), ProgramFault> {
-    let mut new_file = NewFile::new(rt, out);
-    let mut report = Out::new(writer(rt));
+) -> Result<Vec<u8>, ProgramFault> {
+    let mut new_file = NewFile::new(rt, files.out);
+    let mut report = Vec::with_capacity(rt.alloc(), REPORT_LENGTH)?;
     let merged = run_merge(
         rt.alloc(),
-        InputFiles::new(rt, inputs),
+        InputFiles::new(rt, files.inputs, files.max_bytes),
         settings,
         &mut new_file,
-        &mut report,
+        &mut Out::new(&mut report),
         hasher,
     );
     if new_file.is_refused() {
         return Err(ProgramFault::Create);
     }
-    Ok(merged?)
+    merged?;
+    new_file.store()?;
+    Ok(report)
+}
+
+/// Merges files into a new one, and writes the report on it.
+fn merge_with<S: BuildHasher + Drop>(
+    rt: &HostRuntime,
+    settings: &Settings,
+    files: &Merging<'_>,
+    hasher: S,
+) -> Result<(), ProgramFault> {
+    let is_output_taken = is_standard_output(rt, files.out);
+    let report = write_merged(rt, settings, files, hasher)?;
+    print(rt, &report, is_output_taken)
 }
 
 /// Merges files with hashes that nobody can predict, where the system gives random numbers. Where
-/// it gives none, the hashes have a fixed seed.
-fn merge_into<R: Files + Print + AllocGlobal + RandomSource>(
-    rt: &R,
+/// it gives none, the key is fixed, and records that share a hash have to be searched for.
+fn merge_into(
+    rt: &HostRuntime,
     settings: &Settings,
-    out: &str,
-    inputs: &[String],
+    files: &Merging<'_>,
 ) -> Result<(), ProgramFault> {
     match RandomState::new(rt) {
-        Ok(hasher) => merge_with(rt, settings, out, inputs, hasher),
+        Ok(hasher) => merge_with(rt, settings, files, hasher),
         Err(_) => {
-            let hasher: BuildHasherDefault<FoldHasher> = BuildHasherDefault::new();
-            merge_with(rt, settings, out, inputs, hasher)
+            let hasher: BuildHasherDefault<DefaultHasher> = BuildHasherDefault::new();
+            merge_with(rt, settings, files, hasher)
         }
     }
 }
 
-/// Runs a command. What it prints goes to standard output.
-fn run<R: Files + Print + AllocGlobal + RandomSource>(
-    rt: &R,
-    line: &Line,
-) -> Result<(), ProgramFault> {
+/// Runs a command that shows a file. What it prints goes to standard output.
+fn show(rt: &HostRuntime, command: Shown, file: &str, max_bytes: u32) -> Result<(), ProgramFault> {
+    let mut input = In::new(open_within(rt, file, max_bytes)?);
     let mut out = Out::new(writer(rt));
+    run_shown(rt.alloc(), command, &mut input, max_bytes, &mut out)?;
+    Ok(())
+}
+
+/// Runs a command.
+fn run(rt: &HostRuntime, line: &Line) -> Result<(), ProgramFault> {
     match line {
-        Line::Usage => put_all(&mut out, USAGE.as_bytes()).map_err(|_| RunFault::Write)?,
-        Line::Records { file } => {
-            let mut input = open(rt, file.as_str())?;
-            run_records(rt.alloc(), &mut input, u32::MAX, &mut out)?;
+        Line::Usage => {
+            put_all(&mut Out::new(writer(rt)), USAGE.as_bytes()).map_err(|_| RunFault::Write)?;
+            Ok(())
         }
-        Line::Record { file, index } => {
-            let mut input = open(rt, file.as_str())?;
-            run_record(rt.alloc(), &mut input, u32::MAX, *index, &mut out)?;
-        }
-        Line::Types { file } => {
-            let mut input = open(rt, file.as_str())?;
-            run_types(rt.alloc(), &mut input, u32::MAX, &mut out)?;
-        }
-        Line::Check { file } => {
-            let mut input = open(rt, file.as_str())?;
-            run_check(rt.alloc(), &mut input, u32::MAX, &mut out)?;
-        }
-        Line::Info { file } => {
-            let mut input = open(rt, file.as_str())?;
-            run_info(rt.alloc(), &mut input, u32::MAX, &mut out)?;
-        }
-        Line::Streams { file } => {
-            let mut input = open(rt, file.as_str())?;
-            run_streams(rt.alloc(), &mut input, u32::MAX, &mut out)?;
-        }
+        Line::Records { file, max_bytes } => show(rt, Shown::Records, file.as_str(), *max_bytes),
+        Line::Record {
+            file,
+            index,
+            max_bytes,
+        } => show(rt, Shown::Record(*index), file.as_str(), *max_bytes),
+        Line::Types { file, max_bytes } => show(rt, Shown::Types, file.as_str(), *max_bytes),
+        Line::Check { file, max_bytes } => show(rt, Shown::Check, file.as_str(), *max_bytes),
+        Line::Info { file, max_bytes } => show(rt, Shown::Info, file.as_str(), *max_bytes),
+        Line::Streams { file, max_bytes } => show(rt, Shown::Streams, file.as_str(), *max_bytes),
         Line::Merge {
             settings,
             out,
             inputs,
-        } => merge_into(rt, settings, out.as_str(), inputs)?,
+            max_bytes,
+        } => merge_into(
+            rt,
+            settings,
+            &Merging {
+                inputs,
+                out: out.as_str(),
+                max_bytes: *max_bytes,
+            },
+        ),
     }
-    Ok(())
 }
 
 /// Prints why the arguments are refused, or the help that they ask for.
 fn explain<R: Print + Eprint>(rt: &R, fault: &LineFault) -> io::Result<()> {
     match fault {
         LineFault::Refused(error) => error.print(rt),
-        LineFault::Argument => eprintln!(rt; "pdbmerge: wrong word"),
+        LineFault::Word => eprintln!(rt; "pdbmerge: wrong word"),
         LineFault::Memory => eprintln!(rt; "pdbmerge: 33 Memory"),
     }
 }
@@ -145,6 +163,7 @@ fn refuse<R: Eprint>(rt: &R, fault: &ProgramFault) -> ExitCode {
 }
 
 fn main(rt: HostRuntime) -> ExitCode {
+    let _held = hold(&rt);
     let line = match arguments(&rt).and_then(|arguments| read_line(rt.alloc(), &arguments)) {
         Ok(line) => line,
         Err(fault) => {

@@ -2,9 +2,20 @@
 
 ghost use Rattle.std.specs.Prelude.{◌≡◌, None, false};
 
-use byte_io::{Out, Sink};
+use byte_io::{NotTaken, Out, Sink};
 use std::fs;
+use std::fs::OpenFile;
 use std::rt::Files;
+
+/// Waits until the system has stored a regular file. Pipes and devices have nothing to store.
+fn store<F: OpenFile>(file: &F) -> Result<(), NotTaken> {
+    let can_be_stored = file.metadata().map_or(true, |metadata| metadata.is_file());
+    if can_be_stored {
+        file.sync_all().map_err(|_| NotTaken)
+    } else {
+        Ok(())
+    }
+}
 
 /// The state of a file that is created at its first write.
 #[derive(Drop)]
@@ -40,6 +51,15 @@ impl<'a, R: Files> NewFile<'a, R> {
     /// Whether the file could not be created.
     pub fn is_refused(&self) -> bool {
         matches!(&self.state, State::Refused)
+    }
+
+    /// Waits until the system has stored the file. `NotTaken` where the system could not store it:
+    /// no write shows this where a disk is across a network.
+    pub fn store(&self) -> Result<(), NotTaken> {
+        match &self.state {
+            State::Created(out) => store(out.writer()),
+            _ => Ok(()),
+        }
     }
 
     /// Creates the file, unless that was tried before.

@@ -18,12 +18,12 @@ fn meaning(alloc: Global, texts: &[&str]) -> Result<String, Fail> {
     }
     match read_line(alloc, &arguments) {
         Ok(Line::Usage) => Ok(String::from_str(alloc, "usage")?),
-        Ok(Line::Records { file }) => Ok(file),
+        Ok(Line::Records { file, .. }) => Ok(file),
         Ok(Line::Record { file, .. }) => Ok(file),
-        Ok(Line::Types { file }) => Ok(file),
-        Ok(Line::Check { file }) => Ok(file),
-        Ok(Line::Info { file }) => Ok(file),
-        Ok(Line::Streams { file }) => Ok(file),
+        Ok(Line::Types { file, .. }) => Ok(file),
+        Ok(Line::Check { file, .. }) => Ok(file),
+        Ok(Line::Info { file, .. }) => Ok(file),
+        Ok(Line::Streams { file, .. }) => Ok(file),
         Ok(Line::Merge { out, .. }) => Ok(out),
         Err(fault) => Ok(fault.status().to_string(alloc)?),
     }
