@@ -1,13 +1,14 @@
 //! Records that name later ones, cycles of records, and the order of types.
 
-use super::checked;
+use super::calls::{list_of, table_of, types_of};
+use super::{checked, depths};
 use samples::{
     CONST, INT, TO_FIRST, UNKNOWN, folding, pointer, procedure, refusals, stream_of, stream_with,
 };
 use std::alloc::{Allocator, Global};
 use std::test::Fail;
 use tpi_records::Records;
-use type_trees::{Canon, Table, TypeFault, Types};
+use type_trees::{Canon, TypeFault, Types};
 
 /// A TPI stream of pointers to these types.
 fn pointers(alloc: Global, named: &[u32]) -> Result<Vec<u8>, Fail> {
@@ -27,13 +28,19 @@ fn procedures(alloc: Global, named: &[(u32, u32)]) -> Result<Vec<u8>, Fail> {
     Ok(stream_of(alloc, u32::try_from(named.len())?, &records)?)
 }
 
-/// A TPI stream of `many` records. Each is a pointer to the next one, and the last is a const int.
-fn forward_chain(alloc: Global, many: u32) -> Result<Vec<u8>, Fail> {
+/// The bytes of `many` records. Each is a pointer to the next one, and the last is a const int.
+fn chain_on(alloc: Global, many: u32) -> Result<Vec<u8>, Fail> {
     let mut records = Vec::with_capacity(alloc, 12 * many as usize)?;
     for next in 1..many {
         records.extend_from_slice(&pointer(0x1000u32.wrapping_add(next)))?;
     }
     records.extend_from_slice(CONST)?;
+    Ok(records)
+}
+
+/// A TPI stream of `many` records. Each is a pointer to the next one, and the last is a const int.
+fn forward_chain(alloc: Global, many: u32) -> Result<Vec<u8>, Fail> {
+    let records = chain_on(alloc, many)?;
     Ok(stream_of(alloc, many, &records)?)
 }
 
@@ -167,39 +174,62 @@ fn order_of(alloc: Global, types: &Types<'_>) -> Result<Vec<usize>, Fail> {
     Ok(positions)
 }
 
+/// How types are arranged: how many levels they have, the depths of the first two, and their order.
+#[derive(Drop)]
+struct Arranged {
+    levels: u32,
+    depths: (Option<u32>, Option<u32>),
+    order: Vec<usize>,
+}
+
+/// How the types of a stream are arranged.
+fn arrangement_of(alloc: Global, stream: &[u8]) -> Result<Arranged, Fail> {
+    let types = types_of(alloc, stream)?;
+    Ok(Arranged {
+        levels: types.levels(),
+        depths: depths(&types, 0, 1),
+        order: order_of(alloc, &types)?,
+    })
+}
+
 #[test]
 fn a_pointer_to_the_next_record(rt: HostRuntime) -> Result<(), Fail> {
     let stream = forward_chain(rt.alloc(), 2)?;
-    let types = Types::check(rt.alloc(), Records::read(rt.alloc(), &stream)?)?;
-    assert_eq!(rt; types.levels(), 2);
-    assert_eq!(rt; (types.depth(0), types.depth(1)), (Some(1), Some(0)));
-    let order = order_of(rt.alloc(), &types)?;
-    assert_eq!(rt; order.as_slice(), [1, 0].as_slice());
+    let found = arrangement_of(rt.alloc(), &stream)?;
+    assert_eq!(rt; found.levels, 2);
+    assert_eq!(rt; found.depths, (Some(1), Some(0)));
+    assert_eq!(rt; found.order.as_slice(), [1, 0].as_slice());
     Ok(())
 }
 
 /// The canonical list of the types of a stream, by a table.
 fn finished(alloc: Global, stream: &[u8]) -> Result<Canon, Fail> {
-    let types = Types::check(alloc, Records::read(alloc, stream)?)?;
-    let mut table = Table::with_hasher(alloc, folding());
-    table.add(alloc, &types, u32::MAX)?;
-    Ok(table.finish(alloc)?)
+    let table = table_of(alloc, folding(), stream, u32::MAX)?;
+    Ok(list_of(alloc, &table)?)
+}
+
+/// Whether the canonical list of a stream has these bytes.
+fn gives(alloc: Global, stream: &[u8], want: &[u8]) -> Result<bool, Fail> {
+    let canon = finished(alloc, stream)?;
+    Ok(canon.bytes() == want)
+}
+
+/// Whether positions are those below `many`, from the last to the first.
+fn are_reversed(positions: &[usize], many: u32) -> bool {
+    positions.iter().copied().eq((0..many as usize).rev())
 }
 
 #[test]
 fn a_chain_in_both_directions(rt: HostRuntime) -> Result<(), Fail> {
     for many in [2, 10_000] {
         let forward = forward_chain(rt.alloc(), many)?;
-        let types = Types::check(rt.alloc(), Records::read(rt.alloc(), &forward)?)?;
-        assert_eq!(rt; types.levels(), many);
-        let order = order_of(rt.alloc(), &types)?;
-        assert!(rt; order.iter().copied().eq((0..many as usize).rev()));
+        let found = arrangement_of(rt.alloc(), &forward)?;
+        assert_eq!(rt; found.levels, many);
+        assert!(rt; are_reversed(&found.order, many));
         let records = chain_back(rt.alloc(), many)?;
         let back = stream_of(rt.alloc(), many, &records)?;
-        for stream in [&forward, &back] {
-            let canon = finished(rt.alloc(), stream)?;
-            assert!(rt; canon.bytes() == records.as_slice());
-        }
+        assert!(rt; gives(rt.alloc(), &forward, &records)?);
+        assert!(rt; gives(rt.alloc(), &back, &records)?);
     }
     Ok(())
 }

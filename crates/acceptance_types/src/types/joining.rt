@@ -1,6 +1,10 @@
 //! Tables and canonical lists of records typed by hand: their order, limits, and running out of
 //! memory.
 
+use super::calls::{
+    add, add_records, add_stream, copied, empty_table, join, list_of, records_of, table_of,
+    types_of,
+};
 use linked_list_allocator::LocalHeap;
 use samples::{
     CONST, Constant, DECLARATION, DEFINITION, LIST, LIST_BEFORE_FIRST, LIST_BEFORE_SECOND,
@@ -11,15 +15,19 @@ use std::alloc::{Allocator, Global};
 use std::hash::BuildHasher;
 use std::test::Fail;
 use tpi_records::Records;
-use type_trees::{Canon, JoinFault, Table, Types};
+use type_trees::{Canon, CanonRecords, JoinFault, Table, Types};
 
 /// A limit that no test reaches.
 const LIMIT: u32 = 1000;
 
-/// The types of a TPI stream.
-fn types_of<'a, A: Allocator + Copy>(alloc: A, stream: &'a [u8]) -> Result<Types<'a, A>, Fail> {
-    let types = Types::check(alloc, Records::read(alloc, stream)?);
-    Ok(types.ok().ok_or("the records are refused")?)
+/// The canonical list of a table to which the types of a stream are added.
+fn finished_with<S: BuildHasher>(
+    table: &mut Table<S>,
+    alloc: Global,
+    stream: &[u8],
+) -> Result<Canon, Fail> {
+    add_stream(table, alloc, stream, LIMIT)?;
+    Ok(list_of(alloc, table)?)
 }
 
 /// The canonical list of two streams, by a table with this hasher.
@@ -29,16 +37,24 @@ fn finished<S: BuildHasher + Drop>(
     first: &[u8],
     second: &[u8],
 ) -> Result<Canon, Fail> {
-    let mut table = Table::with_hasher(alloc, hasher);
-    table.add(alloc, &types_of(alloc, first)?, LIMIT)?;
-    table.add(alloc, &types_of(alloc, second)?, LIMIT)?;
-    Ok(table.finish(alloc)?)
+    let mut table = table_of(alloc, hasher, first, LIMIT)?;
+    finished_with(&mut table, alloc, second)
+}
+
+/// A list that has the types of a stream too.
+fn with_stream<A: Allocator + Copy>(
+    canon: &Canon<A>,
+    alloc: A,
+    stream: &[u8],
+) -> Result<Canon<A>, Fail> {
+    let types = types_of(alloc, stream)?;
+    Ok(join(canon, alloc, &types, LIMIT)?)
 }
 
 /// The canonical list of two streams, by joining.
 fn joined<A: Allocator + Copy>(alloc: A, first: &[u8], second: &[u8]) -> Result<Canon<A>, Fail> {
-    let canon = Canon::empty(alloc).join(alloc, &types_of(alloc, first)?, LIMIT)?;
-    Ok(canon.join(alloc, &types_of(alloc, second)?, LIMIT)?)
+    let canon = with_stream(&Canon::empty(alloc), alloc, first)?;
+    with_stream(&canon, alloc, second)
 }
 
 #[test]
@@ -119,35 +135,58 @@ const ROWS: [Row; 10] = [
     ),
 ];
 
+/// Whether the record at this position of a list, and the next one of its iterator, is this one.
+fn is_next(
+    canon: &Canon,
+    records: &mut CanonRecords<'_>,
+    position: usize,
+    want: Option<&[u8]>,
+) -> bool {
+    canon.get(position) == want && records.next() == want
+}
+
+/// Whether a list says that it has so many records.
+fn has_len(canon: &Canon, many: usize) -> bool {
+    canon.len() == many && canon.is_empty() == (many == 0)
+}
+
 /// Whether all methods of the list agree that it has these records.
 fn is_list(canon: &Canon, want: &[&[u8]]) -> bool {
     let mut records = canon.records();
     for (position, record) in want.iter().enumerate() {
-        if canon.get(position) != Some(*record) || records.next() != Some(*record) {
+        if !is_next(canon, &mut records, position, Some(*record)) {
             return false;
         }
     }
-    canon.get(want.len()).is_none()
-        && records.next().is_none()
-        && canon.len() == want.len()
-        && canon.is_empty() == want.is_empty()
+    is_next(canon, &mut records, want.len(), None) && has_len(canon, want.len())
+}
+
+/// Whether the canonical list of two streams, by a table with this hasher, has these bytes.
+fn finishes<S: BuildHasher + Drop>(
+    alloc: Global,
+    hasher: S,
+    first: &[u8],
+    second: &[u8],
+    want: &[u8],
+) -> Result<bool, Fail> {
+    let canon = finished(alloc, hasher, first, second)?;
+    Ok(canon.bytes() == want)
+}
+
+/// Whether the canonical list of two streams, by joining, has these bytes.
+fn joins(alloc: Global, first: &[u8], second: &[u8], want: &[u8]) -> Result<bool, Fail> {
+    let canon = joined(alloc, first, second)?;
+    Ok(canon.bytes() == want && canon.bytes_len() as usize == want.len())
 }
 
 /// Whether each way to the canonical list of two streams gives these bytes.
 fn all_give(alloc: Global, first: &[u8], second: &[u8], want: &[u8]) -> Result<bool, Fail> {
-    let there = finished(alloc, folding(), first, second)?;
-    let back = finished(alloc, folding(), second, first)?;
-    let slow_there = finished(alloc, Constant, first, second)?;
-    let slow_back = finished(alloc, Constant, second, first)?;
-    let canon = joined(alloc, first, second)?;
-    Ok(
-        there.bytes() == want
-            && back.bytes() == want
-            && slow_there.bytes() == want
-            && slow_back.bytes() == want
-            && canon.bytes() == want
-            && canon.bytes_len() as usize == want.len(),
-    )
+    let there = finishes(alloc, folding(), first, second, want)?;
+    let back = finishes(alloc, folding(), second, first, want)?;
+    let slow_there = finishes(alloc, Constant, first, second, want)?;
+    let slow_back = finishes(alloc, Constant, second, first, want)?;
+    let both = joins(alloc, first, second, want)?;
+    Ok(there && back && slow_there && slow_back && both)
 }
 
 #[test]
@@ -173,11 +212,57 @@ const HEAP: usize = 4096;
 /// memory.
 type Answer = (Result<(), JoinFault>, Vec<u8>, Vec<u8>);
 
-/// The bytes of a list, copied into other memory.
-fn copied<A: Allocator>(alloc: Global, canon: &Canon<A>) -> Result<Vec<u8>, Fail> {
-    let mut bytes = Vec::new(alloc);
-    bytes.extend_from_slice(canon.bytes())?;
-    Ok(bytes)
+/// The bytes of the canonical list of a table.
+fn listed<S: BuildHasher, A: Allocator + Copy>(
+    alloc: Global,
+    heap: A,
+    table: &Table<S, A>,
+) -> Result<Vec<u8>, Fail> {
+    let canon = list_of(heap, table)?;
+    copied(alloc, &canon)
+}
+
+/// The bytes of two lists of a table: the one that it gives, and the one that it gives when these
+/// types were added at this limit.
+fn listed_twice<S: BuildHasher, A: Allocator + Copy>(
+    alloc: Global,
+    heap: A,
+    table: &mut Table<S, A>,
+    types: &Types<'_, A>,
+    limit: u32,
+) -> Result<(Vec<u8>, Vec<u8>), Fail> {
+    let after = listed(alloc, heap, table)?;
+    add(table, heap, types, limit)?;
+    Ok((after, listed(alloc, heap, table)?))
+}
+
+/// Adds types to a table, up to this limit, while memory is refused.
+fn add_refused<'h, S: BuildHasher>(
+    table: &mut Table<S, &'h TestHeap>,
+    heap: &'h TestHeap,
+    refusal: Refusal,
+    types: &Types<'_, &'h TestHeap>,
+    limit: u32,
+) -> Result<(), JoinFault> {
+    let filler = refusal.begin(heap);
+    let answer = add(table, heap, types, limit);
+    drop(filler);
+    heap.stop_failing();
+    answer
+}
+
+/// Adds types to a table, up to this limit, while memory is refused, and then again.
+fn add_twice<'h, S: BuildHasher>(
+    table: &mut Table<S, &'h TestHeap>,
+    heap: &'h TestHeap,
+    refusal: Refusal,
+    types: &Types<'_, &'h TestHeap>,
+    limit: u32,
+    alloc: Global,
+) -> Result<Answer, Fail> {
+    let answer = add_refused(table, heap, refusal, types, limit);
+    let (after, end) = listed_twice(alloc, heap, table, types, LIMIT)?;
+    Ok((answer, after, end))
 }
 
 /// Adds the types of a second stream to those of a first at this limit, while memory is refused.
@@ -189,20 +274,60 @@ fn add_amid(
     first: &[u8],
     second: &[u8],
 ) -> Result<Answer, Fail> {
-    let mut table = Table::with_hasher(heap, folding());
-    table.add(heap, &types_of(heap, first)?, LIMIT)?;
+    let mut table = table_of(heap, folding(), first, LIMIT)?;
     let types = types_of(heap, second)?;
+    add_twice(&mut table, heap, refusal, &types, limit, alloc)
+}
+
+/// Adds records to a table while memory is refused. Where they are not added, the answer is out of
+/// memory.
+fn add_records_refused<'h, S: BuildHasher>(
+    table: &mut Table<S, &'h TestHeap>,
+    heap: &'h TestHeap,
+    refusal: Refusal,
+    records: &Records<'_, &'h TestHeap>,
+) -> Result<(), JoinFault> {
     let filler = refusal.begin(heap);
-    let answer = table.add(heap, &types, limit);
+    let was_added = add_records(table, heap, records, LIMIT);
     drop(filler);
     heap.stop_failing();
-    let after = copied(alloc, &table.finish(heap)?)?;
-    table.add(heap, &types, LIMIT)?;
-    Ok((answer, after, copied(alloc, &table.finish(heap)?)?))
+    if was_added {
+        Ok(())
+    } else {
+        Err(JoinFault::Memory)
+    }
+}
+
+/// The bytes of two lists of a table: the one that it gives, and the one that it gives when the types
+/// of a stream were added.
+fn listed_with<S: BuildHasher, A: Allocator + Copy>(
+    alloc: Global,
+    heap: A,
+    table: &mut Table<S, A>,
+    stream: &[u8],
+) -> Result<(Vec<u8>, Vec<u8>), Fail> {
+    let after = listed(alloc, heap, table)?;
+    add_stream(table, heap, stream, LIMIT)?;
+    Ok((after, listed(alloc, heap, table)?))
+}
+
+/// Adds the records of a stream to a table, as they stand, while memory is refused, and then its
+/// types.
+fn add_records_twice<'h, S: BuildHasher>(
+    table: &mut Table<S, &'h TestHeap>,
+    heap: &'h TestHeap,
+    refusal: Refusal,
+    stream: &[u8],
+    alloc: Global,
+) -> Result<Answer, Fail> {
+    let records = records_of(heap, stream)?;
+    let answer = add_records_refused(table, heap, refusal, &records);
+    let (after, end) = listed_with(alloc, heap, table, stream)?;
+    Ok((answer, after, end))
 }
 
 /// Adds the records of a second stream, as they stand, to the types of a first one, while memory is
-/// refused. Where they are not added, the answer is out of memory.
+/// refused.
 fn add_records_amid(
     heap: &TestHeap,
     refusal: Refusal,
@@ -210,20 +335,79 @@ fn add_records_amid(
     first: &[u8],
     second: &[u8],
 ) -> Result<Answer, Fail> {
-    let mut table = Table::with_hasher(heap, folding());
-    table.add(heap, &types_of(heap, first)?, LIMIT)?;
-    let records = Records::read(heap, second)?;
+    let mut table = table_of(heap, folding(), first, LIMIT)?;
+    add_records_twice(&mut table, heap, refusal, second, alloc)
+}
+
+/// Joins a list with types, up to this limit, while memory is refused.
+fn join_refused<'h>(
+    canon: &Canon<&'h TestHeap>,
+    heap: &'h TestHeap,
+    refusal: Refusal,
+    types: &Types<'_, &'h TestHeap>,
+    limit: u32,
+) -> Result<Canon<&'h TestHeap>, JoinFault> {
     let filler = refusal.begin(heap);
-    let answer = if table.add_records(heap, &records, LIMIT) {
-        Ok(())
-    } else {
-        Err(JoinFault::Memory)
-    };
+    let answer = join(canon, heap, types, limit);
     drop(filler);
     heap.stop_failing();
-    let after = copied(alloc, &table.finish(heap)?)?;
-    table.add(heap, &types_of(heap, second)?, LIMIT)?;
-    Ok((answer, after, copied(alloc, &table.finish(heap)?)?))
+    answer
+}
+
+/// What a call says, and the bytes of the list that is there after it.
+type Outcome = (Result<(), JoinFault>, Vec<u8>);
+
+/// What a call said, and the bytes of the list that it made, or else of the one before it.
+fn outcome_of<A: Allocator>(
+    alloc: Global,
+    answer: Result<Canon<A>, JoinFault>,
+    before: Vec<u8>,
+) -> Result<Outcome, Fail> {
+    match answer {
+        Ok(canon) => Ok((Ok(()), copied(alloc, &canon)?)),
+        Err(fault) => Ok((Err(fault), before)),
+    }
+}
+
+/// Joins a list with types, up to this limit, while memory is refused. After a refusal the bytes are
+/// those of the list that is joined.
+fn join_outcome<'h>(
+    canon: &Canon<&'h TestHeap>,
+    heap: &'h TestHeap,
+    refusal: Refusal,
+    types: &Types<'_, &'h TestHeap>,
+    limit: u32,
+    alloc: Global,
+) -> Result<Outcome, Fail> {
+    match join_refused(canon, heap, refusal, types, limit) {
+        Ok(both) => Ok((Ok(()), copied(alloc, &both)?)),
+        Err(fault) => Ok((Err(fault), copied(alloc, canon)?)),
+    }
+}
+
+/// The bytes of a list joined with types.
+fn bytes_joined<A: Allocator + Copy>(
+    canon: &Canon<A>,
+    heap: A,
+    types: &Types<'_, A>,
+    alloc: Global,
+) -> Result<Vec<u8>, Fail> {
+    let both = join(canon, heap, types, LIMIT)?;
+    copied(alloc, &both)
+}
+
+/// Joins a list with types, up to this limit, while memory is refused, and then again.
+fn join_twice<'h>(
+    canon: &Canon<&'h TestHeap>,
+    heap: &'h TestHeap,
+    refusal: Refusal,
+    types: &Types<'_, &'h TestHeap>,
+    limit: u32,
+    alloc: Global,
+) -> Result<Answer, Fail> {
+    let (answer, after) = join_outcome(canon, heap, refusal, types, limit, alloc)?;
+    let end = bytes_joined(canon, heap, types, alloc)?;
+    Ok((answer, after, end))
 }
 
 /// Joins a list with the types of a second stream at this limit, while memory is refused.
@@ -235,18 +419,36 @@ fn join_amid(
     first: &[u8],
     second: &[u8],
 ) -> Result<Answer, Fail> {
-    let canon = Canon::empty(heap).join(heap, &types_of(heap, first)?, LIMIT)?;
+    let canon = with_stream(&Canon::empty(heap), heap, first)?;
     let types = types_of(heap, second)?;
+    join_twice(&canon, heap, refusal, &types, limit, alloc)
+}
+
+/// Makes the list of a table while memory is refused.
+fn finish_refused<'h, S: BuildHasher>(
+    table: &Table<S, &'h TestHeap>,
+    heap: &'h TestHeap,
+    refusal: Refusal,
+) -> Result<Canon<&'h TestHeap>, JoinFault> {
     let filler = refusal.begin(heap);
-    let answer = canon.join(heap, &types, limit);
+    let answer = list_of(heap, table);
     drop(filler);
     heap.stop_failing();
-    let (answer, after) = match answer {
-        Ok(both) => (Ok(()), copied(alloc, &both)?),
-        Err(fault) => (Err(fault), copied(alloc, &canon)?),
-    };
-    let end = canon.join(heap, &types, LIMIT)?;
-    Ok((answer, after, copied(alloc, &end)?))
+    answer
+}
+
+/// Makes the list of a table while memory is refused, and then again. After a refusal the first of
+/// the two lists in the answer is the one before it.
+fn finish_twice<'h, S: BuildHasher>(
+    table: &Table<S, &'h TestHeap>,
+    heap: &'h TestHeap,
+    refusal: Refusal,
+    alloc: Global,
+    before: Vec<u8>,
+) -> Result<Answer, Fail> {
+    let (answer, after) = outcome_of(alloc, finish_refused(table, heap, refusal), before)?;
+    let end = listed(alloc, heap, table)?;
+    Ok((answer, after, end))
 }
 
 /// Makes the list of two streams, while memory is refused. After a refusal the first of the two
@@ -258,19 +460,10 @@ fn finish_amid(
     first: &[u8],
     second: &[u8],
 ) -> Result<Answer, Fail> {
-    let mut table = Table::with_hasher(heap, folding());
-    table.add(heap, &types_of(heap, first)?, LIMIT)?;
-    let before = copied(alloc, &table.finish(heap)?)?;
-    table.add(heap, &types_of(heap, second)?, LIMIT)?;
-    let filler = refusal.begin(heap);
-    let answer = table.finish(heap);
-    drop(filler);
-    heap.stop_failing();
-    let (answer, after) = match answer {
-        Ok(canon) => (Ok(()), copied(alloc, &canon)?),
-        Err(fault) => (Err(fault), before),
-    };
-    Ok((answer, after, copied(alloc, &table.finish(heap)?)?))
+    let mut table = table_of(heap, folding(), first, LIMIT)?;
+    let before = listed(alloc, heap, &table)?;
+    add_stream(&mut table, heap, second, LIMIT)?;
+    finish_twice(&table, heap, refusal, alloc, before)
 }
 
 /// A call that allocates.
@@ -337,15 +530,25 @@ fn memory_is_refused(rt: HostRuntime) -> Result<(), Fail> {
     Ok(())
 }
 
-/// Adds a second stream at limit 23, and then the first one again at limit 12.
+/// Adds a second stream to a table at limit 23, and then these types again at limit 12.
+fn add_again_to<S: BuildHasher>(
+    table: &mut Table<S>,
+    alloc: Global,
+    types: &Types<'_>,
+    second: &[u8],
+) -> Result<Answer, Fail> {
+    add(table, alloc, types, 12)?;
+    let larger = types_of(alloc, second)?;
+    let answer = add(table, alloc, &larger, 23);
+    let (after, end) = listed_twice(alloc, alloc, table, types, 12)?;
+    Ok((answer, after, end))
+}
+
+/// Adds a first stream at limit 12, a second one at limit 23, and then the first one again.
 fn add_again(alloc: Global, first: &[u8], second: &[u8]) -> Result<Answer, Fail> {
-    let mut table = Table::with_hasher(alloc, folding());
     let types = types_of(alloc, first)?;
-    table.add(alloc, &types, 12)?;
-    let answer = table.add(alloc, &types_of(alloc, second)?, 23);
-    let after = copied(alloc, &table.finish(alloc)?)?;
-    table.add(alloc, &types, 12)?;
-    Ok((answer, after, copied(alloc, &table.finish(alloc)?)?))
+    let mut table = empty_table(alloc, folding());
+    add_again_to(&mut table, alloc, &types, second)
 }
 
 /// Whether this is the answer, with these lists.

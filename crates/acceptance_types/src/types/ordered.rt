@@ -1,22 +1,36 @@
 //! Records that are added to a table while they are checked: which are, and at which limit.
 
+use super::calls::{add_records, copied, empty_table, list_of, records_of};
 use samples::{
     CONST, TO_FIRST, TO_INT, TO_SECOND, TO_THIRD, UNKNOWN, VOLATILE, bytes_of, folding, stream_with,
 };
 use std::alloc::Global;
+use std::hash::BuildHasher;
 use std::test::Fail;
-use tpi_records::Records;
-use type_trees::{Canon, Table};
+use type_trees::Table;
 
-/// Adds the records of a stream, at this limit, to a table of one pointer. Returns whether they were
-/// added, and the canonical list of the table.
-fn added(alloc: Global, records: &[&[u8]], limit: u32) -> Result<(bool, Canon), Fail> {
-    let pointer = stream_with(alloc, &[TO_INT])?;
-    let stream = stream_with(alloc, records)?;
-    let mut table = Table::with_hasher(alloc, folding());
-    let first = table.add_records(alloc, &Records::read(alloc, &pointer)?, limit);
-    let both = table.add_records(alloc, &Records::read(alloc, &stream)?, limit);
-    Ok((first && both, table.finish(alloc)?))
+/// Whether records were added to a table, and the canonical list of the table: how many records it
+/// has, and their bytes.
+type Added = (bool, usize, Vec<u8>);
+
+/// Adds the records of a stream to a table, up to this limit. Returns whether they were added.
+fn add_to<S: BuildHasher>(
+    table: &mut Table<S>,
+    alloc: Global,
+    stream: &[u8],
+    limit: u32,
+) -> Result<bool, Fail> {
+    let records = records_of(alloc, stream)?;
+    Ok(add_records(table, alloc, &records, limit))
+}
+
+/// Adds the records of a stream, at this limit, to a table of one pointer.
+fn added(alloc: Global, records: &[&[u8]], limit: u32) -> Result<Added, Fail> {
+    let mut table = empty_table(alloc, folding());
+    let first = add_to(&mut table, alloc, &stream_with(alloc, &[TO_INT])?, limit)?;
+    let both = add_to(&mut table, alloc, &stream_with(alloc, records)?, limit)?;
+    let canon = list_of(alloc, &table)?;
+    Ok((first && both, canon.len(), copied(alloc, &canon)?))
 }
 
 /// What is tested, the records of a stream, and the list of them and a pointer; `None` where they are
@@ -57,10 +71,10 @@ const ROWS: [Row; 8] = [
 #[test]
 fn records_that_name_earlier_ones_are_added(rt: HostRuntime) -> Result<(), Fail> {
     for (what, records, want) in ROWS {
-        let (both, canon) = added(rt.alloc(), records, 1000)?;
+        let (both, _, found) = added(rt.alloc(), records, 1000)?;
         let bytes = bytes_of(rt.alloc(), want.unwrap_or(&[TO_INT]))?;
         assert_eq!(rt; both, want.is_some(), "{what}");
-        assert_eq!(rt; canon.bytes(), bytes.as_slice(), "{what}");
+        assert_eq!(rt; found.as_slice(), bytes.as_slice(), "{what}");
     }
     Ok(())
 }
@@ -68,9 +82,9 @@ fn records_that_name_earlier_ones_are_added(rt: HostRuntime) -> Result<(), Fail>
 #[test]
 fn records_are_added_up_to_the_limit(rt: HostRuntime) -> Result<(), Fail> {
     for (limit, is_added) in [(23, false), (24, true)] {
-        let (both, canon) = added(rt.alloc(), &[CONST], limit)?;
+        let (both, many, _) = added(rt.alloc(), &[CONST], limit)?;
         assert_eq!(rt; both, is_added);
-        assert_eq!(rt; canon.len(), if is_added { 2 } else { 1 });
+        assert_eq!(rt; many, if is_added { 2 } else { 1 });
     }
     Ok(())
 }

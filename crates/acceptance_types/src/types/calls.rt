@@ -1,0 +1,106 @@
+//! The calls under test, each by itself.
+//!
+//! Their contracts say much, and a test needs none of it, since it compares when it runs. So these
+//! functions have no contract, and what calls them is quickly checked.
+
+use std::alloc::{Allocator, Global};
+use std::hash::BuildHasher;
+use std::test::Fail;
+use tpi_records::Records;
+use type_trees::{Canon, JoinFault, Table, Types};
+
+/// The records of a TPI stream.
+pub fn records_of<A: Allocator + Copy>(alloc: A, stream: &[u8]) -> Result<Records<'_, A>, Fail> {
+    Ok(Records::read(alloc, stream)?)
+}
+
+/// Records as types. `None` where they are refused.
+fn types_in<A: Allocator + Copy>(alloc: A, records: Records<'_, A>) -> Option<Types<'_, A>> {
+    match Types::check(alloc, records) {
+        Ok(types) => Some(types),
+        Err(_) => None,
+    }
+}
+
+/// The types of a TPI stream.
+pub fn types_of<A: Allocator + Copy>(alloc: A, stream: &[u8]) -> Result<Types<'_, A>, Fail> {
+    let records = records_of(alloc, stream)?;
+    match types_in(alloc, records) {
+        Some(types) => Ok(types),
+        None => Err("the records are refused".into()),
+    }
+}
+
+/// Adds types to a table, up to this limit.
+pub fn add<S: BuildHasher, A: Allocator + Copy>(
+    table: &mut Table<S, A>,
+    alloc: A,
+    types: &Types<'_, A>,
+    limit: u32,
+) -> Result<(), JoinFault> {
+    table.add(alloc, types, limit)
+}
+
+/// Adds the types of a stream to a table, up to this limit.
+pub fn add_stream<S: BuildHasher, A: Allocator + Copy>(
+    table: &mut Table<S, A>,
+    alloc: A,
+    stream: &[u8],
+    limit: u32,
+) -> Result<(), Fail> {
+    let types = types_of(alloc, stream)?;
+    add(table, alloc, &types, limit)?;
+    Ok(())
+}
+
+/// Adds records to a table, up to this limit. Returns whether they were added.
+pub fn add_records<S: BuildHasher, A: Allocator + Copy>(
+    table: &mut Table<S, A>,
+    alloc: A,
+    records: &Records<'_, A>,
+    limit: u32,
+) -> bool {
+    table.add_records(alloc, records, limit)
+}
+
+/// A table of no types.
+pub fn empty_table<S: BuildHasher, A: Allocator + Copy>(alloc: A, hasher: S) -> Table<S, A> {
+    Table::with_hasher(alloc, hasher)
+}
+
+/// A table of the types of a stream, if they are within this limit.
+pub fn table_of<S: BuildHasher + Drop, A: Allocator + Copy>(
+    alloc: A,
+    hasher: S,
+    stream: &[u8],
+    limit: u32,
+) -> Result<Table<S, A>, Fail> {
+    let mut table = empty_table(alloc, hasher);
+    add_stream(&mut table, alloc, stream, limit)?;
+    Ok(table)
+}
+
+/// The canonical list of a table.
+pub fn list_of<S: BuildHasher, A: Allocator + Copy>(
+    alloc: A,
+    table: &Table<S, A>,
+) -> Result<Canon<A>, JoinFault> {
+    table.finish(alloc)
+}
+
+/// Joins a list with types, up to this limit.
+pub fn join<A: Allocator + Copy>(
+    canon: &Canon<A>,
+    alloc: A,
+    types: &Types<'_, A>,
+    limit: u32,
+) -> Result<Canon<A>, JoinFault> {
+    canon.join(alloc, types, limit)
+}
+
+/// The bytes of a list, copied into other memory.
+pub fn copied<A: Allocator>(alloc: Global, canon: &Canon<A>) -> Result<Vec<u8>, Fail> {
+    let mut bytes = Vec::new(alloc);
+    bytes.extend_from_slice(canon.bytes())?;
+    Ok(bytes)
+}
