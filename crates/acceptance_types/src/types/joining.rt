@@ -251,17 +251,18 @@ fn add_refused<'h, S: BuildHasher>(
     answer
 }
 
-/// Adds types to a table, up to this limit, while memory is refused, and then again.
+/// Adds the types of a stream to a table, up to this limit, while memory is refused, and then again.
 fn add_twice<'h, S: BuildHasher>(
     table: &mut Table<S, &'h TestHeap>,
     heap: &'h TestHeap,
     refusal: Refusal,
-    types: &Types<'_, &'h TestHeap>,
+    stream: &[u8],
     limit: u32,
     alloc: Global,
 ) -> Result<Answer, Fail> {
-    let answer = add_refused(table, heap, refusal, types, limit);
-    let (after, end) = listed_twice(alloc, heap, table, types, LIMIT)?;
+    let types = types_of(heap, stream)?;
+    let answer = add_refused(table, heap, refusal, &types, limit);
+    let (after, end) = listed_twice(alloc, heap, table, &types, LIMIT)?;
     Ok((answer, after, end))
 }
 
@@ -275,8 +276,7 @@ fn add_amid(
     second: &[u8],
 ) -> Result<Answer, Fail> {
     let mut table = table_of(heap, folding(), first, LIMIT)?;
-    let types = types_of(heap, second)?;
-    add_twice(&mut table, heap, refusal, &types, limit, alloc)
+    add_twice(&mut table, heap, refusal, second, limit, alloc)
 }
 
 /// Adds records to a table while memory is refused. Where they are not added, the answer is out of
@@ -451,6 +451,20 @@ fn finish_twice<'h, S: BuildHasher>(
     Ok((answer, after, end))
 }
 
+/// Adds the types of a stream to a table, and makes its list while memory is refused. After a refusal
+/// the first of the two lists in the answer is the one before these types.
+fn finish_with<'h, S: BuildHasher>(
+    table: &mut Table<S, &'h TestHeap>,
+    heap: &'h TestHeap,
+    refusal: Refusal,
+    alloc: Global,
+    stream: &[u8],
+) -> Result<Answer, Fail> {
+    let before = listed(alloc, heap, table)?;
+    add_stream(table, heap, stream, LIMIT)?;
+    finish_twice(table, heap, refusal, alloc, before)
+}
+
 /// Makes the list of two streams, while memory is refused. After a refusal the first of the two
 /// lists in the answer is that of the first stream.
 fn finish_amid(
@@ -461,9 +475,7 @@ fn finish_amid(
     second: &[u8],
 ) -> Result<Answer, Fail> {
     let mut table = table_of(heap, folding(), first, LIMIT)?;
-    let before = listed(alloc, heap, &table)?;
-    add_stream(&mut table, heap, second, LIMIT)?;
-    finish_twice(&table, heap, refusal, alloc, before)
+    finish_with(&mut table, heap, refusal, alloc, second)
 }
 
 /// A call that allocates.

@@ -24,13 +24,36 @@ fn add_to<S: BuildHasher>(
     Ok(add_records(table, alloc, &records, limit))
 }
 
+/// How many records the canonical list of a table has, and their bytes.
+fn len_and_bytes<S: BuildHasher>(
+    alloc: Global,
+    table: &Table<S>,
+) -> Result<(usize, Vec<u8>), Fail> {
+    let canon = list_of(alloc, table)?;
+    let bytes = copied(alloc, &canon)?;
+    Ok((canon.len(), bytes))
+}
+
+/// Adds the records of two streams to a table, up to this limit.
+fn added_to<S: BuildHasher>(
+    table: &mut Table<S>,
+    alloc: Global,
+    first: &[u8],
+    second: &[u8],
+    limit: u32,
+) -> Result<Added, Fail> {
+    let one = add_to(table, alloc, first, limit)?;
+    let other = add_to(table, alloc, second, limit)?;
+    let (many, bytes) = len_and_bytes(alloc, table)?;
+    Ok((one && other, many, bytes))
+}
+
 /// Adds the records of a stream, at this limit, to a table of one pointer.
 fn added(alloc: Global, records: &[&[u8]], limit: u32) -> Result<Added, Fail> {
+    let pointer = stream_with(alloc, &[TO_INT])?;
+    let stream = stream_with(alloc, records)?;
     let mut table = empty_table(alloc, folding());
-    let first = add_to(&mut table, alloc, &stream_with(alloc, &[TO_INT])?, limit)?;
-    let both = add_to(&mut table, alloc, &stream_with(alloc, records)?, limit)?;
-    let canon = list_of(alloc, &table)?;
-    Ok((first && both, canon.len(), copied(alloc, &canon)?))
+    added_to(&mut table, alloc, &pointer, &stream, limit)
 }
 
 /// What is tested, the records of a stream, and the list of them and a pointer; `None` where they are
@@ -71,10 +94,13 @@ const ROWS: [Row; 8] = [
 #[test]
 fn records_that_name_earlier_ones_are_added(rt: HostRuntime) -> Result<(), Fail> {
     for (what, records, want) in ROWS {
-        let (both, _, found) = added(rt.alloc(), records, 1000)?;
-        let bytes = bytes_of(rt.alloc(), want.unwrap_or(&[TO_INT]))?;
-        assert_eq!(rt; both, want.is_some(), "{what}");
-        assert_eq!(rt; found.as_slice(), bytes.as_slice(), "{what}");
+        let (were_added, _, bytes) = added(rt.alloc(), records, 1000)?;
+        let want_bytes = bytes_of(rt.alloc(), want.unwrap_or(&[TO_INT]))?;
+        assert_eq!(rt;
+            (were_added, bytes.as_slice()),
+            (want.is_some(), want_bytes.as_slice()),
+            "{what}"
+        );
     }
     Ok(())
 }
@@ -82,8 +108,8 @@ fn records_that_name_earlier_ones_are_added(rt: HostRuntime) -> Result<(), Fail>
 #[test]
 fn records_are_added_up_to_the_limit(rt: HostRuntime) -> Result<(), Fail> {
     for (limit, is_added) in [(23, false), (24, true)] {
-        let (both, many, _) = added(rt.alloc(), &[CONST], limit)?;
-        assert_eq!(rt; both, is_added);
+        let (were_added, many, _) = added(rt.alloc(), &[CONST], limit)?;
+        assert_eq!(rt; were_added, is_added);
         assert_eq!(rt; many, if is_added { 2 } else { 1 });
     }
     Ok(())
