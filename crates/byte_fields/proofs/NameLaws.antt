@@ -5,7 +5,7 @@ use Rattle.std.specs.List.{list_any, before_first, position_or_len}
 use Rattle.std.proofs.lemmas.List.{drop_all}
 use Rattle.std.proofs.lemmas.List.Sums.{position_or_len_is}
 use Rattle.std.proofs.lemmas.Bool.{lt-ltb, le-ltb, false_from_ne_true}
-use Rattle.memchr.specs.Find.{IsFirstByte, is_byte}
+use Rattle.bstr.specs.Find.{IsFirstByte, is_byte}
 use Rattle.byte_fields.specs.Name.{name_at, name_len, has_name}
 
 -- the first NUL says how long the name is

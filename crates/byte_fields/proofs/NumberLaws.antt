@@ -1,6 +1,6 @@
 -- Numbers in parts of a list of bytes, and bytes that are made of numbers.
 use Rattle.std.proofs.Common.{◌≡◌, ℕ, zero, suc, ◌+◌, ◌*◌, ◌<◌, ◌≤◌, ◌^◌, List, [], ◌∷◌, ◌++◌, length, map, take, drop, get_or, refl, sym, ap, ◌∙◌, arith, append_assoc, inl, inr}
-use Rattle.std.proofs.lemmas.List.{get_or-drop, get_or-take, get_or_past, get_or_append_left, length-append, length-take, length-drop, drop-drop, drop_at, take-append-drop, take-take, drop-take}
+use Rattle.std.proofs.lemmas.List.{get_or-drop, get_or-take, get_or_past, length-append, length-take, length-drop, drop-drop, drop_at, take-append-drop, take-take, drop-take}
 use Rattle.std.proofs.lemmas.Bool.{cases_lt}
 use Rattle.std.proofs.lemmas.Nat.{le_bytes_4}
 use Rattle.std.specs.List.{range_with_len}

@@ -4,7 +4,7 @@ ghost use Rattle.std.specs.Prelude.{◌≡◌, ◌≤◌, ◌==◌, length, drop
 ghost use Rattle.std.specs.List.{before_first, list_any};
 ghost use Rattle.byte_fields.specs.Name.{name_at};
 
-use memchr::memchr;
+use bstr::ByteSlice;
 
 /// The bytes from `offset` on.
 fn rest_from(bytes: &[u8], offset: usize) -> &[u8]
@@ -26,6 +26,6 @@ pub fn name_at(bytes: &[u8], offset: usize) -> Option<&[u8]>
         return None;
     }
     let rest = rest_from(bytes, offset);
-    let len = memchr(0, rest)?;
+    let len = rest.find_byte(0)?;
     Some(&rest[..len])
 }

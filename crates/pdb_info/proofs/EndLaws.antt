@@ -6,7 +6,7 @@ use Rattle.std.proofs.lemmas.Bool.{cases_lt, cases_eq, lt-ltb, le-ltb, false_fro
 use Rattle.std.proofs.lemmas.List.{drop-drop, drop_all, length-drop, length-replicate, length-set, length-take, length-take-le, get_or-drop, get_or-take, get_or-set_same, get_or-set_other}
 use Rattle.std.proofs.lemmas.List.Folds.{list_any_at}
 use Rattle.std.proofs.lemmas.List.Sums.{position_or_len_is, fails_before_first, passes_at_first, prefix_len-le-length}
-use Rattle.memchr.specs.Find.{IsFirstByte, IsLastByte, is_byte}
+use Rattle.bstr.specs.Find.{IsFirstByte, IsLastByte, is_byte}
 use Rattle.byte_fields.specs.Name.{name_len}
 use Rattle.byte_fields.specs.Bytes.{AreBytes}
 use Rattle.byte_fields.specs.Number.{number_at}

@@ -8,7 +8,7 @@ ghost use Rattle.byte_fields.specs.Name.{name_len};
 ghost use Rattle.pdb_info.specs.Names.{is_named};
 ghost use Rattle.pdb_info.specs.Ends.{AreEnds};
 
-use memchr::{memchr, memrchr};
+use bstr::ByteSlice;
 use std::alloc::{AllocError, Allocator};
 
 /// How many bytes of the buffer a part has. The end of the name that begins at each part is kept.
@@ -19,7 +19,7 @@ const PART: usize = 64;
 pub(crate) fn ended_length(buffer: &[u8]) -> usize
     ensures { (offset : ℕ) → is_named buffer.now offset ≡ nat_lt offset result }
 {
-    match memrchr(0, buffer) {
+    match buffer.rfind_byte(0) {
         Some(last) => last + 1,
         None => 0,
     }
@@ -42,7 +42,7 @@ fn end_from(buffer: &[u8], start: usize, stop: usize, end: usize) -> usize
     requires known { end ≡ stop + name_len (drop stop buffer.now) }
     ensures { result ≡ start + name_len (drop start buffer.now) }
 {
-    match memchr(0, between(buffer, start, stop)) {
+    match between(buffer, start, stop).find_byte(0) {
         Some(len) => start + len,
         None => end,
     }
