@@ -27,7 +27,7 @@ demo:
 
 # The gate: every proof from nothing, every must-fail edit, every test; then the program as a
 # process, on the shipped files, with each call to the system failing in turn, with what is built
-# around it, and a minute of damaged files. tests/tools installs the tools that this needs, and
+# around it, and a minute of damaged files, then half a minute of them over the libraries. tests/tools installs the tools that this needs, and
 # `rt ci` leaves the program that it proved and linked.
 test:
 	tests/tools
@@ -45,6 +45,8 @@ test:
 	tests/dist $(PROGRAM)
 	tests/spread $(PROGRAM)
 	PDBMERGE=$(PROGRAM) tests/campaign 60 1
+	tests/driver $(PROGRAM)
+	tests/campaign --driver crates/campaign_driver/out/campaign_driver 30 1
 
 # Times merges of growing size beside llvm-pdbutil, and plots them in docs/sizes.svg.
 bench: $(PROGRAM)
