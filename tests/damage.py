@@ -230,8 +230,13 @@ def some_member(rng, count, kind=None):
         body += rng.randbytes(4)
     body += b''.join(some_numeric(rng, rng.random() < 0.95) for _ in range(numerics))
     body += b''.join(some_name(rng) for _ in range(names))
-    pad = -len(body) % 4
-    return body + (bytes(0xF0 + k for k in range(pad, 0, -1)) if rng.random() < 0.9 else b'')
+    pad = bytes(0xF0 + k for k in range(-len(body) % 4, 0, -1))
+    turn = rng.random()
+    if turn < 0.05:
+        body = body.rstrip(b'\0') if names else body  # the name has no end, or another one
+    elif turn < 0.1:
+        pad = rng.choice([b'', bytes([rng.randrange(0xF0, 0x100)]), b'\xf0' * len(pad), b'\xff\xfe'])
+    return body + pad
 
 
 def some_methods(rng, count):
@@ -373,6 +378,14 @@ def changed_stream(streams, rng):
         stream = bytearray(streams[at])
         stream[rng.randrange(min(len(stream), rng.choice([60, 200, len(stream)])))] = rng.randrange(256)
         streams[at] = bytes(stream)
+
+
+def changed_header(streams, rng):
+    """A number of the header of the type stream is another, mostly by little."""
+    if len(streams) > 2 and len(streams[2]) >= HEADER:
+        at = 4 * rng.randrange(5)
+        number = rng.choice([u32_at(streams[2], at) + rng.choice([-4, -1, 1, 4]) & NIL, 0, FIRST - 1, FIRST, HEADER, NIL])
+        streams[2] = streams[2][:at] + words(number) + streams[2][at + 4:]
 
 
 def bits_of(buckets):
@@ -554,7 +567,7 @@ def added_ring(records, rng, _):
 
 OF_FILES = [changed_bytes, changed_number, changed_number, swapped_blocks, cut_file, grown_file]
 OF_PLANS = [one_block_twice, one_block_often, stream_in_directory, directory_in_stream, directory_twice, strange_size, map_block_in_stream]
-OF_STREAMS = [cut_stream, grown_stream, swapped_streams, changed_stream, changed_stream, random_names, random_names]
+OF_STREAMS = [cut_stream, grown_stream, swapped_streams, changed_stream, changed_stream, changed_header, random_names, random_names]
 # After these the records are still cut where their lengths say.
 KEEP_LENGTHS = [cut_records, doubled_records, removed_record, shuffled_records, spliced_records, changed_record, changed_kind, cut_record,
                 changed_references, changed_references, turned_references, permuted_records, added_leaves, added_leaves, added_members,
