@@ -693,9 +693,14 @@ def twins(examples, rng):
     return [file_of(example.size(rng), example.with_records(each)[:5], rng) for each in (records, others)]
 
 
+def is_heavy(number):
+    """Whether the case with this number has about as many bytes as fit with blocks of 512 bytes."""
+    return number % 2000 == 300
+
+
 def files_of(number, examples, rng):
     """The files of a case, and whether the first two are twins."""
-    if number % 2000 == 300:
+    if is_heavy(number):
         example = examples[-1]
         return [file_of(4096, example.with_records(heavy_records(rng))[:5], rng)], False
     if rng.random() < 0.12:
@@ -707,7 +712,8 @@ def case_of(seed, number, examples):
     """The case with this number."""
     rng = random.Random(f'{seed}:{number}')
     files, are_twins = files_of(number, examples, rng)
-    block = rng.choice([4096, 4096, 512, rng.choice(SIZES)])
+    # Files of any size fit with blocks of 4,096 bytes. Then the limits are tried.
+    block = 4096 if is_heavy(number) else rng.choice([4096, 4096, 512, rng.choice(SIZES)])
     return Case(f'{seed}-{number}', files, are_twins, block, MOST_BYTES, rng.randrange(len(files)))
 
 
