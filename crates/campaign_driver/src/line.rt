@@ -2,8 +2,8 @@
 //!
 //! After `ok` a line has the number of bytes that were written, their hash, how many lines they are,
 //! and the sum of the numbers that end a line. So what was written can be compared without its text.
-//! The line of `check`, and of a merge, has the words of the report after these. After `fault` a line has
-//! the text of the fault.
+//! The line of `check`, and of a merge, has the words of the report after these. After `fault` a line
+//! has the text of the fault.
 
 use pdb_commands::RunFault;
 use std::fmt::Write;
