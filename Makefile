@@ -27,8 +27,9 @@ demo:
 
 # The gate: every proof from nothing, every must-fail edit, every test; then the program as a
 # process, on the shipped files, with each call to the system failing in turn, with what is built
-# around it, and a minute of damaged files, then half a minute of them over the libraries. tests/tools installs the tools that this needs, and
-# `rt ci` leaves the program that it proved and linked.
+# around it, and a minute of damaged files; then half a minute of them over the libraries, by the
+# program of campaign_driver. tests/tools installs the tools that this needs, and `rt ci` leaves the
+# programs that it proved and linked.
 test:
 	tests/tools
 	$(RT) ci
