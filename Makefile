@@ -36,6 +36,7 @@ test:
 	mkdir -p build
 	cp crates/pdbmerge/out/pdbmerge $(PROGRAM)
 	docs/figures --check
+	tools/stale
 	tests/program $(PROGRAM)
 	tests/examples $(PROGRAM)
 	tests/failures $(PROGRAM)
