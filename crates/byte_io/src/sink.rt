@@ -25,6 +25,7 @@ pub trait Sink {
         ensures bound { result ≤ length bytes.now }
         ensures takes { Appends (taken self.old) (taken self.new) (take result bytes.now) }
         ensures refuses { 0 < length bytes.now → result ≡ 0 → is_broken self.new ≡ true }
+        ensures whole { 0 < result → is_broken self.new ≡ is_broken self.old }
         ensures stays { is_broken self.old ≡ true → is_broken self.new ≡ true };
 }
 
@@ -77,6 +78,7 @@ impl<W: Write> Out<W> {
 pub fn put_all<W: Sink>(out: &mut W, bytes: &[u8]) -> Result<(), NotTaken>
     ensures ok { OnOk result (Appends (W.taken out.old) (W.taken out.new) bytes.now) }
     ensures broken { OnErr result (W.is_broken out.new ≡ true) }
+    ensures whole { OnOk result (W.is_broken out.new ≡ W.is_broken out.old) }
     ensures stays { W.is_broken out.old ≡ true → W.is_broken out.new ≡ true }
     ensures prefix { OnErr result ((n : ℕ) × (n < length bytes.now)
         × Appends (W.taken out.old) (W.taken out.new) (take n bytes.now)) }

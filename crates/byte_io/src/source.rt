@@ -22,6 +22,7 @@ pub trait Source {
         ensures bound { IfSome result (λ n. n ≤ length into.new) }
         ensures gives { IfSome result (λ n. Consumes (left self.old) (left self.new) (take n into.new)) }
         ensures end { IfSome result (λ n. 0 < length into.new → n ≡ 0 → IsAtEnd (left self.new)) }
+        ensures whole { IfSome result (λ _. is_broken self.new ≡ is_broken self.old) }
         ensures refuses { IfNone result (0 < length into.new → is_broken self.new ≡ true) }
         ensures stays { is_broken self.old ≡ true → is_broken self.new ≡ true };
 }

@@ -1,4 +1,4 @@
-use Rattle.std.proofs.Common.{arith, take, ◌++◌}
+use Rattle.std.proofs.Common.{arith, take, ◌++◌, ◌∙◌}
 use Rattle.std.proofs.KnownBytes.{Appends-trans}
 use Rattle.byte_io.proofs.SinkLaws.{taken_more, prefix_is}
 use Rattle.byte_io.proofs.sink.put_all.Goals as goal
@@ -19,5 +19,5 @@ loop-rest-preserved g c =
         taken_more c.args.bytes.now rest so_far.0 n so_far.1,
         Appends-trans _ (g.W.Sink.taken c.loop-rest.out) _ so_far.0 (take n rest) so_far.2 c.put-count.ensures.takes,
       ),
-      λ broken. c.put-count.ensures.stays (c.loop-rest.invariant.1 broken),
+      c.put-count.ensures.whole (grind arith) ∙ c.loop-rest.invariant.1,
     )
