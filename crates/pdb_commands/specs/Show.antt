@@ -1,7 +1,7 @@
 -- How a command that shows a file answers: it reads the whole file, makes a text from it and prints the text, or is refused.
 use Rattle.std.specs.Prelude.{ℕ, ◌≡◌, ◌<◌, ◌⊎◌, Bool, true, List, length, take, Option, Result, OnOk, IfErr}
 use Rattle.std.specs.Io.KnownBytes.{Appends}
-use Rattle.byte_io.specs.Input.{GivesAll, IsNotRead}
+use Rattle.byte_io.specs.Input.{GivesAll, IsNotRead, HasGiven}
 use Rattle.byte_io.specs.declared.input.ReadFault.{ReadFault}
 use Rattle.pdb_commands.specs.declared.fault.RunFault.{RunFault}
 use Rattle.pdb_commands.specs.declared.fault.RunFault.TheVariants.{Read, Memory, Write}
@@ -38,11 +38,12 @@ IsOfText (Read fault) = ⊥
 IsOfText Write = ⊥
 IsOfText _ = Unit {0}
 
--- how a command that shows a file answers: it prints what shows the file, or is refused by reading or by the file's first fault; a sink that breaks took the first bytes of the text, and after any other refusal it is as it was
+-- how a command that shows a file answers: it prints what shows the file, or is refused by reading or by the file's first fault; memory runs out only where no more than the limit came; a sink that breaks took the first bytes of the text, and after any other refusal it is as it was
 pub record Answers {A W T : Type 0} (Shows : List ℕ → List ℕ → Type 0) (Refuses : List ℕ → RunFault A → Type 0) (limit : ℕ) (left_before left_after : Option (List ℕ)) (source_broken : Bool)
     (taken : W → Option (List ℕ)) (is_broken : W → Bool) (before after : W) (result : Result T (RunFault A)) : Type 0 where
   pub value : OnOk result (Prints Shows limit left_before left_after (taken before) (taken after))
   pub read : IfErr result (IfRead (IsNotRead left_before left_after source_broken limit))
   pub first : IfErr result (IfOfFile (GivesRefused Refuses limit left_before left_after))
+  pub memory : IfErr result (λ fault. fault ≡ Memory → HasGiven left_before left_after limit)
   pub write : IfErr result (λ fault. fault ≡ Write → (is_broken after ≡ true) × PrintsPart Shows limit left_before left_after (taken before) (taken after))
   pub untouched : IfErr result (λ fault. (fault ≡ Write) ⊎ (after ≡ before))

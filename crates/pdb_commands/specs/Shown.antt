@@ -1,7 +1,8 @@
 -- What the commands that show a file print and refuse, with a limit on the stream that they read.
 use Rattle.std.specs.Prelude.{ℕ, ◌≡◌, ◌<◌, ◌-◌, ◌^◌, ◌⊎◌, List, Option, Some, None, slice_get}
+use Rattle.byte_fields.specs.Check.{first_failing}
 use Rattle.msf_blocks.specs.Directory.{Listed, bytes_of}
-use Rattle.msf_blocks.specs.Layout.{LayoutView, HasLayout}
+use Rattle.msf_blocks.specs.Layout.{LayoutView, HasLayout, layout_checks}
 use Rattle.pdb_commands.specs.Check.{ShowsChecked, HasNoAccepted}
 use Rattle.pdb_commands.specs.Info.{ShowsInfo, HasNoInfo}
 use Rattle.pdb_commands.specs.Record.{ShowsRecord, HasNoRecord}
@@ -45,6 +46,11 @@ pub record HasLongStream (limit s : ℕ) (file : List ℕ) : Type 0 where
   pub stream : Listed
   pub is_stream : slice_get layout.streams s ≡ Some stream
   pub long : limit < bytes_of stream.size
+
+-- memory may run out while a stream of this file is held against the limit: there is a limit, and the container has no fault
+pub record MayRunOut (limit : ℕ) (file : List ℕ) : Type 0 where
+  pub limited : limit < 2 ^ 32 - 1
+  pub sound : first_failing (layout_checks file) ≡ None
 
 -- the stream that the command reads has more bytes than the limit
 abbrev pub ReadsTooLong : Shown → ℕ → List ℕ → Type 0

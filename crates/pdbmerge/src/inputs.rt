@@ -1,6 +1,6 @@
 //! The files that a merge reads.
 
-ghost use Rattle.std.specs.Prelude.{None};
+ghost use Rattle.std.specs.Prelude.{◌≡◌, None, Some, length, slice_get, IfSome, IfNone};
 
 use crate::files::open_within;
 use byte_io::{In, InputFault, Inputs, ReadFault, read_into, skip_all};
@@ -20,7 +20,10 @@ pub struct InputFiles<'a, R: Files> {
 impl<'a, R: Files + AllocGlobal> InputFiles<'a, R> {
     /// The files with these names. None of them is opened yet. A file with more than `max_bytes`
     /// bytes is too long, and so is one whose stream of types has more.
-    pub fn new(rt: &'a R, names: &'a [String], max_bytes: u32) -> InputFiles<'a, R> {
+    pub fn new(rt: &'a R, names: &'a [String], max_bytes: u32) -> InputFiles<'a, R>
+        ensures names { result.names.now ≡ names.now }
+        ensures limit { result.max_bytes ≡ max_bytes }
+    {
         InputFiles {
             rt,
             names,
@@ -28,9 +31,17 @@ impl<'a, R: Files + AllocGlobal> InputFiles<'a, R> {
         }
     }
 
+    /// The name of the file at a position, from 0.
+    fn name(&self, input: usize) -> Option<&'a String>
+        ensures value { IfSome result (λ name. slice_get self.now.names.now input ≡ Some name.now) }
+        ensures none { IfNone result (slice_get self.now.names.now input ≡ None) }
+    {
+        self.names.get(input)
+    }
+
     /// Opens the file at a position, from 0.
     fn open(&self, input: usize) -> Result<R::File, InputFault> {
-        let name = self.names.get(input).ok_or(InputFault::Open)?;
+        let name = self.name(input).ok_or(InputFault::Open)?;
         open_within(self.rt, name.as_str(), self.max_bytes)
     }
 
@@ -54,7 +65,9 @@ fn told_length<F: OpenFile>(file: &F) -> usize {
 impl<R: Files + AllocGlobal> Inputs for InputFiles<'_, R> {
     ghost known = { λ _. None };
 
-    fn count(&self) -> usize {
+    fn count(&self) -> usize
+        ensures { result ≡ length self.now.names.now }
+    {
         self.names.len()
     }
 

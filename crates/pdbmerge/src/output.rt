@@ -1,6 +1,8 @@
 //! The file that the program writes.
 
-ghost use Rattle.std.specs.Prelude.{◌≡◌, None, false};
+ghost use Rattle.std.specs.Prelude.{◌≡◌, false};
+ghost use Rattle.std.specs.Io.KnownBytes.{Keeps};
+ghost use Rattle.pdbmerge.specs.Output.{taken_of};
 
 use byte_io::{NotTaken, Out, Sink};
 use std::fs;
@@ -26,7 +28,7 @@ enum State<F> {
 }
 
 /// A file that is created at its first write. So an older file at its path is untouched until there
-/// is something to write.
+/// is something to write. Once it is created, it took what the sink of the file took.
 #[derive(Drop)]
 pub struct NewFile<'a, R: Files> {
     rt: &'a R,
@@ -62,9 +64,10 @@ impl<'a, R: Files> NewFile<'a, R> {
         }
     }
 
-    /// Creates the file, unless that was tried before.
+    /// Creates the file, unless that was tried before. What a created file took stays.
     fn create(&mut self)
-        ensures { ⟦<NewFile<'a, R> as Sink>⟧.is_broken self.new ≡ ⟦<NewFile<'a, R> as Sink>⟧.is_broken self.old }
+        ensures same { ⟦<NewFile<'a, R> as Sink>⟧.is_broken self.new ≡ ⟦<NewFile<'a, R> as Sink>⟧.is_broken self.old }
+        ensures keeps { Keeps (⟦<NewFile<'a, R> as Sink>⟧.taken self.old) (⟦<NewFile<'a, R> as Sink>⟧.taken self.new) }
     {
         if let State::Absent = &self.state {
             self.state = match fs::create(self.rt, self.path) {
@@ -76,7 +79,7 @@ impl<'a, R: Files> NewFile<'a, R> {
 }
 
 impl<R: Files> Sink for NewFile<'_, R> {
-    ghost taken = { λ _. None };
+    ghost taken = { λ s. taken_of ⟦<Out<R::File> as Sink>⟧.taken s.state };
 
     ghost is_broken = { λ s. s.broken };
 

@@ -1,5 +1,5 @@
 use Rattle.std.proofs.Common.{◌≡◌, arith}
-use Rattle.pdb_commands.proofs.BoundLaws.{not_long}
+use Rattle.pdb_commands.proofs.BoundLaws.{not_long, sound_without_memory}
 use Rattle.pdb_commands.proofs.bound.check_stream.Goals as goal
 use Rattle.pdb_commands.proofs.bound.check_stream.Goals.{in_default-via-in-Some+else-limit-size, in_default-via-in_default}
 
@@ -15,4 +15,11 @@ pub returns : goal.returns
 returns g c = record {
   value = λ long. c.in_default-fault.not-Memory (c.in-Err.ensures.found long.layout long.has_layout);
   first = tt;
+  memory = tt;
+}
+
+pub returns-in-Memory-clause-memory : goal.returns-in-Memory-clause-memory
+returns-in-Memory-clause-memory g c = λ same. record {
+  limited = omega (arith, c.if-limit-eq4294967295.false, c.ranges.limit.fits);
+  sound = sound_without_memory c.args.file.now c.in-Err.fault c.in-Memory.is c.in-Err.ensures.first;
 }
