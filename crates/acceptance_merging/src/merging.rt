@@ -1,18 +1,21 @@
 //! What no clause says: the texts of the faults, changed samples, one buffer for many files, and
 //! out of memory.
 
+mod calls;
 mod damaged;
 mod forward;
+mod growth;
 mod merging;
 mod readers;
 mod scattered;
 mod sizes;
 
+use calls::types_of;
 use cv_leaves::LeafFault;
 use msf_blocks::MsfFault;
 use msf_streams::StreamFault;
 use pdb_info::InfoFault;
-use pdb_merge::{Buffer, MergeFault, PdbFault, read_types};
+use pdb_merge::{Buffer, MergeFault, PdbFault};
 use samples::{TestHeap, offset, put, refusals, sample};
 use std::alloc::{Allocator, Global};
 use std::test::Fail;
@@ -24,7 +27,7 @@ type Answer<A = Global> = Result<(usize, u32, u32), PdbFault<A>>;
 
 /// Reads the types of a file through a buffer.
 fn read<A: Allocator + Copy>(alloc: A, file: &[u8], buffer: &mut Buffer<A>) -> Answer<A> {
-    let types = read_types(alloc, file, buffer)?;
+    let types = types_of(alloc, file, buffer)?;
     Ok((types.len(), types.bytes_len(), types.levels()))
 }
 
@@ -150,8 +153,8 @@ fn each_fault_has_its_text(rt: HostRuntime) -> Result<(), Fail> {
 }
 
 /// Reads a file through a buffer, and returns whether that was refused memory. Unless the heap was
-/// too small, the file is read again through the same buffer: its old bytes are dropped first, so the
-/// heap has room for them. It is a failure if anything else than `want` is found.
+/// too small, the file is read again through the same buffer: its old bytes are dropped first, so
+/// the heap has room for them. It is a failure if anything else than `want` is found.
 fn read_twice(heap: &TestHeap, file: &[u8], want: (usize, u32, u32)) -> Result<bool, Fail> {
     let mut buffer = Buffer::new(heap);
     let found = read(heap, file, &mut buffer);

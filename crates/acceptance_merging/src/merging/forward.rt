@@ -1,8 +1,8 @@
 //! Records that name later ones, and cycles.
 
+use super::calls::{list_of, merge_bytes, types_of};
 use super::merging::merged;
-use msf_blocks::Out;
-use pdb_merge::{Buffer, merge_files, merge_to, read_types};
+use pdb_merge::{Buffer, MergeFault, OutFault};
 use samples::{
     CONST, LIMIT, TO_FIRST, TO_FOURTH, TO_INT, TO_SECOND, TO_SIXTH, TO_THIRD, folding, pdb,
     pdb_with, pointer, refusals, settings,
@@ -13,7 +13,7 @@ use std::test::Fail;
 /// The answer for a file: how many levels its types have, or the text of the fault.
 fn said<A: Allocator + Copy>(alloc: A, text: Global, file: &[u8]) -> Result<String, Fail> {
     let mut buffer = Buffer::new(alloc);
-    match read_types(alloc, file, &mut buffer) {
+    match types_of(alloc, file, &mut buffer) {
         Ok(types) => Ok(types.levels().to_string(text)?),
         Err(fault) => Ok(fault.to_string(text)?),
     }
@@ -53,17 +53,21 @@ fn each_file_is_accepted_or_named(rt: HostRuntime) -> Result<(), Fail> {
     Ok(())
 }
 
+/// The text of the fault of two files that are not merged, if nothing is written.
+fn fault_of_two(alloc: Global, first: &[u8], second: &[u8]) -> Result<String, Fail> {
+    let (answer, written) = merged(alloc, &[first, second], LIMIT)?;
+    match answer {
+        Err(fault) if written.is_empty() => Ok(fault.to_string(alloc)?),
+        _ => Err("something was written".into()),
+    }
+}
+
 #[test]
 fn a_cycle_in_the_second_file(rt: HostRuntime) -> Result<(), Fail> {
     let good = pdb_with(rt.alloc(), &[TO_SECOND, CONST])?;
     let cycle = pdb_with(rt.alloc(), &[TO_SECOND, TO_FIRST, CONST])?;
-    let (answer, written) = merged(rt.alloc(), &[good.as_slice(), cycle.as_slice()], LIMIT)?;
-    let Err(fault) = answer else {
-        return Err("a cycle was merged".into());
-    };
-    let text = fault.to_string(rt.alloc())?;
+    let text = fault_of_two(rt.alloc(), &good, &cycle)?;
     assert_eq!(rt; text.as_str(), "file 1: 34 Cycle 0x1000 0x1001");
-    assert!(rt; written.is_empty());
     Ok(())
 }
 
@@ -84,16 +88,25 @@ fn chain(alloc: Global, pointers: u32, forward: bool) -> Result<Vec<u8>, Fail> {
     Ok(bytes)
 }
 
+/// A file of a chain of 10,000 types.
+fn chain_file(alloc: Global, forward: bool) -> Result<Vec<u8>, Fail> {
+    pdb(alloc, 10_000, &chain(alloc, 9_999, forward)?)
+}
+
+/// Whether the file that is written for a file of 10,000 types is this one.
+fn merges_as(alloc: Global, file: &[u8], want: &[u8]) -> Result<bool, Fail> {
+    let (answer, written) = merged(alloc, &[file], LIMIT)?;
+    Ok(answer?.types == 10_000 && written.as_slice() == want)
+}
+
 #[test]
 fn a_forward_chain_merges_as_the_chain_turned_round(rt: HostRuntime) -> Result<(), Fail> {
-    let forward = pdb(rt.alloc(), 10_000, &chain(rt.alloc(), 9_999, true)?)?;
-    let turned = pdb(rt.alloc(), 10_000, &chain(rt.alloc(), 9_999, false)?)?;
+    let forward = chain_file(rt.alloc(), true)?;
+    let turned = chain_file(rt.alloc(), false)?;
     let levels = said(rt.alloc(), rt.alloc(), &forward)?;
     assert_eq!(rt; levels.as_str(), "10000");
-    let (of_forward, first) = merged(rt.alloc(), &[forward.as_slice()], LIMIT)?;
-    let (of_turned, second) = merged(rt.alloc(), &[turned.as_slice()], LIMIT)?;
-    assert_eq!(rt; (of_forward?.types, of_turned?.types), (10_000, 10_000));
-    assert!(rt; first == second && first == turned);
+    assert!(rt; merges_as(rt.alloc(), &forward, &turned)?);
+    assert!(rt; merges_as(rt.alloc(), &turned, &turned)?);
     Ok(())
 }
 
@@ -113,14 +126,14 @@ fn growth_is_refused_in_turn(rt: HostRuntime) -> Result<(), Fail> {
 }
 
 /// The answer for a merge of two files: how many types they have, or the text of the fault.
-fn said_of_two<'a, A: Allocator + Copy>(
+fn said_of_two<A: Allocator + Copy>(
     alloc: A,
     text: Global,
-    first: &'a [u8],
-    second: &'a [u8],
+    first: &[u8],
+    second: &[u8],
 ) -> Result<String, Fail> {
-    let files = [first, second];
-    match merge_files(alloc, files.as_slice(), &settings(LIMIT, 4096)?, folding()) {
+    let settings = settings(LIMIT, 4096)?;
+    match list_of(alloc, &[first, second], &settings, folding()) {
         Ok(canon) => Ok(canon.len().to_string(text)?),
         Err(fault) => Ok(fault.to_string(text)?),
     }
@@ -148,31 +161,31 @@ fn merges_are_refused_growth_in_turn(rt: HostRuntime) -> Result<(), Fail> {
     Ok(())
 }
 
+/// Whether a merge of a file is refused memory. It is a failure if it has another fault, if
+/// anything was written where it is refused, or if another file than `want` is written.
+fn is_refused<A: Allocator + Copy>(
+    heap: A,
+    alloc: Global,
+    file: &[u8],
+    want: &[u8],
+) -> Result<bool, Fail> {
+    let settings = settings(LIMIT, 4096)?;
+    let (answer, written) = merge_bytes(heap, alloc, &[file], &settings, folding());
+    match answer {
+        Ok(_) if written.as_slice() == want => Ok(false),
+        Err(OutFault::Memory | OutFault::Merge(MergeFault::Memory)) if written.is_empty() => {
+            Ok(true)
+        }
+        _ => Err("another answer".into()),
+    }
+}
+
 #[test]
 fn a_merge_of_a_chain_is_refused_growth_in_turn(rt: HostRuntime) -> Result<(), Fail> {
-    let forward = pdb(rt.alloc(), 10_000, &chain(rt.alloc(), 9_999, true)?)?;
-    let turned = pdb(rt.alloc(), 10_000, &chain(rt.alloc(), 9_999, false)?)?;
-    let files = [forward.as_slice()];
+    let forward = chain_file(rt.alloc(), true)?;
+    let turned = chain_file(rt.alloc(), false)?;
     let refused = refusals(rt.alloc(), 131_072, 48, |heap| {
-        let mut file = Vec::new(rt.alloc());
-        let mut out = Out::new(&mut file);
-        match merge_to(
-            heap,
-            files.as_slice(),
-            &settings(LIMIT, 4096)?,
-            &mut out,
-            folding(),
-        ) {
-            Ok(_) => {
-                assert!(rt; file == turned);
-                Ok(false)
-            }
-            Err(fault) => {
-                let text = fault.to_string(rt.alloc())?;
-                assert!(rt; text.as_str() == "33 Memory" && file.is_empty());
-                Ok(true)
-            }
-        }
+        is_refused(heap, rt.alloc(), &forward, &turned)
     })?;
     assert!(rt; 4 < refused);
     Ok(())

@@ -1,17 +1,16 @@
-//! Merging: what is written for some lists of files, the faults, sinks that break, and out of
-//! memory.
+//! Merging: what is written for some lists of files, the faults, and sinks that break.
 
-use msf_blocks::{MsfFault, Out};
-use msf_streams::WriteFault;
-use pdb_merge::{
-    AddFault, Buffer, Merge, MergeFault, OutFault, PdbFault, Summary, merge_files, merge_to,
-    write_merged,
+use super::calls::{
+    add, copied, empty_merge, finish, list_of, merge_bytes, merge_into, write_bytes,
 };
+use msf_blocks::MsfFault;
+use msf_streams::WriteFault;
+use pdb_info::Settings;
+use pdb_merge::{AddFault, Buffer, Merge, MergeFault, OutFault, PdbFault, Summary};
 use samples::{
-    CONST, DECLARATION, DEFINITION, LIMIT, LIST, LIST_BEFORE_FIRST, MEMBER_OF_FIRST,
-    MEMBER_OF_SECOND, NO_MEMBER, Narrow, Refusal, TO_FIFTH, TO_FIRST, TO_FOURTH, TO_INT, TO_SECOND,
-    TO_THIRD, TestHeap, VOLATILE, bytes_of, folding, pdb_with, refusals, refusals_amid, sample,
-    settings,
+    CONST, Constant, DECLARATION, DEFINITION, LIMIT, LIST, LIST_BEFORE_FIRST, MEMBER_OF_FIRST,
+    MEMBER_OF_SECOND, NO_MEMBER, Narrow, TO_FIFTH, TO_FIRST, TO_FOURTH, TO_INT, TO_SECOND,
+    TO_THIRD, VOLATILE, bytes_of, folding, pdb_with, sample, settings,
 };
 use std::alloc::{Allocator, Global};
 use std::hash::BuildHasher;
@@ -88,10 +87,72 @@ pub(super) fn merged(
     limit: u32,
 ) -> Result<(Result<Summary, OutFault>, Vec<u8>), Fail> {
     let settings = settings(limit, 4096)?;
-    let mut file = Vec::new(alloc);
-    let mut out = Out::new(&mut file);
-    let answer = merge_to(alloc, files, &settings, &mut out, folding());
-    Ok((answer, file))
+    Ok(merge_bytes(alloc, alloc, files, &settings, folding()))
+}
+
+/// What a merge has to give: the bytes of its list, the file that is written, and what is said of
+/// it.
+#[derive(Drop)]
+pub(super) struct Want {
+    pub(super) list: Vec<u8>,
+    pub(super) file: Vec<u8>,
+    pub(super) said: Summary,
+}
+
+/// What a merge has to give whose list has these records.
+pub(super) fn wanted(alloc: Global, records: &[&[u8]]) -> Result<Want, Fail> {
+    let list = bytes_of(alloc, records)?;
+    let said = Summary {
+        types: u32::try_from(records.len())?,
+        bytes: u32::try_from(list.len())?,
+        length: 28672,
+    };
+    Ok(Want {
+        list,
+        file: pdb_with(alloc, records)?,
+        said,
+    })
+}
+
+/// Whether a list is the one that is wanted.
+fn is_listed(canon: &Canon, want: &Want) -> bool {
+    canon.bytes() == want.list.as_slice() && canon.len() == want.said.types as usize
+}
+
+/// Whether the list of files, by this hasher, is the one that is wanted.
+fn lists<S: BuildHasher + Drop>(
+    alloc: Global,
+    hasher: S,
+    files: &[&[u8]],
+    settings: &Settings,
+    want: &Want,
+) -> Result<bool, Fail> {
+    match list_of(alloc, files, settings, hasher) {
+        Ok(canon) => Ok(is_listed(&canon, want)),
+        Err(fault) => Err(fault.to_string(alloc)?.into()),
+    }
+}
+
+/// Whether the file that is written for files, by this hasher, is the one that is wanted.
+fn writes<S: BuildHasher + Drop>(
+    alloc: Global,
+    hasher: S,
+    files: &[&[u8]],
+    settings: &Settings,
+    want: &Want,
+) -> bool {
+    let (answer, file) = merge_bytes(alloc, alloc, files, settings, hasher);
+    answer == Ok(want.said) && file == want.file
+}
+
+/// Whether both calls give by both hashers what is wanted of these files.
+fn all_give(alloc: Global, files: &[&[u8]], want: &Want) -> Result<bool, Fail> {
+    let settings = settings(LIMIT, 4096)?;
+    let listed = lists(alloc, folding(), files, &settings, want)?;
+    let slowly_listed = lists(alloc, Constant, files, &settings, want)?;
+    let written = writes(alloc, folding(), files, &settings, want);
+    let slowly_written = writes(alloc, Constant, files, &settings, want);
+    Ok(listed && slowly_listed && written && slowly_written)
 }
 
 #[test]
@@ -99,132 +160,251 @@ fn each_type_once_in_canonical_order(rt: HostRuntime) -> Result<(), Fail> {
     for (some, others, all) in ROWS {
         let first = pdb_with(rt.alloc(), some)?;
         let second = pdb_with(rt.alloc(), others)?;
-        let want = pdb_with(rt.alloc(), all)?;
-        let bytes = bytes_of(rt.alloc(), all)?;
-        let said = Summary {
-            types: u32::try_from(all.len())?,
-            bytes: u32::try_from(bytes.len())?,
-            length: 28672,
-        };
+        let want = wanted(rt.alloc(), all)?;
         for files in [
             [first.as_slice(), second.as_slice(), second.as_slice()],
             [second.as_slice(), first.as_slice(), first.as_slice()],
-            [want.as_slice(), first.as_slice(), second.as_slice()],
-            [want.as_slice(), want.as_slice(), want.as_slice()],
+            [want.file.as_slice(), first.as_slice(), second.as_slice()],
+            [
+                want.file.as_slice(),
+                want.file.as_slice(),
+                want.file.as_slice(),
+            ],
         ] {
-            let (answer, file) = merged(rt.alloc(), &files, LIMIT)?;
-            assert_eq!(rt; answer, Ok(said));
-            assert!(rt; file == want);
+            assert!(rt; all_give(rt.alloc(), &files, &want)?);
         }
     }
     Ok(())
 }
 
+/// Writes the file of a list of no types.
+fn written_of_none(alloc: Global) -> Result<(Result<(), WriteFault>, Vec<u8>), Fail> {
+    let settings = settings(LIMIT, 4096)?;
+    Ok(write_bytes(alloc, alloc, &Canon::empty(alloc), &settings))
+}
+
 #[test]
 fn no_files_and_an_empty_list(rt: HostRuntime) -> Result<(), Fail> {
-    let want = pdb_with(rt.alloc(), &[])?;
-    let (answer, file) = merged(rt.alloc(), &[], LIMIT)?;
-    let said = Summary {
-        types: 0,
-        bytes: 0,
-        length: 28672,
-    };
-    assert_eq!(rt; answer, Ok(said));
-    assert!(rt; file == want);
-    let mut file = Vec::new(rt.alloc());
-    let written = write_merged(
-        rt.alloc(),
-        &Canon::empty(rt.alloc()),
-        &settings(LIMIT, 4096)?,
-        &mut Out::new(&mut file),
-    );
+    let want = wanted(rt.alloc(), &[])?;
+    assert!(rt; all_give(rt.alloc(), &[], &want)?);
+    let (written, file) = written_of_none(rt.alloc())?;
     assert_eq!(rt; written, Ok(()));
-    assert!(rt; file == want);
+    assert!(rt; file == want.file);
     Ok(())
+}
+
+/// The file that is written for one file, which has one type.
+fn one_type(alloc: Global, file: &[u8]) -> Result<Vec<u8>, Fail> {
+    let (answer, written) = merged(alloc, &[file], LIMIT)?;
+    match answer {
+        Ok(summary) if summary.types == 1 => Ok(written),
+        _ => Err("not one type".into()),
+    }
 }
 
 #[test]
 fn other_types_give_other_files(rt: HostRuntime) -> Result<(), Fail> {
     let pointer = pdb_with(rt.alloc(), &[TO_INT])?;
     let modifier = pdb_with(rt.alloc(), &[CONST])?;
-    let (of_pointer, one) = merged(rt.alloc(), &[pointer.as_slice()], LIMIT)?;
-    let (of_modifier, other) = merged(rt.alloc(), &[modifier.as_slice()], LIMIT)?;
-    assert_eq!(rt; (of_pointer?.types, of_modifier?.types), (1, 1));
-    assert!(rt; one != other);
+    assert!(rt; one_type(rt.alloc(), &pointer)? != one_type(rt.alloc(), &modifier)?);
     Ok(())
 }
 
-/// The canonical list of two files, or the fault.
-fn listed<A: Allocator + Copy>(
-    alloc: A,
-    files: &[&[u8]; 2],
-    limit: u32,
-) -> Result<Result<Canon<A>, MergeFault<A>>, Fail> {
-    Ok(merge_files(alloc, files.as_slice(), &settings(limit, 4096)?, folding()))
+/// A file that a test gives.
+#[derive(Clone, Copy)]
+enum File {
+    /// A file with these records.
+    With(&'static [&'static [u8]]),
+    /// The sample.
+    Sample,
+    /// 56 zero bytes, which are no container.
+    Zeros,
 }
 
-/// Why two files are not merged, or how many bytes the records of their list have.
-fn outcome<'a>(
+/// The bytes of a file.
+fn bytes_in(alloc: Global, file: File) -> Result<Vec<u8>, Fail> {
+    match file {
+        File::With(records) => pdb_with(alloc, records),
+        File::Sample => Ok(sample(alloc)?),
+        File::Zeros => Ok(vec![in alloc; 0u8; 56]?),
+    }
+}
+
+/// The bytes of some files.
+fn files_of(alloc: Global, files: &[File]) -> Result<Vec<Vec<u8>>, Fail> {
+    let mut bytes = Vec::new(alloc);
+    for file in files {
+        bytes.push(bytes_in(alloc, *file)?)?;
+    }
+    Ok(bytes)
+}
+
+/// Files as a call takes them.
+fn lent<'a>(alloc: Global, files: &'a [Vec<u8>]) -> Result<Vec<&'a [u8]>, Fail> {
+    let mut slices = Vec::new(alloc);
+    for file in files {
+        slices.push(file.as_slice())?;
+    }
+    Ok(slices)
+}
+
+/// Why files are not merged, or how many bytes the records of their list have.
+fn outcome(alloc: Global, files: &[&[u8]], limit: u32) -> Result<Result<u32, MergeFault>, Fail> {
+    let settings = settings(limit, 4096)?;
+    Ok(list_of(alloc, files, &settings, folding()).map(|canon| canon.bytes_len()))
+}
+
+/// Why no file is written of files, or how many bytes its types have. If no file is written,
+/// nothing is.
+fn outcome_written(
     alloc: Global,
-    first: &'a [u8],
-    second: &'a [u8],
+    files: &[&[u8]],
     limit: u32,
 ) -> Result<Result<u32, MergeFault>, Fail> {
-    Ok(listed(alloc, &[first, second], limit)?.map(|canon| canon.bytes_len()))
+    let (answer, file) = merged(alloc, files, limit)?;
+    match answer {
+        Ok(summary) => Ok(Ok(summary.bytes)),
+        Err(OutFault::Merge(fault)) if file.is_empty() => Ok(Err(fault)),
+        Err(_) => Err("another fault, or bytes of a refused merge".into()),
+    }
 }
+
+/// Files, a limit, and the outcome of their merge.
+type Limited = (&'static [File], u32, Result<u32, MergeFault>);
+
+const LIMITED: [Limited; 12] = [
+    (&[File::With(&[TO_INT]), File::With(&[CONST])], 24, Ok(24)),
+    (
+        &[File::With(&[TO_INT]), File::With(&[TO_INT, CONST])],
+        24,
+        Ok(24),
+    ),
+    (
+        &[
+            File::With(&[CONST]),
+            File::With(&[TO_INT]),
+            File::With(&[CONST]),
+        ],
+        24,
+        Ok(24),
+    ),
+    (
+        &[File::With(&[TO_INT]), File::With(&[CONST])],
+        23,
+        Err(MergeFault::TooLarge { file: 1, bytes: 24 }),
+    ),
+    (
+        &[File::With(&[CONST]), File::With(&[TO_INT])],
+        23,
+        Err(MergeFault::TooLarge { file: 1, bytes: 24 }),
+    ),
+    (
+        &[File::With(&[TO_INT, CONST])],
+        23,
+        Err(MergeFault::TooLarge { file: 0, bytes: 24 }),
+    ),
+    (
+        &[File::With(&[TO_INT, CONST]), File::With(&[TO_INT])],
+        23,
+        Err(MergeFault::TooLarge { file: 0, bytes: 24 }),
+    ),
+    // The first file that is refused is named, whatever the faults are.
+    (
+        &[File::With(&[CONST]), File::Zeros],
+        11,
+        Err(MergeFault::TooLarge { file: 0, bytes: 12 }),
+    ),
+    (
+        &[File::With(&[CONST]), File::Zeros],
+        12,
+        Err(MergeFault::Refused {
+            file: 1,
+            fault: PdbFault::Msf(MsfFault::Magic),
+        }),
+    ),
+    (
+        &[File::Zeros],
+        LIMIT,
+        Err(MergeFault::Refused {
+            file: 0,
+            fault: PdbFault::Msf(MsfFault::Magic),
+        }),
+    ),
+    (
+        &[File::Sample, File::Zeros],
+        LIMIT,
+        Err(MergeFault::Refused {
+            file: 1,
+            fault: PdbFault::Msf(MsfFault::Magic),
+        }),
+    ),
+    (&[File::Sample], 24, Ok(24)),
+];
 
 #[test]
 fn the_limit_and_the_order_of_faults(rt: HostRuntime) -> Result<(), Fail> {
-    let pointer = pdb_with(rt.alloc(), &[TO_INT])?;
-    let modifier = pdb_with(rt.alloc(), &[CONST])?;
-    let both = pdb_with(rt.alloc(), &[TO_INT, CONST])?;
-    let zeros = vec![in rt.alloc(); 0u8; 56]?;
-    assert_eq!(rt; outcome(rt.alloc(), &pointer, &modifier, 24)?, Ok(24));
-    assert_eq!(rt; outcome(rt.alloc(), &pointer, &both, 24)?, Ok(24));
-    let second = Err(MergeFault::TooLarge { file: 1, bytes: 24 });
-    assert_eq!(rt; outcome(rt.alloc(), &pointer, &modifier, 23)?, second);
-    assert_eq!(rt; outcome(rt.alloc(), &modifier, &pointer, 23)?, second);
-    let first = Err(MergeFault::TooLarge { file: 0, bytes: 24 });
-    assert_eq!(rt; outcome(rt.alloc(), &both, &pointer, 23)?, first);
-    let first = Err(MergeFault::TooLarge { file: 0, bytes: 12 });
-    assert_eq!(rt; outcome(rt.alloc(), &modifier, &zeros, 11)?, first);
-    let magic = MergeFault::Refused {
-        file: 1,
-        fault: PdbFault::Msf(MsfFault::Magic),
-    };
-    assert_eq!(rt; outcome(rt.alloc(), &modifier, &zeros, 12)?, Err(magic));
+    for (files, limit, want) in LIMITED {
+        let bytes = files_of(rt.alloc(), files)?;
+        let slices = lent(rt.alloc(), &bytes)?;
+        assert_eq!(rt; outcome(rt.alloc(), &slices, limit)?, want);
+    }
     Ok(())
 }
 
 #[test]
 fn nothing_is_written_of_refused_files(rt: HostRuntime) -> Result<(), Fail> {
-    let zeros = vec![in rt.alloc(); 0u8; 56]?;
-    let (answer, file) = merged(rt.alloc(), &[zeros.as_slice()], LIMIT)?;
-    let magic = MergeFault::Refused {
-        file: 0,
-        fault: PdbFault::Msf(MsfFault::Magic),
-    };
-    assert_eq!(rt; answer, Err(OutFault::Merge(magic)));
-    assert!(rt; file.is_empty());
+    for (files, limit, want) in LIMITED {
+        let bytes = files_of(rt.alloc(), files)?;
+        let slices = lent(rt.alloc(), &bytes)?;
+        assert_eq!(rt; outcome_written(rt.alloc(), &slices, limit)?, want);
+    }
     Ok(())
+}
+
+/// The bytes of the types that a merge has taken.
+pub(super) fn bytes_of_merge<S: BuildHasher, A: Allocator + Copy>(
+    heap: A,
+    alloc: Global,
+    merge: &Merge<S, A>,
+) -> Result<Vec<u8>, Fail> {
+    let canon = finish(heap, merge)?;
+    copied(alloc, &canon)
+}
+
+/// What a merge says to a file.
+fn said_to<S: BuildHasher>(
+    merge: &mut Merge<S>,
+    alloc: Global,
+    file: File,
+    buffer: &mut Buffer,
+) -> Result<Result<(), AddFault>, Fail> {
+    let bytes = bytes_in(alloc, file)?;
+    Ok(add(merge, alloc, &bytes, buffer))
 }
 
 #[test]
 fn a_merge_goes_on_after_a_refusal(rt: HostRuntime) -> Result<(), Fail> {
-    let pointer = pdb_with(rt.alloc(), &[TO_INT])?;
-    let both = pdb_with(rt.alloc(), &[CONST, VOLATILE])?;
-    let modifier = pdb_with(rt.alloc(), &[CONST])?;
+    // the files of a merge at the limit of 24 bytes, and what it says to each
+    const FILES: [(File, Result<(), AddFault>); 4] = [
+        (File::With(&[TO_INT]), Ok(())),
+        (
+            File::With(&[CONST, VOLATILE]),
+            Err(AddFault::TooLarge { bytes: 36 }),
+        ),
+        (
+            File::Zeros,
+            Err(AddFault::Refused(PdbFault::Msf(MsfFault::Magic))),
+        ),
+        (File::With(&[CONST]), Ok(())),
+    ];
     let mut buffer = Buffer::new(rt.alloc());
-    let mut merge = Merge::new(rt.alloc(), 24, folding());
-    assert_eq!(rt; merge.add(rt.alloc(), &pointer, &mut buffer), Ok(()));
-    let large = AddFault::TooLarge { bytes: 36 };
-    assert_eq!(rt; merge.add(rt.alloc(), &both, &mut buffer), Err(large));
-    let magic = AddFault::Refused(PdbFault::Msf(MsfFault::Magic));
-    assert_eq!(rt; merge.add(rt.alloc(), &[0; 56], &mut buffer), Err(magic));
-    assert_eq!(rt; merge.add(rt.alloc(), &modifier, &mut buffer), Ok(()));
-    let canon = merge.finish(rt.alloc()).ok().ok_or("no list")?;
+    let mut merge = empty_merge(rt.alloc(), 24, folding());
+    for (file, want) in FILES {
+        assert_eq!(rt; said_to(&mut merge, rt.alloc(), file, &mut buffer)?, want);
+    }
+    let bytes = bytes_of_merge(rt.alloc(), rt.alloc(), &merge)?;
     let want = bytes_of(rt.alloc(), &[CONST, TO_INT])?;
-    assert_eq!(rt; canon.bytes(), want.as_slice());
+    assert_eq!(rt; bytes.as_slice(), want.as_slice());
     Ok(())
 }
 
@@ -236,183 +416,47 @@ fn merged_into(
     room: usize,
     step: usize,
 ) -> Result<(Narrow, Option<OutFault>), Fail> {
+    let settings = settings(LIMIT, 4096)?;
     let mut out = Narrow::new(alloc, step, room);
-    let files = [file];
-    let answer = merge_to(
-        alloc,
-        files.as_slice(),
-        &settings(LIMIT, 4096)?,
-        &mut out,
-        folding(),
-    );
+    let answer = merge_into(alloc, &[file], &settings, &mut out, folding());
     Ok((out, answer.err()))
+}
+
+/// Whether a sink that takes `room` bytes of a file, and no more, has just these, and the merge
+/// says that it broke.
+fn breaks(alloc: Global, file: &[u8], room: usize, step: usize) -> Result<bool, Fail> {
+    let (out, fault) = merged_into(alloc, file, room, step)?;
+    let taken = out.taken.as_slice();
+    Ok(fault == Some(OutFault::Write) && taken.len() == room && file.starts_with(taken))
 }
 
 #[test]
 fn sinks_that_break_after_each_byte(rt: HostRuntime) -> Result<(), Fail> {
     let want = pdb_with(rt.alloc(), &[])?;
     for room in 0..want.len() {
-        let (out, fault) = merged_into(rt.alloc(), &want, room, usize::MAX)?;
-        assert_eq!(rt; fault, Some(OutFault::Write));
-        assert!(rt; out.taken.len() == room && want.starts_with(&out.taken));
+        assert!(rt; breaks(rt.alloc(), &want, room, usize::MAX)?, "{room}");
     }
     Ok(())
+}
+
+/// Whether each of these sinks, which take `step` bytes a call, keeps the first bytes of a file.
+fn all_break(alloc: Global, file: &[u8], step: usize) -> Result<bool, Fail> {
+    for room in [0, 1, 55, 56, 4095, 4096, 4097, 12287, 28671] {
+        if !breaks(alloc, file, room, step)? {
+            return Ok(false);
+        }
+    }
+    Ok(true)
 }
 
 #[test]
 fn sinks_keep_the_first_bytes(rt: HostRuntime) -> Result<(), Fail> {
     let want = pdb_with(rt.alloc(), &[])?;
     for step in [1, 5000, usize::MAX] {
-        for room in [0, 1, 55, 56, 4095, 4096, 4097, 12287, 28671] {
-            let (out, fault) = merged_into(rt.alloc(), &want, room, step)?;
-            assert_eq!(rt; fault, Some(OutFault::Write));
-            assert!(rt; out.taken.len() == room && want.starts_with(&out.taken));
-        }
+        assert!(rt; all_break(rt.alloc(), &want, step)?, "{step}");
         let (out, fault) = merged_into(rt.alloc(), &want, want.len(), step)?;
         assert_eq!(rt; fault, None);
         assert!(rt; out.taken == want);
-    }
-    Ok(())
-}
-
-#[test]
-fn lists_are_refused_growth_in_turn(rt: HostRuntime) -> Result<(), Fail> {
-    let first = pdb_with(rt.alloc(), &[VOLATILE, CONST, TO_FIRST, TO_SECOND])?;
-    let second = pdb_with(rt.alloc(), &[TO_INT, CONST])?;
-    let files = [first.as_slice(), second.as_slice()];
-    let want = bytes_of(rt.alloc(), &[CONST, VOLATILE, TO_INT, TO_FIRST, TO_SECOND])?;
-    let refused = refusals(
-        rt.alloc(),
-        16,
-        512,
-        |heap| match listed(heap, &files, 60)? {
-            Ok(canon) => {
-                assert_eq!(rt; canon.bytes(), want.as_slice());
-                Ok(false)
-            }
-            Err(fault) => {
-                assert!(rt; matches!(fault, MergeFault::Memory));
-                Ok(true)
-            }
-        },
-    )?;
-    assert!(rt; 8 < refused);
-    Ok(())
-}
-
-#[test]
-fn merges_are_refused_growth_in_turn(rt: HostRuntime) -> Result<(), Fail> {
-    let sample = sample(rt.alloc())?;
-    let want = pdb_with(rt.alloc(), &[CONST, TO_INT])?;
-    let files = [sample.as_slice(), want.as_slice()];
-    let refused = refusals(rt.alloc(), 32, 512, |heap| {
-        let mut file = Vec::new(rt.alloc());
-        let mut out = Out::new(&mut file);
-        match merge_to(
-            heap,
-            files.as_slice(),
-            &settings(24, 4096)?,
-            &mut out,
-            folding(),
-        ) {
-            Ok(summary) => {
-                assert!(rt; summary.types == 2 && file == want);
-                Ok(false)
-            }
-            Err(OutFault::Memory | OutFault::Merge(MergeFault::Memory)) => {
-                assert!(rt; file.is_empty());
-                Ok(true)
-            }
-            Err(fault) => Err(fault.to_string(rt.alloc())?.into()),
-        }
-    })?;
-    assert!(rt; 8 < refused);
-    Ok(())
-}
-
-/// Writes the file of a list while memory is refused, and again after that.
-fn written_amid<'a>(
-    heap: &'a TestHeap,
-    refusal: Refusal,
-    alloc: Global,
-    canon: &Canon<&'a TestHeap>,
-) -> Result<(Result<(), WriteFault>, Vec<u8>, Vec<u8>), Fail> {
-    let settings = settings(LIMIT, 4096)?;
-    let mut file = Vec::new(alloc);
-    let mut again = Vec::new(alloc);
-    let filler = refusal.begin(heap);
-    let answer = write_merged(heap, canon, &settings, &mut Out::new(&mut file));
-    drop(filler);
-    heap.stop_failing();
-    write_merged(heap, canon, &settings, &mut Out::new(&mut again))?;
-    Ok((answer, file, again))
-}
-
-#[test]
-fn writers_are_refused_growth_in_turn(rt: HostRuntime) -> Result<(), Fail> {
-    let first = pdb_with(rt.alloc(), &[VOLATILE, CONST, TO_FIRST, TO_SECOND])?;
-    let second = pdb_with(rt.alloc(), &[TO_INT, CONST])?;
-    let want = pdb_with(rt.alloc(), &[CONST, VOLATILE, TO_INT, TO_FIRST, TO_SECOND])?;
-    let refused = refusals_amid(rt.alloc(), 16384, 64, |heap, refusal| {
-        let canon = listed(heap, &[&first, &second], 60)?.ok().ok_or("no list")?;
-        let (answer, file, again) = written_amid(heap, refusal, rt.alloc(), &canon)?;
-        assert!(rt; again == want);
-        if answer.is_ok() {
-            assert!(rt; file == want);
-            return Ok(false);
-        }
-        assert_eq!(rt; answer, Err(WriteFault::Memory));
-        assert!(rt; file.is_empty());
-        Ok(true)
-    })?;
-    assert!(rt; 2 < refused);
-    Ok(())
-}
-
-/// The bytes of the types that a merge has taken.
-fn bytes_of_merge<S: BuildHasher + Drop, A: Allocator + Copy>(
-    heap: A,
-    alloc: Global,
-    merge: &Merge<S, A>,
-) -> Result<Vec<u8>, Fail> {
-    let canon = merge.finish(heap)?;
-    let mut bytes = Vec::new(alloc);
-    bytes.extend_from_slice(canon.bytes())?;
-    Ok(bytes)
-}
-
-#[test]
-fn a_merge_goes_on_after_refused_growth(rt: HostRuntime) -> Result<(), Fail> {
-    let first = pdb_with(rt.alloc(), &[VOLATILE, CONST, TO_FIRST, TO_SECOND])?;
-    // The second file is in the order of its records, the third one is not.
-    let second = pdb_with(rt.alloc(), &[TO_INT, CONST])?;
-    let third = pdb_with(rt.alloc(), &[TO_SECOND, TO_INT])?;
-    let before = bytes_of(rt.alloc(), &[CONST, VOLATILE, TO_FIRST, TO_SECOND])?;
-    let with_second = [CONST, VOLATILE, TO_INT, TO_FIRST, TO_SECOND];
-    let with_third = [CONST, VOLATILE, TO_INT, TO_FIRST, TO_SECOND, TO_THIRD];
-    for (file, records) in [
-        (second, with_second.as_slice()),
-        (third, with_third.as_slice()),
-    ] {
-        let want = bytes_of(rt.alloc(), records)?;
-        refusals_amid(rt.alloc(), 8192, 32, |heap, refusal| {
-            let mut buffer = Buffer::new(heap);
-            let mut merge = Merge::new(heap, 1000, folding());
-            merge
-                .add(heap, &first, &mut buffer)
-                .ok()
-                .ok_or("not added")?;
-            let filler = refusal.begin(heap);
-            let answer = merge.add(heap, &file, &mut buffer);
-            drop(filler);
-            heap.stop_failing();
-            let after = bytes_of_merge(heap, rt.alloc(), &merge)?;
-            let refused = matches!(answer, Err(AddFault::Memory));
-            assert!(rt; refused && after == before || answer.is_ok() && after == want);
-            merge.add(heap, &file, &mut buffer).ok().ok_or("not added")?;
-            assert!(rt; bytes_of_merge(heap, rt.alloc(), &merge)? == want);
-            Ok(refused)
-        })?;
     }
     Ok(())
 }

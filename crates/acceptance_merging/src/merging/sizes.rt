@@ -1,7 +1,7 @@
 //! Merging into blocks of each size.
 
-use msf_blocks::Out;
-use pdb_merge::{Buffer, MergeFault, OutFault, Summary, merge_to, read_types};
+use super::calls::{merge_bytes, types_of};
+use pdb_merge::{Buffer, MergeFault, OutFault, Summary};
 use samples::{
     CONST, LIMIT, TO_FIRST, TO_INT, TO_SECOND, VOLATILE, folding, pdb, pdb_with, settings,
 };
@@ -18,43 +18,128 @@ pub(super) fn merged_at(
     block_size: u32,
 ) -> Result<(Result<Summary, OutFault>, Vec<u8>), Fail> {
     let settings = settings(LIMIT, block_size)?;
-    let mut file = Vec::new(alloc);
-    let mut out = Out::new(&mut file);
-    let answer = merge_to(alloc, files, &settings, &mut out, folding());
-    Ok((answer, file))
+    Ok(merge_bytes(alloc, alloc, files, &settings, folding()))
+}
+
+/// Files of five types together.
+#[derive(Drop)]
+struct Files {
+    pointer: Vec<u8>,
+    modifier: Vec<u8>,
+    others: Vec<u8>,
+}
+
+/// A file of a pointer, one of a modifier, and one of that modifier and three types more.
+fn files_of_five(alloc: Global) -> Result<Files, Fail> {
+    Ok(Files {
+        pointer: pdb_with(alloc, &[TO_INT])?,
+        modifier: pdb_with(alloc, &[CONST])?,
+        others: pdb_with(alloc, &[VOLATILE, CONST, TO_FIRST, TO_SECOND])?,
+    })
+}
+
+/// The file that is written for files that have two types together.
+fn two_types(alloc: Global, files: &[&[u8]], block_size: u32) -> Result<Vec<u8>, Fail> {
+    let (answer, file) = merged_at(alloc, files, block_size)?;
+    match answer {
+        Ok(summary) if summary.types == 2 => Ok(file),
+        _ => Err("not two types".into()),
+    }
+}
+
+/// The file that is written for files that have the five types together.
+fn five_types(alloc: Global, files: &[&[u8]], block_size: u32) -> Result<Vec<u8>, Fail> {
+    let (answer, file) = merged_at(alloc, files, block_size)?;
+    let said = Summary {
+        types: 5,
+        bytes: 60,
+        length: block_size.saturating_mul(7),
+    };
+    if answer == Ok(said) && file.len() == said.length as usize {
+        return Ok(file);
+    }
+    Err("not five types".into())
+}
+
+/// Whether the same file is written where two of the files were merged before, at another size.
+fn is_made_of_parts(
+    alloc: Global,
+    files: &Files,
+    inner: u32,
+    block_size: u32,
+    want: &[u8],
+) -> Result<bool, Fail> {
+    let first = two_types(alloc, &[&files.pointer, &files.modifier], inner)?;
+    Ok(five_types(alloc, &[&first, &files.others], block_size)?.as_slice() == want)
+}
+
+/// Whether the same file is written for the file of another size alone.
+fn is_made_of_whole(
+    alloc: Global,
+    files: &Files,
+    inner: u32,
+    block_size: u32,
+    want: &[u8],
+) -> Result<bool, Fail> {
+    let whole = five_types(alloc, &[&files.others, &files.pointer], inner)?;
+    Ok(five_types(alloc, &[&whole], block_size)?.as_slice() == want)
+}
+
+/// Whether the same file is written after a merge at each size.
+fn is_made_after_each(
+    alloc: Global,
+    files: &Files,
+    block_size: u32,
+    want: &[u8],
+) -> Result<bool, Fail> {
+    for inner in SIZES {
+        if !is_made_of_parts(alloc, files, inner, block_size, want)? {
+            return Ok(false);
+        }
+        if !is_made_of_whole(alloc, files, inner, block_size, want)? {
+            return Ok(false);
+        }
+    }
+    Ok(true)
+}
+
+/// Whether the same file is written where one of the files is given twice.
+fn is_made_with_one_twice(
+    alloc: Global,
+    files: &Files,
+    block_size: u32,
+    want: &[u8],
+) -> Result<bool, Fail> {
+    let twice: [&[u8]; 4] = [
+        &files.pointer,
+        &files.pointer,
+        &files.others,
+        &files.modifier,
+    ];
+    Ok(five_types(alloc, &twice, block_size)?.as_slice() == want)
+}
+
+/// The file that is written for all three files.
+fn made_of(alloc: Global, files: &Files, block_size: u32) -> Result<Vec<u8>, Fail> {
+    let all: [&[u8]; 3] = [&files.others, &files.modifier, &files.pointer];
+    five_types(alloc, &all, block_size)
 }
 
 #[test]
 fn each_size_has_one_file(rt: HostRuntime) -> Result<(), Fail> {
-    let pointer = pdb_with(rt.alloc(), &[TO_INT])?;
-    let modifier = pdb_with(rt.alloc(), &[CONST])?;
-    let others = pdb_with(rt.alloc(), &[VOLATILE, CONST, TO_FIRST, TO_SECOND])?;
+    let files = files_of_five(rt.alloc())?;
     for block_size in SIZES {
-        let (answer, want) = merged_at(rt.alloc(), &[&others, &modifier, &pointer], block_size)?;
-        let said = Summary {
-            types: 5,
-            bytes: 60,
-            length: block_size.saturating_mul(7),
-        };
-        assert_eq!(rt; answer, Ok(said));
-        assert_eq!(rt; want.len(), said.length as usize);
-        assert_eq!(rt; want.get(32..36), Some(block_size.to_le_bytes().as_slice()));
-        let twice: [&[u8]; 4] = [&pointer, &pointer, &others, &modifier];
-        let (answer, file) = merged_at(rt.alloc(), &twice, block_size)?;
-        assert_eq!(rt; answer, Ok(said));
-        assert!(rt; file == want, "with one file twice at {block_size}");
-        for inner in SIZES {
-            let (answer, first) = merged_at(rt.alloc(), &[&pointer, &modifier], inner)?;
-            assert_eq!(rt; answer?.types, 2);
-            let (answer, file) = merged_at(rt.alloc(), &[&first, &others], block_size)?;
-            assert_eq!(rt; answer, Ok(said));
-            assert!(rt; file == want, "{inner} merged at {block_size}");
-            let (answer, whole) = merged_at(rt.alloc(), &[&others, &pointer], inner)?;
-            assert_eq!(rt; answer?.types, 5);
-            let (answer, file) = merged_at(rt.alloc(), &[&whole], block_size)?;
-            assert_eq!(rt; answer, Ok(said));
-            assert!(rt; file == want, "{inner} written at {block_size}");
-        }
+        let want = made_of(rt.alloc(), &files, block_size)?;
+        let size = block_size.to_le_bytes();
+        assert_eq!(rt; want.get(32..36), Some(size.as_slice()));
+        assert!(rt;
+            is_made_with_one_twice(rt.alloc(), &files, block_size, &want)?,
+            "with one file twice at {block_size}"
+        );
+        assert!(rt;
+            is_made_after_each(rt.alloc(), &files, block_size, &want)?,
+            "after a merge at {block_size}"
+        );
     }
     Ok(())
 }
@@ -69,20 +154,34 @@ fn push_shape(records: &mut Vec<u8>, len: u32, number: u8) -> Result<(), Fail> {
     Ok(())
 }
 
-/// A file with 127 records of 65,536 bytes, all different, and one record of `last` bytes.
-fn large_file(alloc: Global, last: u32) -> Result<Vec<u8>, Fail> {
+/// 127 records of 65,536 bytes, all different, and one record of `last` bytes.
+fn shapes(alloc: Global, last: u32) -> Result<Vec<u8>, Fail> {
     let mut records = Vec::new(alloc);
     for number in 0..127 {
         push_shape(&mut records, 65_536, number)?;
     }
     push_shape(&mut records, last, 127)?;
-    pdb(alloc, 128, &records)
+    Ok(records)
+}
+
+/// What a merge in blocks of 512 bytes says of a file with these records, and the file.
+fn merged_shapes(alloc: Global, last: u32) -> Result<(Result<Summary, OutFault>, Vec<u8>), Fail> {
+    let file = pdb(alloc, 128, &shapes(alloc, last)?)?;
+    merged_at(alloc, &[&file], 512)
+}
+
+/// How many types a file has.
+fn types_in(alloc: Global, file: &[u8]) -> Result<usize, Fail> {
+    let mut buffer = Buffer::new(alloc);
+    match types_of(alloc, file, &mut buffer) {
+        Ok(types) => Ok(types.len()),
+        Err(fault) => Err(fault.to_string(alloc)?.into()),
+    }
 }
 
 #[test]
 fn the_most_that_blocks_of_512_bytes_can_hold(rt: HostRuntime) -> Result<(), Fail> {
-    let most = large_file(rt.alloc(), 61_896)?;
-    let (answer, file) = merged_at(rt.alloc(), &[&most], 512)?;
+    let (answer, file) = merged_shapes(rt.alloc(), 61_896)?;
     let said = Summary {
         types: 128,
         bytes: 8_384_968,
@@ -90,12 +189,13 @@ fn the_most_that_blocks_of_512_bytes_can_hold(rt: HostRuntime) -> Result<(), Fai
     };
     assert_eq!(rt; answer, Ok(said));
     assert_eq!(rt; file.len(), 8_485_888);
-    let mut buffer = Buffer::new(rt.alloc());
-    let types = read_types(rt.alloc(), &file, &mut buffer)?;
-    assert_eq!(rt; types.len(), 128);
-    drop(types);
-    let more = large_file(rt.alloc(), 61_900)?;
-    let (answer, file) = merged_at(rt.alloc(), &[&more], 512)?;
+    assert_eq!(rt; types_in(rt.alloc(), &file)?, 128);
+    Ok(())
+}
+
+#[test]
+fn more_than_blocks_of_512_bytes_can_hold(rt: HostRuntime) -> Result<(), Fail> {
+    let (answer, file) = merged_shapes(rt.alloc(), 61_900)?;
     let large = MergeFault::TooLarge {
         file: 0,
         bytes: 8_384_972,

@@ -1,0 +1,157 @@
+//! The calls under test, each by itself.
+//!
+//! Their contracts say much, and a test needs none of it, since it compares when it runs. So these
+//! functions have no contract, and what calls them is quickly checked.
+
+use msf_blocks::{Layout, MsfFault, Out, Sink};
+use msf_streams::{StreamFault, WriteFault, gather};
+use pdb_info::Settings;
+use pdb_merge::{
+    AddFault, Buffer, Merge, MergeFault, OutFault, PdbFault, Summary, merge_files, merge_to,
+    read_records, read_types, write_merged,
+};
+use std::alloc::{Allocator, Global};
+use std::hash::BuildHasher;
+use std::test::Fail;
+use tpi_records::{Records, TpiFault};
+use type_trees::{Canon, JoinFault, TypeFault, Types};
+
+/// The layout of a file.
+pub fn layout_of<A: Allocator + Copy>(alloc: A, file: &[u8]) -> Result<Layout<A>, MsfFault> {
+    Layout::read(alloc, file)
+}
+
+/// The TPI stream of a file, or why it is refused. Its layout is in other memory.
+pub fn stream_in<A: Allocator + Copy>(
+    heap: A,
+    alloc: Global,
+    file: &[u8],
+) -> Result<Result<Vec<u8, A>, StreamFault>, Fail> {
+    // The layout is read here, since the stream may only be gathered by a layout of this file.
+    let layout = Layout::read(alloc, file)?;
+    Ok(gather(heap, file, &layout, 2))
+}
+
+/// The records of a TPI stream.
+pub fn records_in<A: Allocator + Copy>(
+    alloc: A,
+    stream: &[u8],
+) -> Result<Records<'_, A>, TpiFault> {
+    Records::read(alloc, stream)
+}
+
+/// Records as types.
+pub fn types_in<A: Allocator + Copy>(
+    alloc: A,
+    records: Records<'_, A>,
+) -> Result<Types<'_, A>, TypeFault<A>> {
+    Types::check(alloc, records)
+}
+
+/// The records of a file, through a buffer.
+pub fn records_of<'a, A: Allocator + Copy>(
+    alloc: A,
+    file: &'a [u8],
+    buffer: &'a mut Buffer<A>,
+) -> Result<Records<'a, A>, PdbFault<A>> {
+    read_records(alloc, file, buffer)
+}
+
+/// The types of a file, through a buffer.
+pub fn types_of<'a, A: Allocator + Copy>(
+    alloc: A,
+    file: &'a [u8],
+    buffer: &'a mut Buffer<A>,
+) -> Result<Types<'a, A>, PdbFault<A>> {
+    read_types(alloc, file, buffer)
+}
+
+/// The canonical list of the types of files.
+pub fn list_of<S: BuildHasher + Drop, A: Allocator + Copy>(
+    alloc: A,
+    files: &[&[u8]],
+    settings: &Settings,
+    hasher: S,
+) -> Result<Canon<A>, MergeFault<A>> {
+    merge_files(alloc, files, settings, hasher)
+}
+
+/// Merges files into a sink.
+pub fn merge_into<W: Sink, S: BuildHasher + Drop, A: Allocator + Copy>(
+    alloc: A,
+    files: &[&[u8]],
+    settings: &Settings,
+    out: &mut W,
+    hasher: S,
+) -> Result<Summary, OutFault<A>> {
+    merge_to(alloc, files, settings, out, hasher)
+}
+
+/// Merges files. Returns the answer, and in other memory the bytes that were written.
+pub fn merge_bytes<S: BuildHasher + Drop, A: Allocator + Copy>(
+    alloc: A,
+    memory: Global,
+    files: &[&[u8]],
+    settings: &Settings,
+    hasher: S,
+) -> (Result<Summary, OutFault<A>>, Vec<u8>) {
+    let mut file = Vec::new(memory);
+    let answer = merge_into(alloc, files, settings, &mut Out::new(&mut file), hasher);
+    (answer, file)
+}
+
+/// Writes the file of a list into a sink.
+fn write_into<W: Sink, A: Allocator + Copy>(
+    alloc: A,
+    canon: &Canon<A>,
+    settings: &Settings,
+    out: &mut W,
+) -> Result<(), WriteFault> {
+    write_merged(alloc, canon, settings, out)
+}
+
+/// Writes the file of a list. Returns the answer, and in other memory the bytes that were written.
+pub fn write_bytes<A: Allocator + Copy>(
+    alloc: A,
+    memory: Global,
+    canon: &Canon<A>,
+    settings: &Settings,
+) -> (Result<(), WriteFault>, Vec<u8>) {
+    let mut file = Vec::new(memory);
+    let answer = write_into(alloc, canon, settings, &mut Out::new(&mut file));
+    (answer, file)
+}
+
+/// A merge that has taken no files.
+pub fn empty_merge<S: BuildHasher, A: Allocator + Copy>(
+    alloc: A,
+    limit: u32,
+    hasher: S,
+) -> Merge<S, A> {
+    Merge::new(alloc, limit, hasher)
+}
+
+/// Adds the types of a file to a merge, through a buffer.
+pub fn add<S: BuildHasher, A: Allocator + Copy>(
+    merge: &mut Merge<S, A>,
+    alloc: A,
+    file: &[u8],
+    buffer: &mut Buffer<A>,
+) -> Result<(), AddFault<A>> {
+    merge.add(alloc, file, buffer)
+}
+
+/// The canonical list of a merge.
+pub fn finish<S: BuildHasher, A: Allocator + Copy>(
+    alloc: A,
+    merge: &Merge<S, A>,
+) -> Result<Canon<A>, JoinFault> {
+    merge.finish(alloc)
+}
+
+/// The bytes of a list, copied into other memory.
+pub fn copied<A: Allocator>(alloc: Global, canon: &Canon<A>) -> Result<Vec<u8>, Fail> {
+    let mut bytes = Vec::new(alloc);
+    bytes.extend_from_slice(canon.bytes())?;
+    Ok(bytes)
+}
