@@ -52,11 +52,23 @@ fn expected(alloc: Global) -> Result<Vec<u8>, Fail> {
     Ok(file)
 }
 
-/// The length of the image with an info stream and a stream 2 of `types` bytes, in blocks of this
-/// size.
-fn len_of(block_size: u32, types: u32) -> Result<Option<u32>, Fail> {
+// Each call under test is in a function of its own. It has no contract, since a test compares when
+// it runs: so what calls it is quickly checked.
+
+/// The length of the image with streams of these sizes, in blocks of this size.
+fn len_of(block_size: u32, sizes: &[u32; 5]) -> Result<Option<u32>, Fail> {
     let settings = settings(LIMIT, block_size)?;
-    Ok(image_len(&[0, 52, types, 0, 0], settings.block_size()))
+    Ok(image_len(sizes, settings.block_size()))
+}
+
+/// The info stream of the file without types.
+fn info_stream(settings: &Settings) -> [u8; 52] {
+    info_bytes(settings)
+}
+
+/// The stream 2 of the file without types.
+fn no_types() -> [u8; 56] {
+    tpi_header_bytes(0, 0)
 }
 
 /// Writes the image with these streams 1 and 2 and three empty ones.
@@ -80,9 +92,8 @@ fn write_narrow<A: Allocator + Copy>(
 ) -> Result<(Narrow, Option<WriteFault>), Fail> {
     let settings = settings(LIMIT, 4096)?;
     let mut out = Narrow::new(global, step, room);
-    let info = info_bytes(&settings);
-    let types = tpi_header_bytes(0, 0);
-    let fault = write_two(alloc, &settings, &info, &types, &mut out).err();
+    let info = info_stream(&settings);
+    let fault = write_two(alloc, &settings, &info, &no_types(), &mut out).err();
     Ok((out, fault))
 }
 
@@ -101,7 +112,7 @@ fn each_fault_has_its_text(rt: HostRuntime) -> Result<(), Fail> {
 
 #[test]
 fn lengths_of_images(rt: HostRuntime) -> Result<(), Fail> {
-    for (block_size, types, want) in [
+    const ROWS: [(u32, u32, u32); 11] = [
         (4096, 56, 28_672),
         (4096, 16_740_352, 16_777_216),
         (4096, 16_740_353, 16_781_312),
@@ -113,90 +124,91 @@ fn lengths_of_images(rt: HostRuntime) -> Result<(), Fail> {
         (512, 258_561, 265_216),
         (512, 2_071_552, 2_097_664),
         (32768, 56, 229_376),
-    ] {
+    ];
+    for (block_size, types, want) in ROWS {
         assert_eq!(rt;
-            len_of(block_size, types)?,
+            len_of(block_size, &[0, 52, types, 0, 0])?,
             Some(want),
             "{types} at {block_size}"
         );
     }
-    let settings = settings(LIMIT, 4096)?;
-    assert_eq!(rt; image_len(&[1_073_741_824; 5], settings.block_size()), None);
+    assert_eq!(rt; len_of(4096, &[1_073_741_824; 5])?, None);
     Ok(())
 }
 
 /// The image with an info stream and this stream 2, in blocks of this size.
 fn image_of(alloc: Global, block_size: u32, types: &[u8]) -> Result<Vec<u8>, Fail> {
     let settings = settings(LIMIT, block_size)?;
-    let info = info_bytes(&settings);
+    let info = info_stream(&settings);
     let mut file = Vec::new(alloc);
     write_two(alloc, &settings, &info, types, &mut Out::new(&mut file))?;
     Ok(file)
 }
 
+/// Whether a file has `size` bytes at this place: `first`, and after it only `others`.
+fn has_map(file: &[u8], place: usize, size: usize, first: u8, others: u8) -> bool {
+    let block = file.get(place..).and_then(|rest| rest.get(..size));
+    match block.and_then(|block| block.split_first()) {
+        Some((head, tail)) => *head == first && tail.iter().all(|byte| *byte == others),
+        None => false,
+    }
+}
+
 #[test]
-fn maps_of_small_blocks(rt: HostRuntime) -> Result<(), Fail> {
-    let none = image_of(rt.alloc(), 512, &tpi_header_bytes(0, 0))?;
-    assert_eq!(rt; none.get(512..514), Some([0x80, 0xFF].as_slice()));
-    let types = vec![in rt.alloc(); 0u8; 2_071_552]?;
-    let file = image_of(rt.alloc(), 512, &types)?;
-    assert_eq!(rt; file.len(), 2_097_664);
-    // All blocks that have a bit in the first map block are in use, and one that has its bit in the
-    // second.
-    for (place, first, others) in [
-        (512, 0, 0),
-        (1_024, 0xFF, 0xFF),
-        (262_656, 0xFE, 0xFF),
-        (263_168, 0xFF, 0xFF),
-    ] {
-        let map: &[u8] = file
-            .get(place..)
-            .and_then(|rest| rest.get(..512))
-            .ok_or("no such block")?;
-        assert_eq!(rt; map.first(), Some(&first), "at {place}");
-        assert!(rt;
-            map.iter().skip(1).all(|byte| *byte == others),
-            "at {place}"
-        );
+fn maps_of_the_file_without_types(rt: HostRuntime) -> Result<(), Fail> {
+    // the size of a block, which is the place of the map too, and the length of the file
+    const ROWS: [(u32, usize, usize); 3] = [
+        (512, 512, 3_584),
+        (4096, 4_096, 28_672),
+        (32768, 32_768, 229_376),
+    ];
+    for (block_size, size, len) in ROWS {
+        let file = image_of(rt.alloc(), block_size, &no_types())?;
+        assert_eq!(rt; file.len(), len);
+        assert!(rt; has_map(&file, size, size, 0x80, 0xFF), "at {block_size}");
     }
     Ok(())
 }
 
 #[test]
-fn a_directory_that_one_block_cannot_list(rt: HostRuntime) -> Result<(), Fail> {
-    let types = vec![in rt.alloc(); 0u8; 8_385_025]?;
-    let settings = settings(LIMIT, 512)?;
-    let mut file = Vec::new(rt.alloc());
-    let mut out = Out::new(&mut file);
-    let answer = write_two(
-        rt.alloc(),
-        &settings,
-        &info_bytes(&settings),
-        &types,
-        &mut out,
-    );
-    assert_eq!(rt; answer, Err(WriteFault::Image));
-    drop(out);
-    assert!(rt; file.is_empty());
+fn maps_of_small_blocks(rt: HostRuntime) -> Result<(), Fail> {
+    // All blocks that have a bit in the first map block are in use, and one that has its bit in the
+    // second.
+    const ROWS: [(usize, u8, u8); 4] = [
+        (512, 0, 0),
+        (1_024, 0xFF, 0xFF),
+        (262_656, 0xFE, 0xFF),
+        (263_168, 0xFF, 0xFF),
+    ];
+    let types = vec![in rt.alloc(); 0u8; 2_071_552]?;
+    let file = image_of(rt.alloc(), 512, &types)?;
+    assert_eq!(rt; file.len(), 2_097_664);
+    for (place, first, others) in ROWS {
+        assert!(rt; has_map(&file, place, 512, first, others), "at {place}");
+    }
     Ok(())
 }
 
-/// Writes the image with this stream 1, and a stream 2 in three parts.
-fn write_three<'a, W: Sink>(
+/// What writing the image with this stream 2 says, in blocks of this size, and what was written.
+fn written_of(
     alloc: Global,
-    settings: &Settings,
-    info: &'a [u8],
-    first: &'a [u8],
-    second: &'a [u8],
-    third: &'a [u8],
-    out: &mut W,
-) -> Result<(), WriteFault> {
-    write_parts(
-        alloc,
-        settings.block_size(),
-        &[&[], &[info], &[first, second, third], &[], &[]],
-        out,
-    )
+    block_size: u32,
+    types: &[u8],
+) -> Result<(Result<(), WriteFault>, Vec<u8>), Fail> {
+    let settings = settings(LIMIT, block_size)?;
+    let info = info_stream(&settings);
+    let mut file = Vec::new(alloc);
+    let answer = write_two(alloc, &settings, &info, types, &mut Out::new(&mut file));
+    Ok((answer, file))
+}
+
+#[test]
+fn a_directory_that_one_block_cannot_list(rt: HostRuntime) -> Result<(), Fail> {
+    let types = vec![in rt.alloc(); 0u8; 8_385_025]?;
+    let (answer, file) = written_of(rt.alloc(), 512, &types)?;
+    assert_eq!(rt; answer, Err(WriteFault::Image));
+    assert!(rt; file.is_empty());
+    Ok(())
 }
 
 /// `len` bytes. Any two that are next to each other differ.
@@ -208,14 +220,55 @@ fn numbered(alloc: Global, len: usize) -> Result<Vec<u8>, Fail> {
     Ok(bytes)
 }
 
-/// The image with an info stream, and a stream 2 in three parts.
-fn in_three(alloc: Global, first: &[u8], second: &[u8], third: &[u8]) -> Result<Vec<u8>, Fail> {
+/// Writes the image with a stream 1 in two parts, and a stream 2 in three.
+fn write_five<'a, A: Allocator + Copy>(
+    alloc: A,
+    head: &'a [u8],
+    tail: &'a [u8],
+    first: &'a [u8],
+    second: &'a [u8],
+    third: &'a [u8],
+    out: &mut Narrow,
+) -> Result<Option<WriteFault>, Fail> {
     let settings = settings(LIMIT, 4096)?;
-    let info = info_bytes(&settings);
-    let mut file = Vec::new(alloc);
-    let mut out = Out::new(&mut file);
-    write_three(alloc, &settings, &info, first, second, third, &mut out)?;
-    Ok(file)
+    let answer = write_parts(
+        alloc,
+        settings.block_size(),
+        &[&[], &[head, tail], &[first, second, third], &[], &[]],
+        out,
+    );
+    Ok(answer.err())
+}
+
+/// The info stream of the file without types.
+fn info_of_none() -> Result<[u8; 52], Fail> {
+    let settings = settings(LIMIT, 4096)?;
+    Ok(info_stream(&settings))
+}
+
+/// Writes the image with a stream 2 in three parts, and an info stream in two, into a sink that has
+/// room for it.
+fn write_cut<A: Allocator + Copy>(
+    alloc: A,
+    global: Global,
+    first: &[u8],
+    second: &[u8],
+    third: &[u8],
+) -> Result<(Narrow, Option<WriteFault>), Fail> {
+    let info = info_of_none()?;
+    let (head, tail) = info.split_at_checked(26).ok_or("no such cut")?;
+    let mut out = Narrow::new(global, usize::MAX, usize::MAX);
+    let fault = write_five(alloc, head, tail, first, second, third, &mut out)?;
+    Ok((out, fault))
+}
+
+/// The image with a stream 2 in three parts.
+fn in_three(alloc: Global, first: &[u8], second: &[u8], third: &[u8]) -> Result<Vec<u8>, Fail> {
+    let (out, fault) = write_cut(alloc, alloc, first, second, third)?;
+    match fault {
+        None => Ok(out.taken),
+        Some(fault) => Err(fault.into()),
+    }
 }
 
 #[test]
@@ -231,6 +284,16 @@ fn parts_of_a_stream(rt: HostRuntime) -> Result<(), Fail> {
         assert!(rt; in_three(rt.alloc(), &[], head, tail)? == whole, "at {cut}");
     }
     Ok(())
+}
+
+/// The bytes of a stream, each in a part of its own, with an empty part after it.
+fn single_bytes(alloc: Global, stream: &[u8]) -> Result<Vec<&[u8]>, Fail> {
+    let mut parts: Vec<&[u8]> = Vec::new(alloc);
+    for byte in stream.chunks(1) {
+        parts.push(byte)?;
+        parts.push(&[])?;
+    }
+    Ok(parts)
 }
 
 /// Writes the image with these parts of the streams 1 and 2.
@@ -250,17 +313,28 @@ fn write_listed<'a>(
 #[test]
 fn parts_of_one_byte(rt: HostRuntime) -> Result<(), Fail> {
     let types = numbered(rt.alloc(), 8193)?;
-    let mut parts: Vec<&[u8]> = Vec::new(rt.alloc());
-    for byte in types.chunks(1) {
-        parts.push(byte)?;
-        parts.push(&[])?;
-    }
-    let info = info_bytes(&settings(LIMIT, 4096)?);
+    let parts = single_bytes(rt.alloc(), &types)?;
+    let info = info_of_none()?;
     let mut file = Vec::new(rt.alloc());
     let mut out = Out::new(&mut file);
     write_listed(rt.alloc(), 4096, &[], &[&info], &parts, &mut out)?;
     drop(out);
     assert!(rt; file == image_of(rt.alloc(), 4096, &types)?);
+    Ok(())
+}
+
+#[test]
+fn growth_for_parts_is_refused_before_anything_is_written(rt: HostRuntime) -> Result<(), Fail> {
+    let types = numbered(rt.alloc(), 8193)?;
+    let whole = image_of(rt.alloc(), 4096, &types)?;
+    let (head, tail) = types.split_at_checked(4000).ok_or("no such cut")?;
+    refusals(rt.alloc(), 128, 40, |heap| {
+        let (out, fault) = write_cut(heap, rt.alloc(), head, &[], tail)?;
+        assert!(rt; matches!(fault, None | Some(WriteFault::Memory)));
+        let want: &[u8] = if fault.is_none() { &whole } else { &[] };
+        assert!(rt; out.taken.as_slice() == want);
+        Ok(fault.is_some())
+    })?;
     Ok(())
 }
 
@@ -316,16 +390,11 @@ fn growth_is_refused_before_anything_is_written(rt: HostRuntime) -> Result<(), F
 
 /// The image of a stream 2 that has one byte after the map blocks of the second interval.
 fn long_image(alloc: Global) -> Result<Vec<u8>, Fail> {
+    let settings = settings(LIMIT, 4096)?;
     let types = vec![in alloc; 0xABu8; 16_744_449]?;
     let mut file = Vec::with_capacity(alloc, 16_793_600)?;
     let mut out = Out::new(&mut file);
-    write_two(
-        alloc,
-        &settings(LIMIT, 4096)?,
-        &[0xCD; 52],
-        &types,
-        &mut out,
-    )?;
+    write_two(alloc, &settings, &[0xCD; 52], &types, &mut out)?;
     drop(out);
     Ok(file)
 }
@@ -335,7 +404,7 @@ fn maps_without_meaning_are_free(rt: HostRuntime) -> Result<(), Fail> {
     let file = long_image(rt.alloc())?;
     assert_eq!(rt; file.len(), 16_793_600);
     // Blocks 0 to 4,099 are in use: 512 bytes of map 1, and four bits.
-    for (first, last, want) in [
+    const ROWS: [(usize, usize, u8); 7] = [
         (4096, 4608, 0),
         (4608, 4609, 0xF0),
         (4609, 12288, 0xFF),
@@ -344,7 +413,8 @@ fn maps_without_meaning_are_free(rt: HostRuntime) -> Result<(), Fail> {
         (16_781_312, 16_789_504, 0xFF),
         (16_789_504, 16_789_505, 0xAB),
         (16_789_505, 16_793_600, 0),
-    ] {
+    ];
+    for (first, last, want) in ROWS {
         let part = file.get(first..last).ok_or("no such part")?;
         assert!(rt; part.iter().all(|byte| *byte == want), "from {first} on");
     }

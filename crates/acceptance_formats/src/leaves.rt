@@ -1,9 +1,84 @@
 //! What no contract says: the texts of the faults, and the table against the format's own figures.
 
 use cv_leaves::{LeafFault, check, kind_of, leaf_text, places, ref_at, set_ref, type_name};
-use samples::{LIST_BEFORE_FIRST, MEMBERS, METHODS, UNKNOWN};
+use samples::{LIST_BEFORE_FIRST, MEMBERS, METHODS, UNKNOWN, put};
 use std::rt::HostRuntime;
 use std::test::Fail;
+
+// Each call under test is in a function of its own. It has no contract, since a test compares when
+// it runs: so what calls it is quickly checked.
+
+/// What the check says of a record. `None` where it has too few bytes, or more than a test needs.
+fn checked(record: &[u8]) -> Option<Result<(), LeafFault>> {
+    if record.len() < 4 || 255 < record.len() {
+        return None;
+    }
+    Some(check(record))
+}
+
+/// What the check says of the first `len` bytes of a record, if they can be a record.
+fn check_first(record: &[u8], len: usize) -> Option<Result<(), LeafFault>> {
+    checked(record.get(..len)?)
+}
+
+/// The kind of a record, if it has one.
+fn kind_in(record: &[u8]) -> Option<u16> {
+    if record.len() < 4 {
+        return None;
+    }
+    Some(kind_of(record))
+}
+
+/// The name in a record, if it has one.
+fn name_in(record: &[u8]) -> Option<&[u8]> {
+    if record.len() < 4 || 255 < record.len() {
+        return None;
+    }
+    type_name(record)
+}
+
+/// The name in the first `len` bytes of a record, if they have one.
+fn name_in_first(record: &[u8], len: usize) -> Option<&[u8]> {
+    name_in(record.get(..len)?)
+}
+
+/// The place with this number in an accepted record, counted from 0.
+fn nth_place(record: &[u8], number: usize) -> Result<Option<usize>, Fail> {
+    if record.len() < 4 || 255 < record.len() {
+        return Err("no record".into());
+    }
+    check(record)?;
+    Ok(places(record).nth(number))
+}
+
+/// What the places of an accepted record give three times in turn.
+fn three_places(record: &[u8]) -> Result<(Option<usize>, Option<usize>, Option<usize>), Fail> {
+    if record.len() < 4 || 255 < record.len() {
+        return Err("no record".into());
+    }
+    check(record)?;
+    let mut left = places(record);
+    Ok((left.next(), left.next(), left.next()))
+}
+
+/// Writes a type index at the place with this number in an accepted record. Returns the place.
+fn set_nth(record: &mut [u8], number: usize, to: u32) -> Result<usize, Fail> {
+    if record.len() < 4 || 255 < record.len() {
+        return Err("no record".into());
+    }
+    check(record)?;
+    let place = places(record).nth(number).ok_or("no such place")?;
+    set_ref(record, place, to);
+    Ok(place)
+}
+
+/// The type index at a place of a record, if it has so many bytes.
+fn index_at(record: &[u8], place: usize) -> Option<u32> {
+    if place.checked_add(8)? > record.len() {
+        return None;
+    }
+    Some(ref_at(record, place))
+}
 
 #[test]
 fn each_fault_has_its_text(rt: HostRuntime) -> Result<(), Fail> {
@@ -29,41 +104,37 @@ fn each_fault_has_its_text(rt: HostRuntime) -> Result<(), Fail> {
 
 #[test]
 fn records_that_are_refused(rt: HostRuntime) {
-    assert_eq!(rt; check(UNKNOWN), Err(LeafFault::Leaf(0x150A)));
-    assert_eq!(rt; check(&[2, 0, 0x01, 0x10]), Err(LeafFault::Body(0)));
-    assert_eq!(rt;
-        check(&[6, 0, 0x02, 0x10, 0x74, 0, 0, 0]),
-        Err(LeafFault::Body(4))
-    );
-    assert_eq!(rt;
-        check(&[10, 0, 0x02, 0x10, 0x74, 0, 0, 0, 0x4C, 0x80, 0, 0]),
-        Err(LeafFault::Body(8))
-    );
-    assert_eq!(rt; check(&[6, 0, 0x01, 0x12, 0, 0, 0, 0]), Ok(()));
-    assert_eq!(rt;
-        check(&[6, 0, 0x01, 0x12, 0xFF, 0xFF, 0xFF, 0xFF]),
-        Err(LeafFault::Body(4))
-    );
-    // an entry of a method list that ends after its attributes and two more bytes
-    assert_eq!(rt;
-        check(&[6, 0, 0x06, 0x12, 3, 0, 0, 0]),
-        Err(LeafFault::Body(4))
-    );
+    const ROWS: [(&[u8], Result<(), LeafFault>); 7] = [
+        (UNKNOWN, Err(LeafFault::Leaf(0x150A))),
+        (b"\x02\0\x01\x10", Err(LeafFault::Body(0))),
+        (b"\x06\0\x02\x10\x74\0\0\0", Err(LeafFault::Body(4))),
+        (
+            b"\x0a\0\x02\x10\x74\0\0\0\x4c\x80\0\0",
+            Err(LeafFault::Body(8)),
+        ),
+        (b"\x06\0\x01\x12\0\0\0\0", Ok(())),
+        (b"\x06\0\x01\x12\xff\xff\xff\xff", Err(LeafFault::Body(4))),
+        // an entry of a method list that ends after its attributes and two more bytes
+        (b"\x06\0\x06\x12\x03\0\0\0", Err(LeafFault::Body(4))),
+    ];
+    for (record, want) in ROWS {
+        assert_eq!(rt; checked(record), Some(want));
+    }
 }
 
-/// What the check says of the first `len` bytes of a record, if they are a record.
-fn check_first(record: &[u8], len: usize) -> Option<Result<(), LeafFault>> {
-    match record.get(..len) {
-        Some(cut) if 4 <= cut.len() && cut.len() <= 64 => Some(check(cut)),
-        _ => None,
-    }
+/// A record of this kind with the longest fixed part. The other bytes are 0.
+fn empty_record(kind: u16) -> [u8; 24] {
+    let mut record = [0u8; 24];
+    record[2] = (kind & 0xFF) as u8;
+    record[3] = (kind >> 8) as u8;
+    record
 }
 
 #[test]
 fn each_leaf_at_its_smallest(rt: HostRuntime) {
     // the kind, the length of the smallest record that is accepted, and the fault of one byte less
-    for (kind, len, at) in [
-        (0x1001u16, 8usize, 0u32),
+    const ROWS: [(u16, usize, u32); 13] = [
+        (0x1001, 8, 0),
         (0x1002, 12, 4),
         (0x1008, 16, 8),
         (0x1009, 24, 16),
@@ -76,22 +147,35 @@ fn each_leaf_at_its_smallest(rt: HostRuntime) {
         (0x1507, 16, 8),
         (0x1519, 20, 12),
         (0x151D, 12, 4),
-    ] {
-        let mut record = [0u8; 24];
-        record[2] = (kind & 0xFF) as u8;
-        record[3] = (kind >> 8) as u8;
-        assert_eq!(rt; kind_of(&record), kind);
+    ];
+    for (kind, len, at) in ROWS {
+        let record = empty_record(kind);
+        assert_eq!(rt; kind_in(&record), Some(kind));
         assert_eq!(rt; check_first(&record, len), Some(Ok(())));
         let short = len.saturating_sub(1);
         assert_eq!(rt; check_first(&record, short), Some(Err(LeafFault::Body(at))));
     }
-    // no field at all
-    for low in [0x0Au8, 0x0E] {
-        assert_eq!(rt; check(&[2, 0, low, 0]), Ok(()));
+}
+
+#[test]
+fn leaves_with_no_field_at_all(rt: HostRuntime) {
+    const ROWS: [&[u8]; 4] = [
+        b"\x02\0\x0a\0",
+        b"\x02\0\x0e\0",
+        b"\x02\0\x03\x12",
+        b"\x02\0\x06\x12",
+    ];
+    for record in ROWS {
+        assert_eq!(rt; checked(record), Some(Ok(())));
     }
-    for low in [0x03u8, 0x06] {
-        assert_eq!(rt; check(&[2, 0, low, 0x12]), Ok(()));
-    }
+}
+
+/// A pointer with this mode, and a class.
+fn pointer_with(mode: u8) -> [u8; 16] {
+    let low = 0x0Cu8.wrapping_add(mode.wrapping_mul(32));
+    [
+        14, 0, 0x02, 0x10, 0x74, 0, 0, 0, low, 0, 1, 0, 0x00, 0x10, 0, 0,
+    ]
 }
 
 #[test]
@@ -102,27 +186,16 @@ fn each_mode_of_a_pointer(rt: HostRuntime) {
         } else {
             Ok(())
         };
-        let record = [
-            14,
-            0,
-            0x02,
-            0x10,
-            0x74,
-            0,
-            0,
-            0,
-            0x0C + 32 * mode,
-            0,
-            1,
-            0,
-            0x00,
-            0x10,
-            0,
-            0,
-        ];
-        assert_eq!(rt; check(&record), Ok(()));
-        assert_eq!(rt; check(&record[..12]), fault);
+        let record = pointer_with(mode);
+        assert_eq!(rt; checked(&record), Some(Ok(())));
+        assert_eq!(rt; check_first(&record, 12), Some(fault));
     }
+}
+
+/// An entry of a method list with this property.
+fn method_with(property: u8) -> [u8; 12] {
+    let low = 3u8.wrapping_add(property.wrapping_mul(4));
+    [14, 0, 0x06, 0x12, low, 0, 0, 0, 0x74, 0, 0, 0]
 }
 
 #[test]
@@ -133,61 +206,52 @@ fn each_property_of_a_method(rt: HostRuntime) {
         } else {
             Ok(())
         };
-        let record = [
-            14,
-            0,
-            0x06,
-            0x12,
-            3 + 4 * property,
-            0,
-            0,
-            0,
-            0x74,
-            0,
-            0,
-            0,
-            0,
-            0,
-            0,
-            0,
-        ];
-        assert_eq!(rt; check(&record[..12]), fault);
+        assert_eq!(rt; checked(&method_with(property)), Some(fault));
     }
 }
 
 #[test]
 fn the_places_of_a_method_list(rt: HostRuntime) -> Result<(), Fail> {
-    let record = METHODS;
-    assert_eq!(rt; check(&record[..20]), Err(LeafFault::Body(16)));
-    check(&record)?;
-    let mut left = places(&record);
-    assert_eq!(rt; left.next(), Some(4));
-    assert_eq!(rt; left.next(), Some(16));
-    assert_eq!(rt; left.next(), None);
+    assert_eq!(rt; check_first(&METHODS, 20), Some(Err(LeafFault::Body(16))));
+    assert_eq!(rt; three_places(&METHODS)?, (Some(4), Some(16), None));
     Ok(())
 }
 
 #[test]
 fn the_name_of_a_structure(rt: HostRuntime) {
-    let mut record = [
-        0x16, 0, 0x05, 0x15, 0, 0, 0, 0, 0, 0, 0, 0, 0, 0, 0, 0, 0, 0, 0, 0, 1, 0, 0x53, 0,
+    // the last two bytes of the record, and the name: one letter, an empty one, and no NUL
+    const ROWS: [(&[u8], Option<&[u8]>); 3] = [
+        (b"S\0", Some(b"S")),
+        (b"\0\0", Some(b"")),
+        (b"ST", None),
     ];
-    assert_eq!(rt; type_name(&record), Some(&b"S"[..]));
-    // an empty name
-    record[22] = 0;
-    assert_eq!(rt; type_name(&record), Some(&b""[..]));
-    // no NUL
-    record[22] = 0x53;
-    record[23] = 0x54;
-    assert_eq!(rt; type_name(&record), None);
-    assert_eq!(rt; check(&record), Ok(()));
+    for (last, want) in ROWS {
+        let mut record = [0u8; 24];
+        put(&mut record, 0, b"\x16\0\x05\x15");
+        put(&mut record, 20, b"\x01\0");
+        put(&mut record, 22, last);
+        assert_eq!(rt; name_in(&record), want);
+        assert_eq!(rt; checked(&record), Some(Ok(())));
+    }
+}
+
+/// A union whose numeric leaf, at 8, begins with this number. Bytes that are not NUL follow, and one
+/// NUL at the end.
+fn union_with(first: u16) -> [u8; 28] {
+    let mut record = [0x41u8; 28];
+    record[2] = 0x06;
+    record[3] = 0x15;
+    record[12] = (first & 0xFF) as u8;
+    record[13] = (first >> 8) as u8;
+    record[27] = 0;
+    record
 }
 
 #[test]
 fn each_form_of_a_numeric_leaf(rt: HostRuntime) {
     // the first number, and how many bytes the name after the leaf has
-    for (first, len) in [
-        (0x0000u16, Some(13usize)),
+    const ROWS: [(u16, Option<usize>); 13] = [
+        (0x0000, Some(13)),
         (0x7FFF, Some(13)),
         (0x8000, Some(12)),
         (0x8001, Some(11)),
@@ -200,36 +264,33 @@ fn each_form_of_a_numeric_leaf(rt: HostRuntime) {
         (0x800A, Some(5)),
         (0x800B, None),
         (0xFFFF, None),
-    ] {
-        // a union: its numeric leaf is at 8, and bytes that are not NUL follow
-        let mut record = [0x41u8; 28];
-        record[2] = 0x06;
-        record[3] = 0x15;
-        record[12] = (first & 0xFF) as u8;
-        record[13] = (first >> 8) as u8;
-        record[27] = 0;
-        assert_eq!(rt; type_name(&record).map(|name| name.len()), len);
+    ];
+    for (first, len) in ROWS {
+        let record = union_with(first);
+        assert_eq!(rt; name_in(&record).map(|name| name.len()), len);
         // no room for the number, and no NUL
-        assert_eq!(rt; type_name(&record[..13]), None);
-        assert_eq!(rt; type_name(&record[..27]), None);
+        assert_eq!(rt; name_in_first(&record, 13), None);
+        assert_eq!(rt; name_in_first(&record, 27), None);
     }
 }
 
 #[test]
 fn what_leaves_are_called(rt: HostRuntime) {
-    assert_eq!(rt; leaf_text(0x1002), Some("LF_POINTER"));
-    assert_eq!(rt; leaf_text(0x1519), Some("LF_INTERFACE"));
-    assert_eq!(rt; leaf_text(0x1203), Some("LF_FIELDLIST"));
-    assert_eq!(rt; leaf_text(0x1502), None);
+    for (kind, want) in [
+        (0x1002, Some("LF_POINTER")),
+        (0x1519, Some("LF_INTERFACE")),
+        (0x1203, Some("LF_FIELDLIST")),
+        (0x1502, None),
+    ] {
+        assert_eq!(rt; leaf_text(kind), want);
+    }
 }
 
 #[test]
 fn an_index_that_is_written(rt: HostRuntime) -> Result<(), Fail> {
     let mut record = [10, 0, 0x01, 0x10, 0x74, 0, 0, 0, 1, 0, 0xF2, 0xF1];
-    check(&record)?;
-    let place = places(&record).next().ok_or("it names no type")?;
-    set_ref(&mut record, place, 0x12345678);
-    assert_eq!(rt; ref_at(&record, 0), 0x12345678);
+    assert_eq!(rt; set_nth(&mut record, 0, 0x12345678)?, 0);
+    assert_eq!(rt; index_at(&record, 0), Some(0x12345678));
     assert_eq!(rt;
         record,
         [10, 0, 0x01, 0x10, 0x78, 0x56, 0x34, 0x12, 1, 0, 0xF2, 0xF1]
@@ -239,28 +300,33 @@ fn an_index_that_is_written(rt: HostRuntime) -> Result<(), Fail> {
 
 #[test]
 fn field_lists_that_are_refused(rt: HostRuntime) {
-    assert_eq!(rt;
-        check(&[6, 0, 0x03, 0x12, 0x99, 0x99, 0, 0]),
-        Err(LeafFault::Member {
-            at: 0,
-            kind: 0x9999
-        })
-    );
-    assert_eq!(rt;
-        check(&[10, 0, 0x03, 0x12, 0x02, 0x15, 3, 0, 0x05, 0x80, 0x41, 0]),
-        Err(LeafFault::Numeric(4))
-    );
-    assert_eq!(rt;
-        check(&[10, 0, 0x03, 0x12, 0x02, 0x15, 3, 0, 0, 0, 0x41, 0x42]),
-        Err(LeafFault::Name(6))
-    );
-    for first in [0xF5u8, 0xF0] {
-        assert_eq!(rt;
-            check(&[
-                14, 0, 0x03, 0x12, 0x02, 0x15, 3, 0, 0, 0, 0x41, 0, first, 0xF3, 0xF2, 0xF1,
-            ]),
-            Err(LeafFault::Pad(8))
-        );
+    const ROWS: [(&[u8], LeafFault); 5] = [
+        (
+            b"\x06\0\x03\x12\x99\x99\0\0",
+            LeafFault::Member {
+                at: 0,
+                kind: 0x9999,
+            },
+        ),
+        (
+            b"\x0a\0\x03\x12\x02\x15\x03\0\x05\x80\x41\0",
+            LeafFault::Numeric(4),
+        ),
+        (
+            b"\x0a\0\x03\x12\x02\x15\x03\0\0\0\x41\x42",
+            LeafFault::Name(6),
+        ),
+        (
+            b"\x0e\0\x03\x12\x02\x15\x03\0\0\0\x41\0\xf5\xf3\xf2\xf1",
+            LeafFault::Pad(8),
+        ),
+        (
+            b"\x0e\0\x03\x12\x02\x15\x03\0\0\0\x41\0\xf0\xf3\xf2\xf1",
+            LeafFault::Pad(8),
+        ),
+    ];
+    for (record, fault) in ROWS {
+        assert_eq!(rt; checked(record), Some(Err(fault)));
     }
 }
 
@@ -278,249 +344,200 @@ fn one_member(kind: u16) -> [u8; ROOM] {
     record
 }
 
+/// What the check says of the first `len` bytes of the body of a record.
+fn check_body(record: &[u8], len: usize) -> Option<Result<(), LeafFault>> {
+    check_first(record, len.saturating_add(4))
+}
+
+/// The faults of a member that is cut short, each with the length below which it is met.
+type Cuts = &'static [(usize, LeafFault)];
+
+/// A member that has only the four bytes after its attributes.
+const PLAIN: Cuts = &[
+    (2, LeafFault::Body(0)),
+    (4, LeafFault::Body(2)),
+    (8, LeafFault::Body(4)),
+];
+
+/// A member with a name after those.
+const NAMED: Cuts = &[
+    (2, LeafFault::Body(0)),
+    (4, LeafFault::Body(2)),
+    (8, LeafFault::Body(4)),
+    (9, LeafFault::Name(8)),
+];
+
+/// A member with a number after those.
+const NUMBERED: Cuts = &[
+    (2, LeafFault::Body(0)),
+    (4, LeafFault::Body(2)),
+    (8, LeafFault::Body(4)),
+    (10, LeafFault::Numeric(8)),
+];
+
+/// A member with a number and a name after those.
+const NUMBERED_AND_NAMED: Cuts = &[
+    (2, LeafFault::Body(0)),
+    (4, LeafFault::Body(2)),
+    (8, LeafFault::Body(4)),
+    (10, LeafFault::Numeric(8)),
+    (11, LeafFault::Name(10)),
+];
+
+/// A member with four more bytes and two numbers after those.
+const NUMBERED_TWICE: Cuts = &[
+    (2, LeafFault::Body(0)),
+    (4, LeafFault::Body(2)),
+    (8, LeafFault::Body(4)),
+    (12, LeafFault::Body(8)),
+    (14, LeafFault::Numeric(12)),
+    (16, LeafFault::Numeric(14)),
+];
+
+/// A member with a number and a name after its attributes.
+const ENUMERATED: Cuts = &[
+    (2, LeafFault::Body(0)),
+    (4, LeafFault::Body(2)),
+    (6, LeafFault::Numeric(4)),
+    (7, LeafFault::Name(6)),
+];
+
+/// The fault of a member that is cut to this length.
+fn fault_of(cuts: Cuts, len: usize) -> Option<LeafFault> {
+    for (below, fault) in cuts {
+        if len < *below {
+            return Some(*fault);
+        }
+    }
+    None
+}
+
+/// The first length below `len` to which a record is cut and gives another fault than this one.
+fn other_fault(record: &[u8], len: usize, cuts: Cuts) -> Option<usize> {
+    for cut in 1..len {
+        if check_body(record, cut) != fault_of(cuts, cut).map(Err) {
+            return Some(cut);
+        }
+    }
+    None
+}
+
 #[test]
 fn each_member_at_its_smallest(rt: HostRuntime) {
-    // the kind, the length of the smallest member, and the faults of the shorter bodies that are
-    // cut from it: each fault with the length up to which it is met
-    let body = LeafFault::Body;
-    let number = LeafFault::Numeric;
-    let name = LeafFault::Name;
-    for (kind, len, faults) in [
-        (
-            0x1400u16,
-            10u8,
-            [
-                (2u8, body(0)),
-                (4, body(2)),
-                (8, body(4)),
-                (10, number(8)),
-                (0, body(0)),
-            ],
-        ),
-        (
-            0x1401,
-            16,
-            [
-                (4, body(2)),
-                (8, body(4)),
-                (12, body(8)),
-                (14, number(12)),
-                (16, number(14)),
-            ],
-        ),
-        (
-            0x1402,
-            16,
-            [
-                (4, body(2)),
-                (8, body(4)),
-                (12, body(8)),
-                (14, number(12)),
-                (16, number(14)),
-            ],
-        ),
-        (
-            0x1404,
-            8,
-            [
-                (2, body(0)),
-                (4, body(2)),
-                (8, body(4)),
-                (0, body(0)),
-                (0, body(0)),
-            ],
-        ),
-        (
-            0x1409,
-            8,
-            [
-                (2, body(0)),
-                (4, body(2)),
-                (8, body(4)),
-                (0, body(0)),
-                (0, body(0)),
-            ],
-        ),
-        (
-            0x1502,
-            7,
-            [
-                (2, body(0)),
-                (4, body(2)),
-                (6, number(4)),
-                (7, name(6)),
-                (0, body(0)),
-            ],
-        ),
-        (
-            0x150D,
-            11,
-            [
-                (2, body(0)),
-                (4, body(2)),
-                (8, body(4)),
-                (10, number(8)),
-                (11, name(10)),
-            ],
-        ),
-        (
-            0x150E,
-            9,
-            [
-                (2, body(0)),
-                (4, body(2)),
-                (8, body(4)),
-                (9, name(8)),
-                (0, body(0)),
-            ],
-        ),
-        (
-            0x150F,
-            9,
-            [
-                (2, body(0)),
-                (4, body(2)),
-                (8, body(4)),
-                (9, name(8)),
-                (0, body(0)),
-            ],
-        ),
-        (
-            0x1510,
-            9,
-            [
-                (2, body(0)),
-                (4, body(2)),
-                (8, body(4)),
-                (9, name(8)),
-                (0, body(0)),
-            ],
-        ),
-        (
-            0x1511,
-            9,
-            [
-                (2, body(0)),
-                (4, body(2)),
-                (8, body(4)),
-                (9, name(8)),
-                (0, body(0)),
-            ],
-        ),
-        (
-            0x151A,
-            10,
-            [
-                (2, body(0)),
-                (4, body(2)),
-                (8, body(4)),
-                (10, number(8)),
-                (0, body(0)),
-            ],
-        ),
-    ] {
+    // the kind, the length of the smallest member, and the faults of the shorter ones
+    const ROWS: [(u16, usize, Cuts); 12] = [
+        (0x1400, 10, NUMBERED),
+        (0x1401, 16, NUMBERED_TWICE),
+        (0x1402, 16, NUMBERED_TWICE),
+        (0x1404, 8, PLAIN),
+        (0x1409, 8, PLAIN),
+        (0x1502, 7, ENUMERATED),
+        (0x150D, 11, NUMBERED_AND_NAMED),
+        (0x150E, 9, NAMED),
+        (0x150F, 9, NAMED),
+        (0x1510, 9, NAMED),
+        (0x1511, 9, NAMED),
+        (0x151A, 10, NUMBERED),
+    ];
+    for (kind, len, cuts) in ROWS {
         let record = one_member(kind);
-        assert_eq!(rt;
-            check_first(&record, 4 + usize::from(len)),
-            Some(Ok(())),
-            "{kind:#x}"
-        );
-        for cut in 2..len {
-            let mut wanted = None;
-            for (below, fault) in faults {
-                if wanted.is_none() && cut < below {
-                    wanted = Some(Err(fault));
-                }
-            }
-            assert_eq!(rt;
-                check_first(&record, 4 + usize::from(cut)),
-                wanted,
-                "{kind:#x} cut to {cut}"
-            );
-        }
-        // One byte is not a kind.
-        assert_eq!(rt; check_first(&record, 5), Some(Err(body(0))));
+        assert_eq!(rt; check_body(&record, len), Some(Ok(())), "{kind:#x}");
+        assert_eq!(rt; other_fault(&record, len, cuts), None, "{kind:#x}");
     }
+}
+
+/// A method that introduces a virtual function: it has four more bytes before its name.
+const INTRODUCING: Cuts = &[
+    (2, LeafFault::Body(0)),
+    (4, LeafFault::Body(2)),
+    (8, LeafFault::Body(4)),
+    (12, LeafFault::Body(8)),
+    (13, LeafFault::Name(12)),
+];
+
+/// A field list with one method of this property.
+fn member_with(property: u8) -> [u8; ROOM] {
+    let mut record = one_member(0x1511);
+    record[6] = 3u8.wrapping_add(property.wrapping_mul(4));
+    record
 }
 
 #[test]
 fn each_property_of_a_member(rt: HostRuntime) {
     for property in 0..8u8 {
-        let mut record = one_member(0x1511);
-        record[6] = 3 + 4 * property;
-        // where the name begins
-        let at = if property == 4 || property == 6 {
-            12usize
+        let (len, cuts) = if property == 4 || property == 6 {
+            (13, INTRODUCING)
         } else {
-            8
+            (9, NAMED)
         };
-        assert_eq!(rt; check_first(&record, 4 + at + 1), Some(Ok(())));
-        assert_eq!(rt;
-            check_first(&record, 4 + at),
-            Some(Err(LeafFault::Name(at as u32)))
-        );
-        if at == 12 {
-            assert_eq!(rt; check_first(&record, 4 + 11), Some(Err(LeafFault::Body(8))));
+        let record = member_with(property);
+        assert_eq!(rt; check_body(&record, len), Some(Ok(())), "{property}");
+        assert_eq!(rt; other_fault(&record, len, cuts), None, "{property}");
+    }
+}
+
+/// A field list with a member that ends at 8, and there this byte.
+fn padded_by(byte: u8) -> [u8; ROOM] {
+    let mut record = one_member(0x1404);
+    record[12] = byte;
+    record
+}
+
+/// What the check has to say where `left` bytes are left after a member, and the first of them says
+/// that `low` of them are padding. After the padding there is a member cut short, or nothing.
+fn after_padding(low: u8, left: u8) -> Result<(), LeafFault> {
+    let end = 8u32.saturating_add(u32::from(low));
+    if low == 0 || left < low {
+        Err(LeafFault::Pad(8))
+    } else if left == low {
+        Ok(())
+    } else if left == low.saturating_add(1) {
+        Err(LeafFault::Body(end))
+    } else {
+        Err(LeafFault::Member { at: end, kind: 0 })
+    }
+}
+
+/// The first number of bytes after a member for which the check says something else than it has to.
+fn other_padding(record: &[u8], low: u8) -> Option<u8> {
+    for left in 1..17u8 {
+        let len = usize::from(left).saturating_add(8);
+        if check_body(record, len) != Some(after_padding(low, left)) {
+            return Some(left);
         }
     }
+    None
 }
 
 #[test]
 fn each_byte_of_padding(rt: HostRuntime) {
-    for low in 0..16usize {
-        // how many bytes are left after a member that ends at 8
-        for left in 1..17usize {
-            let mut record = one_member(0x1404);
-            record[12] = 0xF0 + low as u8;
-            // after the padding there is a member cut short, or nothing
-            let wanted = if low == 0 || left < low {
-                Err(LeafFault::Pad(8))
-            } else if left == low {
-                Ok(())
-            } else if left < low + 2 {
-                Err(LeafFault::Body(8 + low as u32))
-            } else {
-                Err(LeafFault::Member {
-                    at: 8 + low as u32,
-                    kind: 0,
-                })
-            };
-            assert_eq!(rt;
-                check_first(&record, 12 + left),
-                Some(wanted),
-                "0x{low:x} of {left}"
-            );
-        }
+    for low in 0..16u8 {
+        let record = padded_by(0xF0u8.saturating_add(low));
+        assert_eq!(rt; other_padding(&record, low), None, "0x{low:x}");
     }
     // a lower byte begins the next member
-    let mut record = one_member(0x1404);
-    record[12] = 0xEF;
-    assert_eq!(rt;
-        check_first(&record, 14),
-        Some(Err(LeafFault::Member {
-            at: 8,
-            kind: 0x00EF
-        }))
-    );
+    let fault = LeafFault::Member {
+        at: 8,
+        kind: 0x00EF,
+    };
+    assert_eq!(rt; check_body(&padded_by(0xEF), 10), Some(Err(fault)));
 }
 
 #[test]
 fn the_places_of_every_member(rt: HostRuntime) -> Result<(), Fail> {
+    const PLACES: [usize; 13] = [4, 16, 20, 32, 36, 48, 56, 72, 84, 96, 108, 120, 136];
     let mut record = MEMBERS;
     let mut wanted = MEMBERS;
-    for (k, place) in [4usize, 16, 20, 32, 36, 48, 56, 72, 84, 96, 108, 120, 136]
-        .iter()
-        .enumerate()
-    {
-        wanted[4 + place..8 + place].copy_from_slice(&[0xF4, 0xF3, 0xF2, 0xF1]);
-        check(&record)?;
-        let at = places(&record).nth(k).ok_or("no such place")?;
-        assert_eq!(rt; at, *place);
-        set_ref(&mut record, at, 0xF1F2F3F4);
+    for (number, place) in PLACES.iter().enumerate() {
+        put(
+            &mut wanted,
+            place.saturating_add(4),
+            &[0xF4, 0xF3, 0xF2, 0xF1],
+        );
+        assert_eq!(rt; set_nth(&mut record, number, 0xF1F2F3F4)?, *place);
         assert_eq!(rt; record, wanted);
     }
-    check(&record)?;
-    assert_eq!(rt; places(&record).nth(13), None);
+    assert_eq!(rt; nth_place(&record, 13)?, None);
     Ok(())
 }
 
@@ -530,19 +547,13 @@ fn a_char_and_padding_in_a_member(rt: HostRuntime) -> Result<(), Fail> {
         18, 0, 0x03, 0x12, 0x0D, 0x15, 3, 0, 0x74, 0, 0, 0, 0x00, 0x80, 0x05, 0x41, 0x00, 0xF3,
         0xF2, 0xF1,
     ];
-    check(&record)?;
-    let mut left = places(&record);
-    assert_eq!(rt; left.next(), Some(4));
-    assert_eq!(rt; left.next(), None);
+    assert_eq!(rt; three_places(&record)?, (Some(4), None, None));
     Ok(())
 }
 
 #[test]
 fn a_list_that_goes_on_in_another(rt: HostRuntime) -> Result<(), Fail> {
-    check(LIST_BEFORE_FIRST)?;
-    let mut left = places(LIST_BEFORE_FIRST);
-    assert_eq!(rt; left.next(), Some(16));
-    assert_eq!(rt; left.next(), None);
-    assert_eq!(rt; ref_at(LIST_BEFORE_FIRST, 16), 0x1000);
+    assert_eq!(rt; three_places(LIST_BEFORE_FIRST)?, (Some(16), None, None));
+    assert_eq!(rt; index_at(LIST_BEFORE_FIRST, 16), Some(0x1000));
     Ok(())
 }
