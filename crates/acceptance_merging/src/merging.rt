@@ -15,7 +15,7 @@ use cv_leaves::LeafFault;
 use msf_blocks::MsfFault;
 use msf_streams::StreamFault;
 use pdb_info::InfoFault;
-use pdb_merge::{Buffer, MergeFault, PdbFault};
+use pdb_merge::{Buffer, MergeFault, OutFault, PdbFault};
 use samples::{TestHeap, offset, put, refusals, sample};
 use std::alloc::{Allocator, Global};
 use std::test::Fail;
@@ -145,6 +145,24 @@ fn each_fault_has_its_text(rt: HostRuntime) -> Result<(), Fail> {
             "file 1: 32 TooLarge bytes 24",
         ),
         (MergeFault::Memory, "33 Memory"),
+    ] {
+        let shown = fault.to_string(rt.alloc())?;
+        assert_eq!(rt; shown.as_str(), text);
+    }
+    Ok(())
+}
+
+#[test]
+fn each_fault_of_writing_has_its_text(rt: HostRuntime) -> Result<(), Fail> {
+    let large = MergeFault::TooLarge { file: 1, bytes: 24 };
+    for (fault, text) in [
+        (
+            OutFault::<Global>::Merge(large),
+            "file 1: 32 TooLarge bytes 24",
+        ),
+        (OutFault::Memory, "33 Memory"),
+        (OutFault::Merge(MergeFault::Memory), "33 Memory"),
+        (OutFault::Write, "36 Write"),
     ] {
         let shown = fault.to_string(rt.alloc())?;
         assert_eq!(rt; shown.as_str(), text);
