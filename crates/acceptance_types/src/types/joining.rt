@@ -266,17 +266,40 @@ fn add_twice<'h, S: BuildHasher>(
     Ok((answer, after, end))
 }
 
-/// Adds the types of a second stream to those of a first at this limit, while memory is refused.
+/// Adds the types of each of these streams to a table.
+fn add_each<S: BuildHasher, A: Allocator + Copy>(
+    table: &mut Table<S, A>,
+    alloc: A,
+    streams: &[&[u8]],
+) -> Result<(), Fail> {
+    for stream in streams {
+        add_stream(table, alloc, stream, LIMIT)?;
+    }
+    Ok(())
+}
+
+/// A table of the types of some streams, added one after the other.
+fn table_of_each<S: BuildHasher + Drop, A: Allocator + Copy>(
+    alloc: A,
+    hasher: S,
+    streams: &[&[u8]],
+) -> Result<Table<S, A>, Fail> {
+    let mut table = empty_table(alloc, hasher);
+    add_each(&mut table, alloc, streams)?;
+    Ok(table)
+}
+
+/// Adds the types of a stream to those of earlier ones at this limit, while memory is refused.
 fn add_amid(
     heap: &TestHeap,
     refusal: Refusal,
     limit: u32,
     alloc: Global,
-    first: &[u8],
-    second: &[u8],
+    earlier: &[&[u8]],
+    stream: &[u8],
 ) -> Result<Answer, Fail> {
-    let mut table = table_of(heap, folding(), first, LIMIT)?;
-    add_twice(&mut table, heap, refusal, second, limit, alloc)
+    let mut table = table_of_each(heap, folding(), earlier)?;
+    add_twice(&mut table, heap, refusal, stream, limit, alloc)
 }
 
 /// Adds records to a table while memory is refused. Where they are not added, the answer is out of
@@ -326,17 +349,17 @@ fn add_records_twice<'h, S: BuildHasher>(
     Ok((answer, after, end))
 }
 
-/// Adds the records of a second stream, as they stand, to the types of a first one, while memory is
+/// Adds the records of a stream, as they stand, to the types of earlier ones, while memory is
 /// refused.
 fn add_records_amid(
     heap: &TestHeap,
     refusal: Refusal,
     alloc: Global,
-    first: &[u8],
-    second: &[u8],
+    earlier: &[&[u8]],
+    stream: &[u8],
 ) -> Result<Answer, Fail> {
-    let mut table = table_of(heap, folding(), first, LIMIT)?;
-    add_records_twice(&mut table, heap, refusal, second, alloc)
+    let mut table = table_of_each(heap, folding(), earlier)?;
+    add_records_twice(&mut table, heap, refusal, stream, alloc)
 }
 
 /// Joins a list with types, up to this limit, while memory is refused.
@@ -410,17 +433,27 @@ fn join_twice<'h>(
     Ok((answer, after, end))
 }
 
-/// Joins a list with the types of a second stream at this limit, while memory is refused.
+/// The list of the types of some streams, joined one after the other.
+fn joined_each<A: Allocator + Copy>(alloc: A, streams: &[&[u8]]) -> Result<Canon<A>, Fail> {
+    let mut canon = Canon::empty(alloc);
+    for stream in streams {
+        canon = with_stream(&canon, alloc, stream)?;
+    }
+    Ok(canon)
+}
+
+/// Joins the list of earlier streams with the types of a stream at this limit, while memory is
+/// refused.
 fn join_amid(
     heap: &TestHeap,
     refusal: Refusal,
     limit: u32,
     alloc: Global,
-    first: &[u8],
-    second: &[u8],
+    earlier: &[&[u8]],
+    stream: &[u8],
 ) -> Result<Answer, Fail> {
-    let canon = with_stream(&Canon::empty(heap), heap, first)?;
-    let types = types_of(heap, second)?;
+    let canon = joined_each(heap, earlier)?;
+    let types = types_of(heap, stream)?;
     join_twice(&canon, heap, refusal, &types, limit, alloc)
 }
 
@@ -465,17 +498,17 @@ fn finish_with<'h, S: BuildHasher>(
     finish_twice(table, heap, refusal, alloc, before)
 }
 
-/// Makes the list of two streams, while memory is refused. After a refusal the first of the two
-/// lists in the answer is that of the first stream.
+/// Makes the list of a stream and earlier ones, while memory is refused. After a refusal the first of
+/// the two lists in the answer is that of the earlier ones.
 fn finish_amid(
     heap: &TestHeap,
     refusal: Refusal,
     alloc: Global,
-    first: &[u8],
-    second: &[u8],
+    earlier: &[&[u8]],
+    stream: &[u8],
 ) -> Result<Answer, Fail> {
-    let mut table = table_of(heap, folding(), first, LIMIT)?;
-    finish_with(&mut table, heap, refusal, alloc, second)
+    let mut table = table_of_each(heap, folding(), earlier)?;
+    finish_with(&mut table, heap, refusal, alloc, stream)
 }
 
 /// A call that allocates.
@@ -493,14 +526,14 @@ fn amid(
     heap: &TestHeap,
     refusal: Refusal,
     alloc: Global,
-    first: &[u8],
-    second: &[u8],
+    earlier: &[&[u8]],
+    stream: &[u8],
 ) -> Result<Answer, Fail> {
     match call {
-        Call::Add => add_amid(heap, refusal, LIMIT, alloc, first, second),
-        Call::AddRecords => add_records_amid(heap, refusal, alloc, first, second),
-        Call::Join => join_amid(heap, refusal, LIMIT, alloc, first, second),
-        Call::Finish => finish_amid(heap, refusal, alloc, first, second),
+        Call::Add => add_amid(heap, refusal, LIMIT, alloc, earlier, stream),
+        Call::AddRecords => add_records_amid(heap, refusal, alloc, earlier, stream),
+        Call::Join => join_amid(heap, refusal, LIMIT, alloc, earlier, stream),
+        Call::Finish => finish_amid(heap, refusal, alloc, earlier, stream),
     }
 }
 
@@ -516,28 +549,106 @@ fn was_accepted(answer: &Answer, before: &[u8], want: &[u8]) -> Option<bool> {
     }
 }
 
+/// The records of two earlier streams and of the one that a call is given, and the lists before the
+/// call and after it.
+type Step = (
+    &'static [&'static [u8]],
+    &'static [&'static [u8]],
+    &'static [&'static [u8]],
+    &'static [&'static [u8]],
+    &'static [&'static [u8]],
+);
+
+/// A type that comes before one that is there.
+const LOWER: Step = (
+    &[CONST, TO_FIRST],
+    &[],
+    &[VOLATILE, TO_FIRST],
+    &[CONST, TO_FIRST],
+    &[CONST, VOLATILE, TO_FIRST, TO_SECOND],
+);
+
+/// The same types, where the first names the second.
+const LATER: Step = (
+    &[CONST, TO_FIRST],
+    &[],
+    &[TO_SECOND, VOLATILE],
+    &[CONST, TO_FIRST],
+    &[CONST, VOLATILE, TO_FIRST, TO_SECOND],
+);
+
+/// The records of the sample.
+const SAMPLE: Step = (&[], &[], &[TO_INT, CONST], &[], &[CONST, TO_INT]);
+
+/// The first of three streams.
+const FIRST: Step = (&[], &[], &[TO_INT], &[], &[TO_INT]);
+
+/// The second of them.
+const SECOND: Step = (&[TO_INT], &[], &[CONST], &[TO_INT], &[CONST, TO_INT]);
+
+/// The third of them.
+const THIRD: Step = (
+    &[TO_INT],
+    &[CONST],
+    &[VOLATILE, CONST, TO_FIRST, TO_SECOND],
+    &[CONST, TO_INT],
+    &[CONST, VOLATILE, TO_INT, TO_FIRST, TO_SECOND],
+);
+
+/// Tries this call while memory is refused, at each place in turn where it allocates.
+fn refuse_in_turn(alloc: Global, call: Call, step: Step) -> Result<(), Fail> {
+    let (first, second, third, before, want) = step;
+    let first = stream_with(alloc, first)?;
+    let second = stream_with(alloc, second)?;
+    let stream = stream_with(alloc, third)?;
+    let before = bytes_of(alloc, before)?;
+    let want = bytes_of(alloc, want)?;
+    refusals_amid(alloc, HEAP, 8, |heap, refusal| {
+        let earlier = [first.as_slice(), second.as_slice()];
+        let answer = amid(call, heap, refusal, alloc, &earlier, &stream)?;
+        match was_accepted(&answer, &before, &want) {
+            Some(accepted) => Ok(!accepted),
+            None => Err("another answer".into()),
+        }
+    })?;
+    Ok(())
+}
+
 #[test]
 fn memory_is_refused(rt: HostRuntime) -> Result<(), Fail> {
-    let first = stream_with(rt.alloc(), &[CONST, TO_FIRST])?;
-    let lower = stream_with(rt.alloc(), &[VOLATILE, TO_FIRST])?;
-    let later = stream_with(rt.alloc(), &[TO_SECOND, VOLATILE])?;
-    let before = bytes_of(rt.alloc(), &[CONST, TO_FIRST])?;
-    let want = bytes_of(rt.alloc(), &[CONST, VOLATILE, TO_FIRST, TO_SECOND])?;
-    for (call, second) in [
-        (Call::Add, &lower),
-        (Call::Add, &later),
-        (Call::AddRecords, &lower),
-        (Call::Join, &lower),
-        (Call::Join, &later),
-        (Call::Finish, &lower),
+    for (call, step) in [
+        (Call::Add, LOWER),
+        (Call::Add, LATER),
+        (Call::AddRecords, LOWER),
+        (Call::Join, LOWER),
+        (Call::Join, LATER),
+        (Call::Finish, LOWER),
     ] {
-        refusals_amid(rt.alloc(), HEAP, 8, |heap, refusal| {
-            let answer = amid(call, heap, refusal, rt.alloc(), &first, second)?;
-            match was_accepted(&answer, &before, &want) {
-                Some(accepted) => Ok(!accepted),
-                None => Err("another answer".into()),
-            }
-        })?;
+        refuse_in_turn(rt.alloc(), call, step)?;
+    }
+    Ok(())
+}
+
+#[test]
+fn memory_is_refused_while_types_are_added(rt: HostRuntime) -> Result<(), Fail> {
+    for step in [SAMPLE, FIRST, SECOND, THIRD] {
+        refuse_in_turn(rt.alloc(), Call::Add, step)?;
+    }
+    Ok(())
+}
+
+#[test]
+fn memory_is_refused_while_types_are_joined(rt: HostRuntime) -> Result<(), Fail> {
+    for step in [SAMPLE, FIRST, SECOND, THIRD] {
+        refuse_in_turn(rt.alloc(), Call::Join, step)?;
+    }
+    Ok(())
+}
+
+#[test]
+fn memory_is_refused_while_lists_are_made(rt: HostRuntime) -> Result<(), Fail> {
+    for step in [SAMPLE, FIRST, SECOND, THIRD] {
+        refuse_in_turn(rt.alloc(), Call::Finish, step)?;
     }
     Ok(())
 }
@@ -577,11 +688,11 @@ fn a_union_at_the_limit(rt: HostRuntime) -> Result<(), Fail> {
     let want = bytes_of(rt.alloc(), &[CONST, TO_INT])?;
     let heap = TestHeap::new(LocalHeap::new(rt.alloc(), HEAP)?);
     let none = Refusal::Taken(0);
-    let answer = join_amid(&heap, none, 23, rt.alloc(), &pointer, &other)?;
+    let answer = join_amid(&heap, none, 23, rt.alloc(), &[&pointer], &other)?;
     assert!(rt; is_answer(&answer, large, TO_INT, &want));
-    let answer = join_amid(&heap, none, 24, rt.alloc(), &pointer, &other)?;
+    let answer = join_amid(&heap, none, 24, rt.alloc(), &[&pointer], &other)?;
     assert!(rt; is_answer(&answer, Ok(()), &want, &want));
-    let answer = add_amid(&heap, none, 24, rt.alloc(), &other, &both)?;
+    let answer = add_amid(&heap, none, 24, rt.alloc(), &[&other], &both)?;
     assert!(rt; is_answer(&answer, Ok(()), &want, &want));
     let answer = add_again(rt.alloc(), &other, &both)?;
     assert!(rt; is_answer(&answer, large, CONST, CONST));
