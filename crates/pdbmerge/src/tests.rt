@@ -1,3 +1,0 @@
-//! What no clause says: what the arguments mean.
-
-mod lines;
