@@ -39,6 +39,7 @@ test:
 	tools/stale
 	tests/program $(PROGRAM)
 	tests/examples $(PROGRAM)
+	tests/answers $(PROGRAM)
 	tests/rows $(PROGRAM)
 	tests/failures $(PROGRAM)
 	tests/surroundings $(PROGRAM)

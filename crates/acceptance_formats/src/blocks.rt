@@ -1,7 +1,7 @@
 //! Numbers of blocks, and the free block maps.
 
 use msf_blocks::{MsfFault, Superblock, free_bit, is_block_size, is_map_block, nth_block};
-use samples::{offset, put, sample};
+use samples::put;
 use std::test::Fail;
 
 #[test]
@@ -37,21 +37,6 @@ fn bit(file: &[u8], n: u32) -> Result<Option<bool>, MsfFault> {
 }
 
 #[test]
-fn bits_of_the_free_block_maps(rt: HostRuntime) -> Result<(), Fail> {
-    let mut file = sample(rt.alloc())?;
-    assert_eq!(rt; bit(&file, 6), Ok(Some(false)));
-    assert_eq!(rt; bit(&file, 7), Ok(None));
-    put(&mut file, offset::FREE_MAP, b"\x40");
-    assert_eq!(rt; bit(&file, 6), Ok(Some(true)));
-    assert_eq!(rt; bit(&file, 5), Ok(Some(false)));
-    // There are two blocks, and the second is the block map. Map 2 is not in the file.
-    put(&mut file, offset::FREE_MAP_BLOCK, b"\x02\0\0\0\x02\0\0\0");
-    put(&mut file, offset::BLOCK_MAP_ADDR, b"\x01");
-    assert_eq!(rt; bit(&file, 0), Ok(None));
-    Ok(())
-}
-
-#[test]
 fn bits_of_a_map_in_use(rt: HostRuntime) -> Result<(), Fail> {
     // Seven blocks of 4,096 bytes, as in a file without types. All of them are in use, and all
     // that follow are marked as free.
@@ -72,45 +57,5 @@ fn bits_of_a_map_in_use(rt: HostRuntime) -> Result<(), Fail> {
         assert_eq!(rt; bit(&file, block), Ok(Some(false)));
     }
     assert_eq!(rt; bit(&file, 7), Ok(None));
-    Ok(())
-}
-
-#[test]
-fn each_fault_has_its_text(rt: HostRuntime) -> Result<(), Fail> {
-    for (fault, want) in [
-        (MsfFault::Short, "1 Short"),
-        (MsfFault::Magic, "2 Magic"),
-        (MsfFault::BlockSize(4095), "3 BlockSize 4095"),
-        (MsfFault::FreeMapBlock(3), "4 FreeMapBlock 3"),
-        (
-            MsfFault::FileSize {
-                need: 4096,
-                have: 3584,
-            },
-            "5 FileSize need 4096 have 3584",
-        ),
-        (MsfFault::DirectorySize(6), "6 DirectorySize 6"),
-        (MsfFault::BlockMapAddr(7), "7 BlockMapAddr 7"),
-        (
-            MsfFault::DirectoryBlock { at: 1, n: 2 },
-            "8 DirectoryBlock at 1 n 2",
-        ),
-        (
-            MsfFault::DirectoryShort { need: 32, have: 28 },
-            "9 DirectoryShort need 32 have 28",
-        ),
-        (
-            MsfFault::StreamBlock {
-                stream: 2,
-                at: 0,
-                n: 7,
-            },
-            "10 StreamBlock stream 2 at 0 n 7",
-        ),
-        (MsfFault::Memory, "33 Memory"),
-    ] {
-        let text = fault.to_string(rt.alloc())?;
-        assert_eq!(rt; text.as_str(), want);
-    }
     Ok(())
 }

@@ -1,26 +1,16 @@
-//! Tests of what reads and writes the formats: containers, streams, the info stream, type records and their
-//! leaves; and of the lists below them.
+//! Tests of what reads and writes the formats: containers, streams and the leaves of type records.
 //!
-//! They say what no clause says, at public calls.
+//! They say what no clause says, at public calls. What a run of the program shows is in
+//! `tests/answers`.
 #![tactic(auto)]
 
 #[cfg(test)]
 mod blocks;
 #[cfg(test)]
-mod chains;
-#[cfg(test)]
 mod images;
-#[cfg(test)]
-mod info;
-#[cfg(test)]
-mod layouts;
 #[cfg(test)]
 mod leaves;
 #[cfg(test)]
-mod packed;
-#[cfg(test)]
-mod records;
-#[cfg(test)]
-mod sets;
+mod settings;
 #[cfg(test)]
 mod streams;

@@ -1,10 +1,10 @@
-//! What no clause says: the texts of the faults, that calls succeed, and out of memory.
+//! What no clause says: that calls succeed, and out of memory.
 
 ghost use Rattle.std.specs.Prelude.{◌+◌, ◌≤◌, length};
 
 use msf_blocks::Layout;
 use msf_streams::{StreamFault, contents, gather, lent, pieces};
-use samples::{offset, refusals, sample};
+use samples::{refusals, sample};
 use std::test::Fail;
 
 /// The size of a block, in bytes.
@@ -45,18 +45,6 @@ fn container() -> [u8; 40960] {
         *byte = (i % 251) as u8;
     }
     file
-}
-
-#[test]
-fn each_fault_has_its_text(rt: HostRuntime) -> Result<(), Fail> {
-    for (fault, text) in [
-        (StreamFault::NoStream(5), "11 NoStream 5"),
-        (StreamFault::Memory, "33 Memory"),
-    ] {
-        let shown = fault.to_string(rt.alloc())?;
-        assert_eq!(rt; shown.as_str(), text);
-    }
-    Ok(())
 }
 
 #[test]
@@ -125,10 +113,7 @@ fn consecutive_blocks_are_lent(rt: HostRuntime) -> Result<(), Fail> {
     let file = sample(rt.alloc())?;
     let layout = Layout::read(rt.alloc(), &file)?;
     assert_eq!(rt; lent(&file, &layout, 0), Some(&[][..]));
-    assert_eq!(rt;
-        lent(&file, &layout, 2),
-        file.get(offset::TYPES..offset::TYPES + 80)
-    );
+    assert_eq!(rt; lent(&file, &layout, 2), file.get(3072..3152));
     assert_eq!(rt; lent(&file, &layout, 5), None);
     Ok(())
 }

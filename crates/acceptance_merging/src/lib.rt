@@ -1,7 +1,16 @@
-//! Tests of `pdb_merge`: the types of a file, merging, the file that is written.
+//! Tests of `pdb_merge`: merges by two hashers, and what is there after a refusal.
 //!
-//! They say what no clause says, at public calls.
+//! They say what no clause says, at public calls. What a run of the program shows is in `tests/rows`
+//! and `tests/answers`.
 #![tactic(auto)]
 
 #[cfg(test)]
+mod calls;
+#[cfg(test)]
+mod damaged;
+#[cfg(test)]
+mod growth;
+#[cfg(test)]
 mod merging;
+#[cfg(test)]
+mod scattered;

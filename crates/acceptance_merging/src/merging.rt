@@ -1,198 +1,274 @@
-//! What no clause says: the texts of the faults, changed samples, one buffer for many files, and
-//! out of memory.
+//! Merging by two hashers, a merge that goes on after a refusal, and sinks that break.
 
-mod calls;
-mod damaged;
-mod forward;
-mod growth;
-mod merging;
-mod readers;
-mod scattered;
-mod sizes;
-
-use calls::types_of;
-use cv_leaves::LeafFault;
+use super::calls::{
+    add, copied, empty_merge, finish, list_of, merge_bytes, merge_into, write_bytes,
+};
 use msf_blocks::MsfFault;
-use msf_streams::StreamFault;
-use pdb_info::InfoFault;
-use pdb_merge::{Buffer, MergeFault, OutFault, PdbFault};
-use samples::{TestHeap, offset, put, refusals, sample};
+use msf_streams::WriteFault;
+use pdb_info::Settings;
+use pdb_merge::{AddFault, Buffer, Merge, OutFault, PdbFault, Summary};
+use samples::{
+    CONST, Constant, DECLARATION, DEFINITION, LIMIT, LIST, LIST_BEFORE_FIRST, MEMBER_OF_FIRST,
+    MEMBER_OF_SECOND, NO_MEMBER, Narrow, TO_FIFTH, TO_FIRST, TO_FOURTH, TO_INT, TO_SECOND,
+    TO_THIRD, VOLATILE, bytes_of, folding, pdb_with, settings,
+};
 use std::alloc::{Allocator, Global};
+use std::hash::BuildHasher;
 use std::test::Fail;
-use tpi_records::TpiFault;
-use type_trees::TypeFault;
+use type_trees::Canon;
 
-/// How many types a file has, how many bytes and how many levels, or the fault.
-type Answer<A = Global> = Result<(usize, u32, u32), PdbFault<A>>;
+/// The records of two files, and the expected records of their merge.
+type Row = (
+    &'static [&'static [u8]],
+    &'static [&'static [u8]],
+    &'static [&'static [u8]],
+);
 
-/// Reads the types of a file through a buffer.
-fn read<A: Allocator + Copy>(alloc: A, file: &[u8], buffer: &mut Buffer<A>) -> Answer<A> {
-    let types = types_of(alloc, file, buffer)?;
-    Ok((types.len(), types.bytes_len(), types.levels()))
-}
-
-/// The sample with other bytes from an offset on.
-fn changed(alloc: Global, at: usize, bytes: &[u8]) -> Result<Vec<u8>, Fail> {
-    let mut file = sample(alloc)?;
-    put(&mut file, at, bytes);
-    Ok(file)
-}
-
-/// An offset, the bytes that replace those of the sample from it on, and the answer.
-type Row = (usize, &'static [u8], Answer);
-
-/// Changed samples. Some are accepted, and others are not.
-const ROWS: [Row; 13] = [
-    (0, b"", Ok((2, 24, 1))),
-    (0, b"m", Err(PdbFault::Msf(MsfFault::Magic))),
-    // one stream, two streams, and two streams where the last is short
+const ROWS: [Row; 16] = [
+    (&[], &[], &[]),
+    (&[TO_INT, CONST], &[TO_INT, CONST], &[CONST, TO_INT]),
+    (&[TO_INT, CONST], &[CONST, TO_INT], &[CONST, TO_INT]),
+    (&[TO_INT], &[CONST], &[CONST, TO_INT]),
+    // The same bytes name a const int in one file and a volatile one in the other.
     (
-        offset::DIRECTORY,
-        b"\x01",
-        Err(PdbFault::Stream(StreamFault::NoStream(1))),
+        &[CONST, TO_FIRST],
+        &[VOLATILE, TO_FIRST],
+        &[CONST, VOLATILE, TO_FIRST, TO_SECOND],
+    ),
+    // The record that was third is third again, but names the first record.
+    (
+        &[VOLATILE, CONST, TO_FIRST, TO_SECOND],
+        &[],
+        &[CONST, VOLATILE, TO_FIRST, TO_SECOND],
     ),
     (
-        offset::DIRECTORY,
-        b"\x02\0\0\0\0\0\0\0\x34\0\0\0\x05",
-        Err(PdbFault::Stream(StreamFault::NoStream(2))),
+        &[CONST, CONST, TO_FIRST, TO_SECOND],
+        &[],
+        &[CONST, TO_FIRST],
     ),
     (
-        offset::DIRECTORY,
-        b"\x02\0\0\0\0\0\0\0\x1b\0\0\0\x05",
-        Err(PdbFault::Info(InfoFault::InfoShort)),
-    ),
-    // the info stream is short, nil, just long enough, or has a faulty named stream map
-    (
-        offset::INFO_SIZE,
-        b"\x1b",
-        Err(PdbFault::Info(InfoFault::InfoShort)),
+        &[TO_INT, CONST, MEMBER_OF_FIRST],
+        &[],
+        &[CONST, TO_INT, MEMBER_OF_SECOND],
     ),
     (
-        offset::INFO_SIZE,
-        b"\xff\xff\xff\xff",
-        Err(PdbFault::Info(InfoFault::InfoShort)),
+        &[TO_INT, CONST, NO_MEMBER],
+        &[],
+        &[CONST, TO_INT, NO_MEMBER],
     ),
-    (offset::INFO_SIZE, b"\x1c", Ok((2, 24, 1))),
-    (offset::NAMED_STREAMS, b"\xff\xff\xff\xff", Ok((2, 24, 1))),
-    // the TPI stream is short, or has no records
     (
-        offset::TYPES_SIZE,
-        b"\x37",
-        Err(PdbFault::Tpi(TpiFault::Short)),
+        &[CONST, TO_INT],
+        &[TO_INT, CONST, TO_FIRST, TO_SECOND, TO_THIRD],
+        &[CONST, TO_INT, TO_FIRST, TO_SECOND, TO_FOURTH],
     ),
-    (offset::TYPE_END, b"\0\x10\0\0\0\0\0\0", Ok((0, 0, 0))),
-    // the first record names the second
-    (offset::FIRST_REFERENCE, b"\x01\x10", Ok((2, 24, 2))),
-    // the first record names one after the last
+    (&[LIST, LIST_BEFORE_FIRST], &[], &[LIST, LIST_BEFORE_FIRST]),
+    (&[DECLARATION], &[DEFINITION], &[DEFINITION, DECLARATION]),
     (
-        offset::FIRST_REFERENCE,
-        b"\x02\x10",
-        Err(PdbFault::Type(TypeFault::Ref {
-            index: 0x1000,
-            place: 0,
-            to: 0x1002,
-        })),
+        &[VOLATILE, CONST, TO_FIRST, TO_SECOND],
+        &[TO_INT, CONST],
+        &[CONST, VOLATILE, TO_INT, TO_FIRST, TO_SECOND],
+    ),
+    // The records name later ones.
+    (&[TO_SECOND, CONST], &[], &[CONST, TO_FIRST]),
+    (&[TO_SECOND, CONST], &[CONST, TO_FIRST], &[CONST, TO_FIRST]),
+    (
+        &[TO_FOURTH, TO_FIRST, CONST, TO_INT],
+        &[TO_SECOND, TO_THIRD, VOLATILE],
+        &[
+            CONST, VOLATILE, TO_INT, TO_SECOND, TO_THIRD, TO_FOURTH, TO_FIFTH,
+        ],
     ),
 ];
 
-#[test]
-fn one_buffer_for_all_files(rt: HostRuntime) -> Result<(), Fail> {
-    let mut buffer = Buffer::new(rt.alloc());
-    for (at, bytes, want) in ROWS {
-        let file = changed(rt.alloc(), at, bytes)?;
-        let found = read(rt.alloc(), &file, &mut buffer);
-        assert_eq!(rt; found, want);
-        let whole = sample(rt.alloc())?;
-        let again = read(rt.alloc(), &whole, &mut buffer);
-        assert_eq!(rt; again, Ok((2, 24, 1)));
-    }
-    Ok(())
+/// What a merge has to give: the bytes of its list, the file that is written, and what is said of
+/// it.
+#[derive(Drop)]
+struct Want {
+    list: Vec<u8>,
+    file: Vec<u8>,
+    said: Summary,
 }
 
-#[test]
-fn each_fault_has_its_text(rt: HostRuntime) -> Result<(), Fail> {
-    let leaf: TypeFault = TypeFault::Leaf {
-        index: 0x1001,
-        fault: LeafFault::Leaf(0x150A),
+/// What a merge has to give whose list has these records.
+fn wanted(alloc: Global, records: &[&[u8]]) -> Result<Want, Fail> {
+    let list = bytes_of(alloc, records)?;
+    let said = Summary {
+        types: u32::try_from(records.len())?,
+        bytes: u32::try_from(list.len())?,
+        length: 28672,
     };
-    for (fault, text) in [
-        (PdbFault::Msf(MsfFault::Magic), "2 Magic"),
-        (PdbFault::Stream(StreamFault::NoStream(1)), "11 NoStream 1"),
-        (PdbFault::Info(InfoFault::InfoShort), "12 InfoShort"),
-        (PdbFault::Tpi(TpiFault::Short), "16 TpiShort"),
-        (PdbFault::Type(leaf), "index 0x1001: 25 Leaf 0x150a"),
-        (PdbFault::Memory, "33 Memory"),
-        (MsfFault::Memory.into(), "33 Memory"),
-        (StreamFault::NoStream(2).into(), "11 NoStream 2"),
-        (StreamFault::Memory.into(), "33 Memory"),
-        (InfoFault::Memory.into(), "33 Memory"),
-        (TpiFault::Memory.into(), "33 Memory"),
-        (TypeFault::<Global>::Memory.into(), "33 Memory"),
-    ] {
-        let shown = fault.to_string(rt.alloc())?;
-        assert_eq!(rt; shown.as_str(), text);
+    Ok(Want {
+        list,
+        file: pdb_with(alloc, records)?,
+        said,
+    })
+}
+
+/// Whether a list is the one that is wanted.
+fn is_listed(canon: &Canon, want: &Want) -> bool {
+    canon.bytes() == want.list.as_slice() && canon.len() == want.said.types as usize
+}
+
+/// Whether the list of files, by this hasher, is the one that is wanted.
+fn lists<S: BuildHasher + Drop>(
+    alloc: Global,
+    hasher: S,
+    files: &[&[u8]],
+    settings: &Settings,
+    want: &Want,
+) -> Result<bool, Fail> {
+    match list_of(alloc, files, settings, hasher) {
+        Ok(canon) => Ok(is_listed(&canon, want)),
+        Err(fault) => Err(fault.to_string(alloc)?.into()),
     }
-    for (fault, text) in [
-        (
-            MergeFault::<Global>::Refused {
-                file: 1,
-                fault: PdbFault::Msf(MsfFault::Magic),
-            },
-            "file 1: 2 Magic",
-        ),
-        (
-            MergeFault::TooLarge { file: 1, bytes: 24 },
-            "file 1: 32 TooLarge bytes 24",
-        ),
-        (MergeFault::Memory, "33 Memory"),
-    ] {
-        let shown = fault.to_string(rt.alloc())?;
-        assert_eq!(rt; shown.as_str(), text);
+}
+
+/// Whether the file that is written for files, by this hasher, is the one that is wanted.
+fn writes<S: BuildHasher + Drop>(
+    alloc: Global,
+    hasher: S,
+    files: &[&[u8]],
+    settings: &Settings,
+    want: &Want,
+) -> bool {
+    let (answer, file) = merge_bytes(alloc, alloc, files, settings, hasher);
+    answer == Ok(want.said) && file == want.file
+}
+
+/// Whether both calls give by both hashers what is wanted of these files.
+fn all_give(alloc: Global, files: &[&[u8]], want: &Want) -> Result<bool, Fail> {
+    let settings = settings(LIMIT, 4096)?;
+    let listed = lists(alloc, folding(), files, &settings, want)?;
+    let slowly_listed = lists(alloc, Constant, files, &settings, want)?;
+    let written = writes(alloc, folding(), files, &settings, want);
+    let slowly_written = writes(alloc, Constant, files, &settings, want);
+    Ok(listed && slowly_listed && written && slowly_written)
+}
+
+#[test]
+fn each_type_once_in_canonical_order(rt: HostRuntime) -> Result<(), Fail> {
+    for (some, others, all) in ROWS {
+        let first = pdb_with(rt.alloc(), some)?;
+        let second = pdb_with(rt.alloc(), others)?;
+        let want = wanted(rt.alloc(), all)?;
+        for files in [
+            [first.as_slice(), second.as_slice(), second.as_slice()],
+            [second.as_slice(), first.as_slice(), first.as_slice()],
+            [want.file.as_slice(), first.as_slice(), second.as_slice()],
+            [
+                want.file.as_slice(),
+                want.file.as_slice(),
+                want.file.as_slice(),
+            ],
+        ] {
+            assert!(rt; all_give(rt.alloc(), &files, &want)?);
+        }
     }
     Ok(())
 }
 
+/// Writes the file of a list of no types.
+fn written_of_none(alloc: Global) -> Result<(Result<(), WriteFault>, Vec<u8>), Fail> {
+    let settings = settings(LIMIT, 4096)?;
+    Ok(write_bytes(alloc, alloc, &Canon::empty(alloc), &settings))
+}
+
 #[test]
-fn each_fault_of_writing_has_its_text(rt: HostRuntime) -> Result<(), Fail> {
-    let large = MergeFault::TooLarge { file: 1, bytes: 24 };
-    for (fault, text) in [
-        (
-            OutFault::<Global>::Merge(large),
-            "file 1: 32 TooLarge bytes 24",
-        ),
-        (OutFault::Memory, "33 Memory"),
-        (OutFault::Merge(MergeFault::Memory), "33 Memory"),
-        (OutFault::Write, "36 Write"),
-    ] {
-        let shown = fault.to_string(rt.alloc())?;
-        assert_eq!(rt; shown.as_str(), text);
-    }
+fn no_files_and_an_empty_list(rt: HostRuntime) -> Result<(), Fail> {
+    let want = wanted(rt.alloc(), &[])?;
+    assert!(rt; all_give(rt.alloc(), &[], &want)?);
+    let (written, file) = written_of_none(rt.alloc())?;
+    assert_eq!(rt; written, Ok(()));
+    assert!(rt; file == want.file);
     Ok(())
 }
 
-/// Reads a file through a buffer, and returns whether that was refused memory. Unless the heap was
-/// too small, the file is read again through the same buffer: its old bytes are dropped first, so
-/// the heap has room for them. It is a failure if anything else than `want` is found.
-fn read_twice(heap: &TestHeap, file: &[u8], want: (usize, u32, u32)) -> Result<bool, Fail> {
-    let mut buffer = Buffer::new(heap);
-    let found = read(heap, file, &mut buffer);
-    let refused = matches!(found, Err(PdbFault::Memory));
-    if refused && !heap.has_failed() {
-        return Ok(true);
+/// 56 zero bytes, which are no container.
+fn zeros(alloc: Global) -> Result<Vec<u8>, Fail> {
+    Ok(vec![in alloc; 0u8; 56]?)
+}
+
+/// A file with these records, or zeros.
+fn file_of(alloc: Global, records: Option<&[&[u8]]>) -> Result<Vec<u8>, Fail> {
+    match records {
+        Some(records) => pdb_with(alloc, records),
+        None => zeros(alloc),
     }
-    heap.stop_failing();
-    let again = read(heap, file, &mut buffer);
-    if (refused || found.ok() == Some(want)) && again.ok() == Some(want) {
-        return Ok(refused);
-    }
-    Err("another answer".into())
+}
+
+/// The bytes of the types that a merge has taken.
+pub(super) fn bytes_of_merge<S: BuildHasher, A: Allocator + Copy>(
+    heap: A,
+    alloc: Global,
+    merge: &Merge<S, A>,
+) -> Result<Vec<u8>, Fail> {
+    let canon = finish(heap, merge)?;
+    copied(alloc, &canon)
+}
+
+/// What a merge says to a file with these records, or to zeros.
+fn said_to<S: BuildHasher>(
+    merge: &mut Merge<S>,
+    alloc: Global,
+    records: Option<&[&[u8]]>,
+    buffer: &mut Buffer,
+) -> Result<Result<(), AddFault>, Fail> {
+    let file = file_of(alloc, records)?;
+    Ok(add(merge, alloc, &file, buffer))
 }
 
 #[test]
-fn growth_is_refused(rt: HostRuntime) -> Result<(), Fail> {
-    let file = sample(rt.alloc())?;
-    refusals(rt.alloc(), 16, 64, |heap| {
-        read_twice(heap, &file, (2, 24, 1))
-    })?;
+fn a_merge_goes_on_after_a_refusal(rt: HostRuntime) -> Result<(), Fail> {
+    // the files of a merge at the limit of 24 bytes, and what it says to each
+    const FILES: [(Option<&[&[u8]]>, Result<(), AddFault>); 4] = [
+        (Some(&[TO_INT]), Ok(())),
+        (
+            Some(&[CONST, VOLATILE]),
+            Err(AddFault::TooLarge { bytes: 36 }),
+        ),
+        (None, Err(AddFault::Refused(PdbFault::Msf(MsfFault::Magic)))),
+        (Some(&[CONST]), Ok(())),
+    ];
+    let mut buffer = Buffer::new(rt.alloc());
+    let mut merge = empty_merge(rt.alloc(), 24, folding());
+    for (records, want) in FILES {
+        assert_eq!(rt;
+            said_to(&mut merge, rt.alloc(), records, &mut buffer)?,
+            want
+        );
+    }
+    let bytes = bytes_of_merge(rt.alloc(), rt.alloc(), &merge)?;
+    let want = bytes_of(rt.alloc(), &[CONST, TO_INT])?;
+    assert_eq!(rt; bytes.as_slice(), want.as_slice());
+    Ok(())
+}
+
+/// Merges a file into a sink that takes `room` bytes. Returns the sink and the fault, if there is
+/// one.
+fn merged_into(
+    alloc: Global,
+    file: &[u8],
+    room: usize,
+) -> Result<(Narrow, Option<OutFault>), Fail> {
+    let settings = settings(LIMIT, 4096)?;
+    let mut out = Narrow::new(alloc, usize::MAX, room);
+    let answer = merge_into(alloc, &[file], &settings, &mut out, folding());
+    Ok((out, answer.err()))
+}
+
+/// Whether a sink that takes `room` bytes of a file, and no more, has just these, and the merge
+/// says that it broke.
+fn breaks(alloc: Global, file: &[u8], room: usize) -> Result<bool, Fail> {
+    let (out, fault) = merged_into(alloc, file, room)?;
+    let taken = out.taken.as_slice();
+    Ok(fault == Some(OutFault::Write) && taken.len() == room && file.starts_with(taken))
+}
+
+#[test]
+fn sinks_that_break_after_each_byte(rt: HostRuntime) -> Result<(), Fail> {
+    let want = pdb_with(rt.alloc(), &[])?;
+    for room in 0..want.len() {
+        assert!(rt; breaks(rt.alloc(), &want, room)?, "{room}");
+    }
     Ok(())
 }

@@ -1,7 +1,9 @@
-//! Tests of `type_trees`: checked types, tables, canonical lists.
+//! Tests of `type_trees`: tables, and canonical lists that are joined.
 //!
-//! They say what no clause says, at public calls.
+//! They say what no clause says, at public calls. What a run of the program shows is in `tests/rows`.
 #![tactic(auto)]
 
 #[cfg(test)]
-mod types;
+mod calls;
+#[cfg(test)]
+mod joining;

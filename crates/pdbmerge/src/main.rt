@@ -180,5 +180,3 @@ fn main(rt: HostRuntime) -> ExitCode {
     }
 }
 
-#[cfg(test)]
-mod tests;

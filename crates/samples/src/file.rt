@@ -1,74 +1,9 @@
 //! The sample that is shipped, made from its table.
 
-ghost use Rattle.std.specs.Prelude.{◌≡◌, length, IfOk};
-
 use std::alloc::{AllocError, Global};
 
 /// The length of the sample in bytes: seven blocks of 512.
-pub const LENGTH: usize = 3584;
-
-/// Where the parts of the sample are, in bytes from its front.
-pub mod offset {
-    /// The size of a block, the first field of the superblock.
-    pub const BLOCK_SIZE: usize = 32;
-
-    /// The block number of the free block map that is in use.
-    pub const FREE_MAP_BLOCK: usize = 36;
-
-    /// The number of blocks.
-    pub const NUM_BLOCKS: usize = 40;
-
-    /// The size of the stream directory in bytes.
-    pub const DIRECTORY_BYTES: usize = 44;
-
-    /// The block number of the block map.
-    pub const BLOCK_MAP_ADDR: usize = 52;
-
-    /// The free block map in block 1.
-    pub const FREE_MAP: usize = 512;
-
-    /// The block map: the block number of the directory.
-    pub const BLOCK_MAP: usize = 1536;
-
-    /// The stream directory. The number of streams is its first field.
-    pub const DIRECTORY: usize = 2048;
-
-    /// The size of stream 1, the info stream.
-    pub const INFO_SIZE: usize = 2056;
-
-    /// The size of stream 2, the TPI stream.
-    pub const TYPES_SIZE: usize = 2060;
-
-    /// The sizes of the streams 3 and 4.
-    pub const EMPTY_SIZES: usize = 2064;
-
-    /// The block number of stream 1, and after it that of stream 2.
-    pub const STREAM_BLOCKS: usize = 2072;
-
-    /// The info stream.
-    pub const INFO: usize = 2560;
-
-    /// The named stream map, in the info stream.
-    pub const NAMED_STREAMS: usize = 2588;
-
-    /// The TPI stream. The version is the first field of its header.
-    pub const TYPES: usize = 3072;
-
-    /// The type index after that of the last record, in the header.
-    pub const TYPE_END: usize = 3084;
-
-    /// The number of bytes that the records have, in the header.
-    pub const RECORD_BYTES: usize = 3088;
-
-    /// The first record, a pointer to an int.
-    pub const FIRST_RECORD: usize = 3128;
-
-    /// The type index that the first record names.
-    pub const FIRST_REFERENCE: usize = 3132;
-
-    /// The second record, a const int.
-    pub const SECOND_RECORD: usize = 3140;
-}
+const LENGTH: usize = 3584;
 
 /// The bytes of the sample that are not zero, each part with its offset.
 const PARTS: [(usize, &[u8]); 11] = [
@@ -104,18 +39,14 @@ const PARTS: [(usize, &[u8]); 11] = [
 
 /// Replaces the bytes of a file from the offset `at` on by others. The file keeps its length: bytes
 /// that lie past its end are left out.
-pub fn put(file: &mut [u8], at: usize, bytes: &[u8])
-    ensures { length file.new ≡ length file.old }
-{
+pub fn put(file: &mut [u8], at: usize, bytes: &[u8]) {
     for (place, byte) in file.iter_mut().skip(at).zip(bytes) {
         *place = *byte;
     }
 }
 
 /// The sample.
-pub fn sample(alloc: Global) -> Result<Vec<u8>, AllocError>
-    ensures { IfOk result (λ file. length file.items ≡ LENGTH) }
-{
+pub fn sample(alloc: Global) -> Result<Vec<u8>, AllocError> {
     let mut file = vec![in alloc; 0u8; LENGTH]?;
     for (at, bytes) in PARTS {
         put(&mut file, at, bytes);

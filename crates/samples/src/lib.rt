@@ -1,7 +1,6 @@
 //! What tests use: files, records, heaps, a sink, a source and hashers.
 //!
-//! - [`sample()`] is the file that is shipped, byte by byte; [`put`] changes bytes of a file, and
-//!   [`offset`] has the places of its parts.
+//! - [`sample()`] is the file that is shipped, byte by byte; [`put`] changes bytes of a file.
 //! - [`CONST`], [`pointer`] and the like are type records. [`stream_with`] and [`stream_of`] give a
 //!   stream of records, and [`pdb_with`] and [`pdb`] write a file with it.
 //! - [`refusals`] makes a try on heaps of increasing size, and on heaps of which one allocation
@@ -21,14 +20,13 @@ mod narrow;
 mod records;
 
 pub use dripping::Dripping;
-pub use file::{LENGTH, offset, put, sample};
+pub use file::{put, sample};
 pub use growth::{Refusal, TestHeap, refusals, refusals_amid};
 pub use hashers::{Constant, folding};
 pub use images::{GUID, LIMIT, pdb, pdb_with, settings};
 pub use narrow::Narrow;
 pub use records::{
-    CONST, DECLARATION, DEFINITION, INT, LIST, LIST_BEFORE_FIRST, LIST_BEFORE_SECOND,
-    MEMBER_OF_FIRST, MEMBER_OF_SECOND, MEMBERS, METHODS, NO_MEMBER, TO_FIFTH, TO_FIRST, TO_FOURTH,
-    TO_INT, TO_SECOND, TO_SIXTH, TO_THIRD, UNKNOWN, VOLATILE, bytes_of, pointer, procedure,
-    stream_of, stream_with,
+    CONST, DECLARATION, DEFINITION, LIST, LIST_BEFORE_FIRST, LIST_BEFORE_SECOND, MEMBER_OF_FIRST,
+    MEMBER_OF_SECOND, MEMBERS, NO_MEMBER, TO_FIFTH, TO_FIRST, TO_FOURTH, TO_INT, TO_SECOND,
+    TO_THIRD, VOLATILE, bytes_of, pointer, stream_of, stream_with,
 };

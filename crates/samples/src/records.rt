@@ -2,9 +2,6 @@
 
 use std::alloc::{AllocError, Global};
 
-/// The type index of a simple type: an int of 32 bits.
-pub const INT: u32 = 0x74;
-
 /// A const int.
 pub const CONST: &[u8] = b"\x0a\0\x01\x10\x74\0\0\0\x01\0\xf2\xf1";
 
@@ -28,9 +25,6 @@ pub const TO_FOURTH: &[u8] = b"\x0a\0\x02\x10\x03\x10\0\0\x0c\0\x01\0";
 
 /// A pointer to the fifth record.
 pub const TO_FIFTH: &[u8] = b"\x0a\0\x02\x10\x04\x10\0\0\x0c\0\x01\0";
-
-/// A pointer to the sixth record.
-pub const TO_SIXTH: &[u8] = b"\x0a\0\x02\x10\x05\x10\0\0\x0c\0\x01\0";
 
 /// A pointer to an int member of the class that is the first record.
 pub const MEMBER_OF_FIRST: &[u8] = b"\x12\0\x02\x10\x74\0\0\0\x4c\x80\0\0\0\x10\0\0\x01\0\xf2\xf1";
@@ -60,15 +54,6 @@ pub const DECLARATION: &[u8] = b"\x16\0\x05\x15\0\0\x80\0\0\0\0\0\0\0\0\0\0\0\0\
 /// The definition of a structure S.
 pub const DEFINITION: &[u8] = b"\x16\0\x05\x15\0\0\0\0\0\0\0\0\0\0\0\0\0\0\0\0\x01\0\x53\0";
 
-/// A record of a kind that is not in the table.
-pub const UNKNOWN: &[u8] = b"\x02\0\x0a\x15";
-
-/// Two entries of a method list. The first one introduces a virtual function.
-pub const METHODS: [u8; 24] = [
-    0x16, 0x00, 0x06, 0x12, 0x13, 0x00, 0x00, 0x00, 0x74, 0x00, 0x00, 0x00, //
-    0x00, 0x00, 0x00, 0x00, 0x03, 0x00, 0x00, 0x00, 0x74, 0x00, 0x00, 0x00,
-];
-
 /// A field list with a member of each kind.
 pub const MEMBERS: [u8; 148] = [
     0x92, 0x00, 0x03, 0x12, //
@@ -90,13 +75,6 @@ pub const MEMBERS: [u8; 148] = [
 pub fn pointer(to: u32) -> [u8; 12] {
     let [a, b, c, d] = to.to_le_bytes();
     [10, 0, 0x02, 0x10, a, b, c, d, 0x0C, 0, 1, 0]
-}
-
-/// A procedure that returns a type and takes a list of arguments.
-pub fn procedure(returned: u32, arguments: u32) -> [u8; 16] {
-    let [a, b, c, d] = returned.to_le_bytes();
-    let [e, f, g, h] = arguments.to_le_bytes();
-    [14, 0, 0x08, 0x10, a, b, c, d, 0, 0, 0, 0, e, f, g, h]
 }
 
 /// The bytes of these records, one after the other.

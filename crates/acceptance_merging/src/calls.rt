@@ -3,59 +3,17 @@
 //! Their contracts say much, and a test needs none of it, since it compares when it runs. So these
 //! functions have no contract, and what calls them is quickly checked.
 
-use msf_blocks::{Layout, MsfFault, Out, Sink};
-use msf_streams::{StreamFault, WriteFault, gather};
+use msf_blocks::{Out, Sink};
+use msf_streams::WriteFault;
 use pdb_info::Settings;
 use pdb_merge::{
     AddFault, Buffer, Merge, MergeFault, OutFault, PdbFault, Summary, merge_files, merge_to,
-    read_records, read_types, write_merged,
+    read_types, write_merged,
 };
 use std::alloc::{Allocator, Global};
 use std::hash::BuildHasher;
 use std::test::Fail;
-use tpi_records::{Records, TpiFault};
-use type_trees::{Canon, JoinFault, TypeFault, Types};
-
-/// The layout of a file.
-pub fn layout_of<A: Allocator + Copy>(alloc: A, file: &[u8]) -> Result<Layout<A>, MsfFault> {
-    Layout::read(alloc, file)
-}
-
-/// The TPI stream of a file, or why it is refused. Its layout is in other memory.
-pub fn stream_in<A: Allocator + Copy>(
-    heap: A,
-    alloc: Global,
-    file: &[u8],
-) -> Result<Result<Vec<u8, A>, StreamFault>, Fail> {
-    // The layout is read here, since the stream may only be gathered by a layout of this file.
-    let layout = Layout::read(alloc, file)?;
-    Ok(gather(heap, file, &layout, 2))
-}
-
-/// The records of a TPI stream.
-pub fn records_in<A: Allocator + Copy>(
-    alloc: A,
-    stream: &[u8],
-) -> Result<Records<'_, A>, TpiFault> {
-    Records::read(alloc, stream)
-}
-
-/// Records as types.
-pub fn types_in<A: Allocator + Copy>(
-    alloc: A,
-    records: Records<'_, A>,
-) -> Result<Types<'_, A>, TypeFault<A>> {
-    Types::check(alloc, records)
-}
-
-/// The records of a file, through a buffer.
-pub fn records_of<'a, A: Allocator + Copy>(
-    alloc: A,
-    file: &'a [u8],
-    buffer: &'a mut Buffer<A>,
-) -> Result<Records<'a, A>, PdbFault<A>> {
-    read_records(alloc, file, buffer)
-}
+use type_trees::{Canon, JoinFault, Types};
 
 /// The types of a file, through a buffer.
 pub fn types_of<'a, A: Allocator + Copy>(
@@ -154,4 +112,13 @@ pub fn copied<A: Allocator>(alloc: Global, canon: &Canon<A>) -> Result<Vec<u8>, 
     let mut bytes = Vec::new(alloc);
     bytes.extend_from_slice(canon.bytes())?;
     Ok(bytes)
+}
+
+/// How many types a file has, how many bytes and how many levels, or the fault.
+pub type Answer<A = Global> = Result<(usize, u32, u32), PdbFault<A>>;
+
+/// Reads the types of a file through a buffer.
+pub fn read<A: Allocator + Copy>(alloc: A, file: &[u8], buffer: &mut Buffer<A>) -> Answer<A> {
+    let types = types_of(alloc, file, buffer)?;
+    Ok((types.len(), types.bytes_len(), types.levels()))
 }

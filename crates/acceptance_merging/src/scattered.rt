@@ -1,11 +1,10 @@
-//! A file whose TPI stream is in consecutive blocks, and one in which they are in falling order.
+//! A buffer that reads a file whose TPI stream is in consecutive blocks, and one in which they are in
+//! falling order.
 
-use super::calls::records_of;
-use super::sizes::merged_at;
-use super::{read, read_twice};
+use super::calls::{merge_bytes, read};
 use linked_list_allocator::LocalHeap;
 use pdb_merge::{Buffer, PdbFault};
-use samples::{pdb, pointer, refusals};
+use samples::{LIMIT, TestHeap, folding, pdb, pointer, refusals, settings};
 use std::alloc::Global;
 use std::test::Fail;
 
@@ -27,7 +26,8 @@ fn pointers(alloc: Global) -> Result<Vec<u8>, Fail> {
 
 /// The file that is written for 130 types of a file alone, in blocks of 512 bytes.
 fn merged_alone(alloc: Global, file: &[u8]) -> Result<Vec<u8>, Fail> {
-    let (answer, written) = merged_at(alloc, &[file], BLOCK as u32)?;
+    let settings = settings(LIMIT, BLOCK as u32)?;
+    let (answer, written) = merge_bytes(alloc, alloc, &[file], &settings, folding());
     match answer {
         Ok(summary) if summary.types == 130 => Ok(written),
         _ => Err("another answer".into()),
@@ -55,35 +55,6 @@ fn falling(alloc: Global, rising: &[u8]) -> Result<Vec<u8>, Fail> {
     Ok(file)
 }
 
-/// Whether a file has these pointers at some positions, and nothing after them.
-fn has_pointers(alloc: Global, file: &[u8], buffer: &mut Buffer) -> Result<bool, Fail> {
-    let records = records_of(alloc, file, buffer)?;
-    for (position, to) in [(0, 0), (63, 63), (64, 64), (128, 128), (129, 129)] {
-        if records.get(position) != Some(pointer(to).as_slice()) {
-            return Ok(false);
-        }
-    }
-    Ok(records.get(130).is_none())
-}
-
-#[test]
-fn blocks_in_any_order(rt: HostRuntime) -> Result<(), Fail> {
-    let rising = rising(rt.alloc())?;
-    assert_eq!(rt;
-        rising.get(LIST..LIST + 16),
-        Some(b"\x06\0\0\0\x07\0\0\0\x08\0\0\0\x09\0\0\0".as_slice())
-    );
-    let falling = falling(rt.alloc(), &rising)?;
-    assert!(rt; falling != rising);
-    let mut buffer = Buffer::new(rt.alloc());
-    for file in [&rising, &falling, &rising, &falling] {
-        assert_eq!(rt; read(rt.alloc(), file, &mut buffer), Ok((130, 1560, 1)));
-        assert!(rt; has_pointers(rt.alloc(), file, &mut buffer)?);
-        assert!(rt; merged_alone(rt.alloc(), file)? == rising);
-    }
-    Ok(())
-}
-
 #[test]
 fn a_buffer_grows_in_its_own_memory(rt: HostRuntime) -> Result<(), Fail> {
     let rising = rising(rt.alloc())?;
@@ -103,11 +74,32 @@ fn a_buffer_grows_in_its_own_memory(rt: HostRuntime) -> Result<(), Fail> {
     Ok(())
 }
 
+/// Reads a file through a buffer, and returns whether that was refused memory. Unless the heap was
+/// too small, the file is read again through the same buffer: its old bytes are dropped first, so
+/// the heap has room for them. It is a failure if anything else than `want` is found.
+fn read_twice(heap: &TestHeap, file: &[u8], want: (usize, u32, u32)) -> Result<bool, Fail> {
+    let mut buffer = Buffer::new(heap);
+    let found = read(heap, file, &mut buffer);
+    let refused = matches!(found, Err(PdbFault::Memory));
+    if refused && !heap.has_failed() {
+        return Ok(true);
+    }
+    heap.stop_failing();
+    let again = read(heap, file, &mut buffer);
+    if (refused || found.ok() == Some(want)) && again.ok() == Some(want) {
+        return Ok(refused);
+    }
+    Err("another answer".into())
+}
+
+/// Reads a file through a buffer while memory is refused in turn.
+fn read_in_turn(alloc: Global, file: &[u8], want: (usize, u32, u32)) -> Result<usize, Fail> {
+    refusals(alloc, 64, 64, |heap| read_twice(heap, file, want))
+}
+
 #[test]
 fn growth_is_refused(rt: HostRuntime) -> Result<(), Fail> {
-    let falling = falling(rt.alloc(), &rising(rt.alloc())?)?;
-    refusals(rt.alloc(), 64, 64, |heap| {
-        read_twice(heap, &falling, (130, 1560, 1))
-    })?;
+    let rising = rising(rt.alloc())?;
+    read_in_turn(rt.alloc(), &falling(rt.alloc(), &rising)?, (130, 1560, 1))?;
     Ok(())
 }

@@ -68,18 +68,6 @@ pub fn empty_table<S: BuildHasher, A: Allocator + Copy>(alloc: A, hasher: S) -> 
     Table::with_hasher(alloc, hasher)
 }
 
-/// A table of the types of a stream, if they are within this limit.
-pub fn table_of<S: BuildHasher + Drop, A: Allocator + Copy>(
-    alloc: A,
-    hasher: S,
-    stream: &[u8],
-    limit: u32,
-) -> Result<Table<S, A>, Fail> {
-    let mut table = empty_table(alloc, hasher);
-    add_stream(&mut table, alloc, stream, limit)?;
-    Ok(table)
-}
-
 /// The canonical list of a table.
 pub fn list_of<S: BuildHasher, A: Allocator + Copy>(
     alloc: A,

@@ -1,15 +1,13 @@
-//! Tables and canonical lists of records typed by hand: their order, limits, and running out of
-//! memory.
+//! Canonical lists that are joined, their limits, and tables and lists that run out of memory.
 
 use super::calls::{
-    add, add_records, add_stream, copied, empty_table, join, list_of, records_of, table_of,
-    types_of,
+    add, add_records, add_stream, copied, empty_table, join, list_of, records_of, types_of,
 };
 use linked_list_allocator::LocalHeap;
 use samples::{
-    CONST, Constant, DECLARATION, DEFINITION, LIST, LIST_BEFORE_FIRST, LIST_BEFORE_SECOND,
-    MEMBER_OF_FIRST, MEMBER_OF_SECOND, Refusal, TO_FIRST, TO_INT, TO_SECOND, TestHeap, VOLATILE,
-    bytes_of, folding, refusals_amid, stream_with,
+    CONST, DECLARATION, DEFINITION, LIST, LIST_BEFORE_FIRST, LIST_BEFORE_SECOND, MEMBER_OF_FIRST,
+    MEMBER_OF_SECOND, Refusal, TO_FIRST, TO_INT, TO_SECOND, TestHeap, VOLATILE, bytes_of, folding,
+    refusals_amid, stream_with,
 };
 use std::alloc::{Allocator, Global};
 use std::hash::BuildHasher;
@@ -20,25 +18,16 @@ use type_trees::{Canon, CanonRecords, JoinFault, Table, Types};
 /// A limit that no test reaches.
 const LIMIT: u32 = 1000;
 
-/// The canonical list of a table to which the types of a stream are added.
-fn finished_with<S: BuildHasher>(
-    table: &mut Table<S>,
-    alloc: Global,
-    stream: &[u8],
-) -> Result<Canon, Fail> {
-    add_stream(table, alloc, stream, LIMIT)?;
-    Ok(list_of(alloc, table)?)
-}
-
-/// The canonical list of two streams, by a table with this hasher.
-fn finished<S: BuildHasher + Drop>(
-    alloc: Global,
-    hasher: S,
-    first: &[u8],
-    second: &[u8],
-) -> Result<Canon, Fail> {
-    let mut table = table_of(alloc, hasher, first, LIMIT)?;
-    finished_with(&mut table, alloc, second)
+/// A list that has these types too.
+fn with_types<A: Allocator + Copy>(
+    canon: &Canon<A>,
+    alloc: A,
+    types: &Types<'_, A>,
+) -> Result<Canon<A>, Fail> {
+    match join(canon, alloc, types, LIMIT) {
+        Ok(both) => Ok(both),
+        Err(_) => Err("not joined".into()),
+    }
 }
 
 /// A list that has the types of a stream too.
@@ -48,25 +37,13 @@ fn with_stream<A: Allocator + Copy>(
     stream: &[u8],
 ) -> Result<Canon<A>, Fail> {
     let types = types_of(alloc, stream)?;
-    Ok(join(canon, alloc, &types, LIMIT)?)
+    with_types(canon, alloc, &types)
 }
 
 /// The canonical list of two streams, by joining.
 fn joined<A: Allocator + Copy>(alloc: A, first: &[u8], second: &[u8]) -> Result<Canon<A>, Fail> {
     let canon = with_stream(&Canon::empty(alloc), alloc, first)?;
     with_stream(&canon, alloc, second)
-}
-
-#[test]
-fn each_join_fault_has_its_text(rt: HostRuntime) -> Result<(), Fail> {
-    for (fault, text) in [
-        (JoinFault::TooLarge { bytes: 24 }, "32 TooLarge bytes 24"),
-        (JoinFault::Memory, "33 Memory"),
-    ] {
-        let shown = fault.to_string(rt.alloc())?;
-        assert_eq!(rt; shown.as_str(), text);
-    }
-    Ok(())
 }
 
 /// What is tested, the records of two files, and their canonical list.
@@ -135,14 +112,14 @@ const ROWS: [Row; 10] = [
     ),
 ];
 
-/// Whether the record at this position of a list, and the next one of its iterator, is this one.
-fn is_next(
-    canon: &Canon,
-    records: &mut CanonRecords<'_>,
-    position: usize,
-    want: Option<&[u8]>,
-) -> bool {
-    canon.get(position) == want && records.next() == want
+/// Whether the record at this position of a list is this one.
+fn is_at(canon: &Canon, position: usize, want: Option<&[u8]>) -> bool {
+    canon.get(position) == want
+}
+
+/// Whether the next record is this one.
+fn is_next(records: &mut CanonRecords<'_>, want: Option<&[u8]>) -> bool {
+    records.next() == want
 }
 
 /// Whether a list says that it has so many records.
@@ -154,23 +131,11 @@ fn has_len(canon: &Canon, many: usize) -> bool {
 fn is_list(canon: &Canon, want: &[&[u8]]) -> bool {
     let mut records = canon.records();
     for (position, record) in want.iter().enumerate() {
-        if !is_next(canon, &mut records, position, Some(*record)) {
+        if !is_at(canon, position, Some(*record)) || !is_next(&mut records, Some(*record)) {
             return false;
         }
     }
-    is_next(canon, &mut records, want.len(), None) && has_len(canon, want.len())
-}
-
-/// Whether the canonical list of two streams, by a table with this hasher, has these bytes.
-fn finishes<S: BuildHasher + Drop>(
-    alloc: Global,
-    hasher: S,
-    first: &[u8],
-    second: &[u8],
-    want: &[u8],
-) -> Result<bool, Fail> {
-    let canon = finished(alloc, hasher, first, second)?;
-    Ok(canon.bytes() == want)
+    is_at(canon, want.len(), None) && is_next(&mut records, None) && has_len(canon, want.len())
 }
 
 /// Whether the canonical list of two streams, by joining, has these bytes.
@@ -179,14 +144,11 @@ fn joins(alloc: Global, first: &[u8], second: &[u8], want: &[u8]) -> Result<bool
     Ok(canon.bytes() == want && canon.bytes_len() as usize == want.len())
 }
 
-/// Whether each way to the canonical list of two streams gives these bytes.
-fn all_give(alloc: Global, first: &[u8], second: &[u8], want: &[u8]) -> Result<bool, Fail> {
-    let there = finishes(alloc, folding(), first, second, want)?;
-    let back = finishes(alloc, folding(), second, first, want)?;
-    let slow_there = finishes(alloc, Constant, first, second, want)?;
-    let slow_back = finishes(alloc, Constant, second, first, want)?;
-    let both = joins(alloc, first, second, want)?;
-    Ok(there && back && slow_there && slow_back && both)
+/// Whether the list of two streams has these bytes, whichever comes first.
+fn both_give(alloc: Global, first: &[u8], second: &[u8], want: &[u8]) -> Result<bool, Fail> {
+    let there = joins(alloc, first, second, want)?;
+    let back = joins(alloc, second, first, want)?;
+    Ok(there && back)
 }
 
 #[test]
@@ -195,7 +157,7 @@ fn each_type_once_in_canonical_order(rt: HostRuntime) -> Result<(), Fail> {
         let first = stream_with(rt.alloc(), first)?;
         let second = stream_with(rt.alloc(), second)?;
         let bytes = bytes_of(rt.alloc(), want)?;
-        assert!(rt; all_give(rt.alloc(), &first, &second, &bytes)?, "{what}");
+        assert!(rt; both_give(rt.alloc(), &first, &second, &bytes)?, "{what}");
         assert!(rt;
             is_list(&joined(rt.alloc(), &first, &second)?, want),
             "{what}"

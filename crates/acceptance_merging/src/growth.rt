@@ -1,11 +1,11 @@
-//! Growth refused in turn: after each refusal nothing was written, and the same call with ample
-//! memory gives the whole answer.
+//! Growth refused in turn: after each refusal nothing was written, or the merge holds what it held,
+//! and the same call with ample memory gives the whole answer.
 
-use super::calls::{add, copied, empty_merge, list_of, merge_bytes, write_bytes};
-use super::merging::{Want, bytes_of_merge, wanted};
+use super::calls::{add, empty_merge, list_of, write_bytes};
+use super::merging::bytes_of_merge;
 use msf_streams::WriteFault;
 use pdb_info::Settings;
-use pdb_merge::{AddFault, Buffer, Merge, MergeFault, OutFault};
+use pdb_merge::{AddFault, Buffer, Merge};
 use samples::{
     CONST, Refusal, TO_FIRST, TO_INT, TO_SECOND, TO_THIRD, TestHeap, VOLATILE, bytes_of, folding,
     pdb_with, refusals_amid, sample, settings,
@@ -15,46 +15,8 @@ use std::hash::BuildHasher;
 use std::test::Fail;
 use type_trees::Canon;
 
-/// The call that is refused memory.
-#[derive(Clone, Copy)]
-enum Call {
-    List,
-    Merge,
-    Write,
-}
-
-/// What a call gives: whether it has the memory that it needs, and the bytes of its list or file.
+/// What writing a list gives: whether it has the memory that it needs, and the bytes of the file.
 type Given = (bool, Vec<u8>);
-
-/// What the call for the list of files gives.
-fn given_list<A: Allocator + Copy>(
-    heap: A,
-    alloc: Global,
-    files: &[&[u8]],
-    settings: &Settings,
-) -> Result<Given, Fail> {
-    match list_of(heap, files, settings, folding()) {
-        Ok(canon) => Ok((true, copied(alloc, &canon)?)),
-        Err(MergeFault::Memory) => Ok((false, Vec::new(alloc))),
-        Err(_) => Err("no list".into()),
-    }
-}
-
-/// What a merge of files gives.
-fn given_merge<A: Allocator + Copy>(
-    heap: A,
-    alloc: Global,
-    files: &[&[u8]],
-    settings: &Settings,
-    want: &Want,
-) -> Result<Given, Fail> {
-    let (answer, file) = merge_bytes(heap, alloc, files, settings, folding());
-    match answer {
-        Ok(summary) if summary == want.said => Ok((true, file)),
-        Err(OutFault::Memory | OutFault::Merge(MergeFault::Memory)) => Ok((false, file)),
-        _ => Err("another answer".into()),
-    }
-}
 
 /// What writing a list gives.
 fn given_file<A: Allocator + Copy>(
@@ -71,37 +33,6 @@ fn given_file<A: Allocator + Copy>(
     }
 }
 
-/// Lists files while memory is refused.
-fn list_refused(
-    heap: &TestHeap,
-    refusal: Refusal,
-    alloc: Global,
-    files: &[&[u8]],
-    settings: &Settings,
-) -> Result<Given, Fail> {
-    let filler = refusal.begin(heap);
-    let given = given_list(heap, alloc, files, settings);
-    drop(filler);
-    heap.stop_failing();
-    given
-}
-
-/// Merges files while memory is refused.
-fn merge_refused(
-    heap: &TestHeap,
-    refusal: Refusal,
-    alloc: Global,
-    files: &[&[u8]],
-    settings: &Settings,
-    want: &Want,
-) -> Result<Given, Fail> {
-    let filler = refusal.begin(heap);
-    let given = given_merge(heap, alloc, files, settings, want);
-    drop(filler);
-    heap.stop_failing();
-    given
-}
-
 /// Writes a list while memory is refused.
 fn write_refused<'h>(
     heap: &'h TestHeap,
@@ -115,33 +46,6 @@ fn write_refused<'h>(
     drop(filler);
     heap.stop_failing();
     given
-}
-
-/// Lists files while memory is refused, and again.
-fn list_twice(
-    heap: &TestHeap,
-    refusal: Refusal,
-    alloc: Global,
-    files: &[&[u8]],
-    settings: &Settings,
-) -> Result<(Given, Given), Fail> {
-    let given = list_refused(heap, refusal, alloc, files, settings)?;
-    let again = given_list(heap, alloc, files, settings)?;
-    Ok((given, again))
-}
-
-/// Merges files while memory is refused, and again.
-fn merge_twice(
-    heap: &TestHeap,
-    refusal: Refusal,
-    alloc: Global,
-    files: &[&[u8]],
-    settings: &Settings,
-    want: &Want,
-) -> Result<(Given, Given), Fail> {
-    let given = merge_refused(heap, refusal, alloc, files, settings, want)?;
-    let again = given_merge(heap, alloc, files, settings, want)?;
-    Ok((given, again))
 }
 
 /// Writes a list while memory is refused, and again.
@@ -163,29 +67,11 @@ fn write_twice(
     refusal: Refusal,
     alloc: Global,
     files: &[&[u8]],
-    settings: &Settings,
 ) -> Result<(Given, Given), Fail> {
-    match list_of(heap, files, settings, folding()) {
-        Ok(canon) => canon_twice(heap, refusal, alloc, &canon, settings),
+    let settings = settings(1000, 4096)?;
+    match list_of(heap, files, &settings, folding()) {
+        Ok(canon) => canon_twice(heap, refusal, alloc, &canon, &settings),
         Err(_) => Err("no list".into()),
-    }
-}
-
-/// Makes a call while memory is refused, and again.
-fn twice(
-    call: Call,
-    heap: &TestHeap,
-    refusal: Refusal,
-    alloc: Global,
-    files: &[&[u8]],
-    want: &Want,
-) -> Result<(Given, Given), Fail> {
-    // The list is as large as the limit.
-    let settings = settings(want.said.bytes, 4096)?;
-    match call {
-        Call::List => list_twice(heap, refusal, alloc, files, &settings),
-        Call::Merge => merge_twice(heap, refusal, alloc, files, &settings, want),
-        Call::Write => write_twice(heap, refusal, alloc, files, &settings),
     }
 }
 
@@ -203,63 +89,34 @@ fn was_accepted(given: &Given, again: &Given, bytes: &[u8]) -> Option<bool> {
     }
 }
 
-/// Refuses a call memory in turn. Returns how many tries in little memory were refused.
-fn refused_in_turn(alloc: Global, call: Call, files: &[&[u8]], want: &Want) -> Result<usize, Fail> {
-    let (size, step, bytes) = match call {
-        Call::List => (8192, 16, want.list.as_slice()),
-        Call::Merge => (16384, 32, want.file.as_slice()),
-        Call::Write => (16384, 64, want.file.as_slice()),
-    };
-    refusals_amid(alloc, size, step, |heap, refusal| {
-        let (given, again) = twice(call, heap, refusal, alloc, files, want)?;
-        match was_accepted(&given, &again, bytes) {
+/// Refuses the writer of the list of some files memory in turn. Returns how many tries in little
+/// memory were refused.
+fn refused_in_turn(alloc: Global, files: &[&[u8]], want: &[u8]) -> Result<usize, Fail> {
+    refusals_amid(alloc, 16384, 64, |heap, refusal| {
+        let (given, again) = write_twice(heap, refusal, alloc, files)?;
+        match was_accepted(&given, &again, want) {
             Some(accepted) => Ok(!accepted),
             None => Err("another answer".into()),
         }
     })
 }
 
-/// The fewest tries that were refused, of those of the sample, alone and with a file of the same
-/// types in the other order.
-fn refused_of_sample(alloc: Global, call: Call) -> Result<usize, Fail> {
-    let sample = sample(alloc)?;
-    let want = wanted(alloc, &[CONST, TO_INT])?;
-    let alone = refused_in_turn(alloc, call, &[&sample], &want)?;
-    let both: [&[u8]; 2] = [&sample, &want.file];
-    Ok(alone.min(refused_in_turn(alloc, call, &both, &want)?))
-}
-
-/// The fewest tries that were refused, of those of five types in two files and in three.
-fn refused_of_five(alloc: Global, call: Call) -> Result<usize, Fail> {
-    let pointer = pdb_with(alloc, &[TO_INT])?;
-    let modifier = pdb_with(alloc, &[CONST])?;
-    let both = pdb_with(alloc, &[TO_INT, CONST])?;
-    let others = pdb_with(alloc, &[VOLATILE, CONST, TO_FIRST, TO_SECOND])?;
-    let want = wanted(alloc, &[CONST, VOLATILE, TO_INT, TO_FIRST, TO_SECOND])?;
-    let two: [&[u8]; 2] = [&others, &both];
-    let of_two = refused_in_turn(alloc, call, &two, &want)?;
-    let three: [&[u8]; 3] = [&pointer, &modifier, &others];
-    Ok(of_two.min(refused_in_turn(alloc, call, &three, &want)?))
-}
-
 #[test]
-fn lists_are_refused_growth_in_turn(rt: HostRuntime) -> Result<(), Fail> {
-    assert!(rt; 8 < refused_of_sample(rt.alloc(), Call::List)?);
-    assert!(rt; 8 < refused_of_five(rt.alloc(), Call::List)?);
+fn the_writer_of_the_sample_is_refused_growth_in_turn(rt: HostRuntime) -> Result<(), Fail> {
+    let sample = sample(rt.alloc())?;
+    let want = pdb_with(rt.alloc(), &[CONST, TO_INT])?;
+    assert!(rt; 2 < refused_in_turn(rt.alloc(), &[&sample], &want)?);
     Ok(())
 }
 
 #[test]
-fn merges_are_refused_growth_in_turn(rt: HostRuntime) -> Result<(), Fail> {
-    assert!(rt; 8 < refused_of_sample(rt.alloc(), Call::Merge)?);
-    assert!(rt; 8 < refused_of_five(rt.alloc(), Call::Merge)?);
-    Ok(())
-}
-
-#[test]
-fn writers_are_refused_growth_in_turn(rt: HostRuntime) -> Result<(), Fail> {
-    assert!(rt; 2 < refused_of_sample(rt.alloc(), Call::Write)?);
-    assert!(rt; 2 < refused_of_five(rt.alloc(), Call::Write)?);
+fn the_writer_of_three_files_is_refused_growth_in_turn(rt: HostRuntime) -> Result<(), Fail> {
+    let pointer = pdb_with(rt.alloc(), &[TO_INT])?;
+    let modifier = pdb_with(rt.alloc(), &[CONST])?;
+    let others = pdb_with(rt.alloc(), &[VOLATILE, CONST, TO_FIRST, TO_SECOND])?;
+    let want = pdb_with(rt.alloc(), &[CONST, VOLATILE, TO_INT, TO_FIRST, TO_SECOND])?;
+    let files: [&[u8]; 3] = [&pointer, &modifier, &others];
+    assert!(rt; 2 < refused_in_turn(rt.alloc(), &files, &want)?);
     Ok(())
 }
 
