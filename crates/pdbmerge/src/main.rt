@@ -179,4 +179,3 @@ fn main(rt: HostRuntime) -> ExitCode {
         Err(fault) => refuse(&rt, &fault),
     }
 }
-
