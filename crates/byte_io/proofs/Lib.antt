@@ -1,3 +1,4 @@
+pub mod AtLaws
 pub mod InputLaws
 pub mod InputsLaws
 pub mod SinkLaws

@@ -1,12 +1,14 @@
 //! What takes bytes, and what gives them.
 //!
-//! All reading and writing of the project goes through two traits. A fault of the system is a
-//! value, and the contracts of both traits say what it means.
+//! All reading and writing of the project goes through three traits. A fault of the system is a
+//! value, and the contracts of the traits say what it means.
 //!
 //! - [`Sink`] takes bytes. [`Out`] makes a sink of any `Write`, and [`put_all`] writes a whole
 //!   slice into a sink.
 //! - [`Source`] gives bytes. [`In`] makes a source of any `Read`, and [`read_all`] reads a whole
 //!   source.
+//! - [`ReadAt`] gives bytes from any position. [`Seeking`] makes it of any file that can be sought
+//!   in; a slice is one by itself.
 //! - [`Inputs`] are several inputs that are read one after the other.
 //!
 //! What is proved: a sink took just the bytes that its calls say, in order. After [`NotTaken`] it
@@ -16,12 +18,14 @@
 //! The file `src/examples.rt` of the crate `acceptance` shows this crate in use, in a few lines.
 #![tactic(auto)]
 
+mod at;
 mod fault;
 mod input;
 mod inputs;
 mod sink;
 mod source;
 
+pub use at::{AtFault, ReadAt, Seeking, read_more};
 pub use fault::NotTaken;
 pub use input::{ReadFault, read_all, read_into, skip_all};
 pub use inputs::{InputFault, Inputs};

@@ -1,0 +1,143 @@
+//! Bytes that are read by position.
+
+ghost use Rattle.std.specs.Prelude.{◌≡◌, ◌⊎◌, ◌+◌, ◌<◌, ◌≤◌, ◌^◌, ◌++◌, ℕ, List, Option, Some, None, Bool, true, false, length, take, drop, get_or, OnOk, IfErr, IfSome, IfNone};
+ghost use Rattle.byte_io.specs.At.{Breaks, IfKnown, StandsAt};
+ghost use Rattle.byte_io.specs.declared.at.AtFault.TheVariants as at;
+
+use crate::input::ReadFault;
+use std::alloc::Allocator;
+use std::io::{Read, Seek, SeekFrom};
+
+/// Why a call that reads by position gave nothing.
+#[derive(Debug, PartialEq, Eq, Drop)]
+pub enum AtFault<F> {
+    /// A read failed. The reader is broken.
+    Read,
+    /// What was read has this fault.
+    Of(F),
+}
+
+impl<F> From<F> for AtFault<F> {
+    ghost from_gives = { λ inner fault. fault ≡ at.Of inner };
+
+    fn from(fault: F) -> AtFault<F> {
+        AtFault::Of(fault)
+    }
+}
+
+/// Gives bytes from any position.
+///
+/// A slice has its bytes in memory. The bytes of a file are not known to contracts, which then
+/// claim nothing about them. Only a reader whose bytes are not known can fail.
+pub trait ReadAt {
+    /// All the bytes, where they are known.
+    ghost bytes: { Self → Option (List ℕ) };
+
+    /// Whether a read failed.
+    ghost is_broken: { Self → Bool };
+
+    /// How many bytes there are.
+    fn len(&self) -> u64
+        ensures value { IfKnown (bytes self.now) (λ file. result ≡ length file) }
+        ensures small { IfKnown (bytes self.now) (λ file. (i : ℕ) → get_or file i 0 < 256) };
+
+    /// Fills a slice with the bytes from this offset on. `None` means that the reader is broken.
+    fn read_at(&mut self, offset: u64, into: &mut [u8]) -> Option<()>
+        requires inside { IfKnown (bytes self.old) (λ file. offset + length into.old ≤ length file) }
+        ensures keeps { bytes self.new ≡ bytes self.old }
+        ensures same { length into.new ≡ length into.old }
+        ensures value { IfSome result (λ _. IfKnown (bytes self.old) (λ file. StandsAt file offset into.new)) }
+        ensures whole { IfSome result (λ _. is_broken self.new ≡ is_broken self.old) }
+        ensures refuses { IfNone result (Breaks (bytes self.old) (is_broken self.new)) }
+        ensures stays { is_broken self.old ≡ true → is_broken self.new ≡ true };
+}
+
+/// Reads `count` bytes from an offset on to the end of a buffer, straight into its room.
+///
+/// The faults: `Memory` where the buffer can't grow, and then nothing is read; `Read` where the read
+/// fails.
+pub fn read_more<R: ReadAt, A: Allocator>(
+    input: &mut R,
+    offset: u64,
+    count: u32,
+    buffer: &mut Vec<u8, A>,
+) -> Result<(), ReadFault>
+    requires inside { IfKnown (R.bytes input.old) (λ file. offset + count ≤ length file) }
+    ensures keeps { R.bytes input.new ≡ R.bytes input.old }
+    ensures value { OnOk result (IfKnown (R.bytes input.old) (λ file. buffer.new.items ≡ buffer.old.items ++ take count (drop offset file))) }
+    ensures len { OnOk result (length buffer.new.items ≡ length buffer.old.items + count) }
+    ensures first { IfErr result (λ fault. ((fault ≡ ReadFault.Read) × Breaks (R.bytes input.old) (R.is_broken input.new)) ⊎ (fault ≡ ReadFault.Memory)) }
+{
+    let length = buffer.len();
+    buffer.resize(length + count as usize, 0)?;
+    match input.read_at(offset, &mut buffer[length..]) {
+        Some(()) => Ok(()),
+        None => Err(ReadFault::Read),
+    }
+}
+
+/// How many bytes a slice has.
+fn slice_len(bytes: &[u8]) -> u64
+    ensures value { result ≡ length bytes.now }
+    ensures small { (i : ℕ) → get_or bytes.now i 0 < 256 }
+{
+    bytes.len() as u64
+}
+
+impl<'a> ReadAt for &'a [u8] {
+    ghost bytes = { λ s. Some s.now };
+
+    ghost is_broken = { λ _. false };
+
+    fn len(&self) -> u64 {
+        slice_len(self)
+    }
+
+    fn read_at(&mut self, offset: u64, into: &mut [u8]) -> Option<()> {
+        let start = offset as usize;
+        let end = start + into.len();
+        into.copy_from_slice(&self[start..end]);
+        Some(())
+    }
+}
+
+/// A file that is read by position. Each read is a seek, and then as many calls of `read` as it
+/// takes. An error breaks it, and so does an end of the file before the last byte that is wanted.
+#[derive(Drop)]
+pub struct Seeking<F> {
+    file: F,
+    len: u64,
+    broken: bool,
+}
+
+impl<F: Read + Seek> Seeking<F> {
+    /// A file that has this many bytes. It is not broken.
+    pub fn new(file: F, len: u64) -> Seeking<F>
+        ensures { ⟦<Seeking<F> as ReadAt>⟧.is_broken result ≡ false }
+    {
+        Seeking {
+            file,
+            len,
+            broken: false,
+        }
+    }
+}
+
+impl<F: Read + Seek> ReadAt for Seeking<F> {
+    ghost bytes = { λ _. None };
+
+    ghost is_broken = { λ s. s.broken };
+
+    fn len(&self) -> u64 {
+        self.len
+    }
+
+    fn read_at(&mut self, offset: u64, into: &mut [u8]) -> Option<()> {
+        let sought = self.file.seek(SeekFrom::Start(offset));
+        if sought.is_err() || self.file.read_exact(into).is_err() {
+            self.broken = true;
+            return None;
+        }
+        Some(())
+    }
+}
