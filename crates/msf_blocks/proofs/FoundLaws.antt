@@ -146,7 +146,7 @@ blocks_hold file fields contents h =
     check_holds (is_ordinary fields.num_blocks block) (DirectoryBlock k block) (grind (arith, nat_tests)))
 
 -- the checks of a superblock hold
-superblock_holds : (file : List ℕ) (fields : Fields) → IsSuperblock file fields → first_failing (superblock_checks file) ≡ None
+pub superblock_holds : (file : List ℕ) (fields : Fields) → IsSuperblock file fields → first_failing (superblock_checks file) ≡ None
 unfolding superblock_checks
 superblock_holds file fields s =
     let f = s.fit in

@@ -1,16 +1,17 @@
 -- The checks of a layout, one part after the other, and what they say about the streams.
-use Rattle.std.proofs.Common.{◌≡◌, ℕ, ◌+◌, List, [], ◌∷◌, ◌++◌, Some, None, map, refl, sym, ap, ◌∙◌}
+use Rattle.std.proofs.Common.{◌≡◌, ℕ, ◌+◌, List, [], ◌∷◌, ◌++◌, Some, None, map, refl, sym, ap, ◌∙◌, ◌⊎◌, inl, inr}
 use Rattle.std.specs.List.{range_with_len}
 use Rattle.std.proofs.lemmas.List.{map-append}
 use Rattle.byte_fields.specs.Number.{nth_u32}
-use Rattle.byte_fields.specs.Check.{first_failing, checks_below}
+use Rattle.byte_fields.specs.Check.{first_failing, checks_below, Refuses}
 use Rattle.byte_fields.proofs.CheckLaws.{first_failing-append_none, first_failing-append_some, first_failing-parts}
 use Rattle.msf_blocks.specs.Superblock.{Fields, fields_of, superblock_checks}
-use Rattle.msf_blocks.specs.Directory.{directory_contents, directory_block_checks, length_checks, stream_checks, stream_blocks, list_start, listed_at, listed_below}
+use Rattle.msf_blocks.specs.Directory.{directory_checks, directory_contents, directory_block_checks, length_checks, stream_checks, stream_blocks, list_start, listed_at, listed_below}
 use Rattle.msf_blocks.specs.Layout.{layout_checks}
 use Rattle.msf_blocks.specs.Stream.{listed_of}
 use Rattle.msf_blocks.specs.declared.layout.Stream.{Stream}
 use Rattle.msf_blocks.specs.declared.fault.MsfFault.{MsfFault}
+use Rattle.msf_blocks.specs.declared.fault.MsfFault.TheVariants.{Memory}
 use Rattle.msf_blocks.proofs.DirectoryLaws.{map_range_more}
 
 -- ---- the first fault
@@ -50,6 +51,15 @@ pub stream_answer : (file : List ℕ) (fields : Fields) (contents : List ℕ) (n
 stream_answer file fields contents n is contents_is a b l e =
     let here : first_failing (length_checks fields.block_size (directory_contents file fields)) ≡ None = rw (← contents_is) l in
     after_blocks file fields is a b ∙ first_failing-append_none (length_checks fields.block_size (directory_contents file fields)) _ here ∙ rw (e, contents_is) refl
+
+-- after a superblock without a fault, the first fault of the directory is that of the layout, and so is out of memory where there is none
+pub contents_fault : (file : List ℕ) (fields : Fields) (fault : MsfFault) → fields ≡ fields_of file → first_failing (superblock_checks file) ≡ None
+    → (first_failing (directory_block_checks file fields) ≡ Some fault) ⊎ ((first_failing (directory_block_checks file fields) ≡ None) × Refuses Memory (first_failing (directory_checks fields (directory_contents file fields))) fault)
+    → Refuses Memory (first_failing (layout_checks file)) fault
+contents_fault file fields fault is a answer = elim answer [
+  | inl e ↦ inl (block_fault file fields fault is a e)
+  | inr held ↦ rw (after_blocks file fields is a held.0) held.1
+]
 
 -- ---- the streams that are listed
 

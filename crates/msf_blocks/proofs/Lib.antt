@@ -1,10 +1,14 @@
+pub mod RangeLaws
 pub mod SizeLaws
 pub mod SuperblockLaws
+pub mod BlocksLaws
 pub mod MemoryLaws
 pub mod DirectoryLaws
+pub mod AtLaws
 pub mod LayoutLaws
 pub mod ListsLaws
 pub mod FoundLaws
+pub mod AtLayoutLaws
 pub mod BlockLaws
 pub mod FreeMapLaws
 pub mod OneLayoutLaws

@@ -12,7 +12,7 @@ use Rattle.byte_fields.specs.Number.{nth_u32, u32s}
 use Rattle.byte_fields.specs.Check.{first_failing, checks_below}
 use Rattle.byte_fields.proofs.NumberLaws.{u32s-nth_u32, number_at-small}
 use Rattle.byte_fields.proofs.CheckLaws.{checks_below-each, check_held}
-use Rattle.msf_blocks.specs.BlockNumber.{IsOrdinary, is_ordinary}
+use Rattle.msf_blocks.specs.BlockNumber.{IsBlockSize, IsOrdinary, is_ordinary}
 use Rattle.msf_blocks.specs.Superblock.{Fields, IsSuperblock, fields_of}
 use Rattle.msf_blocks.specs.Directory.{Listed, IsListed, ListsStreams, directory_contents, map_number, stream_checks, stream_block_check, stream_blocks, list_start, listed_at, listed_below}
 use Rattle.msf_blocks.specs.Layout.{HasLayout, IsLayout, layout_checks}
@@ -144,3 +144,19 @@ layout_fits file fields contents n streams bytes h contents_is count read =
     let small : AreBytes contents = rw contents_is (contents_bytes file fields bytes) in
     let long : length streams ≡ n = rw read (length-map-range_with_len (listed_at fields.block_size contents) 0 n) in
     record { size = h.superblock.fit.block_size_fits; few = omega (arith, long, count, number_at-small contents 0 small); each = h.lists.each }
+
+-- ---- contents that were read by position
+
+-- the streams that are read from contents are those that they list
+pub lists_are_read : (fields : Fields) (contents : List ℕ) (n : ℕ) (streams : List Listed) → AreBytes contents → n ≡ nth_u32 contents 0 → 4 * list_start fields.block_size contents n ≤ length contents
+    → first_failing (checks_below n (stream_checks fields contents)) ≡ None → streams ≡ listed_below fields.block_size contents n → ListsStreams fields contents streams
+lists_are_read fields contents n streams bytes count room held read =
+    rw (read, count) (lists_what_is_read fields contents bytes (rw (← count) room) (rw count at held))
+
+-- so they make a layout, whatever the file is
+pub layout_fits_at : (fields : Fields) (contents : List ℕ) (n : ℕ) (streams : List Listed) → IsBlockSize fields.block_size → AreBytes contents → n ≡ nth_u32 contents 0 → streams ≡ listed_below fields.block_size contents n
+    → ListsStreams fields contents streams → IsLayout (record { superblock = fields; streams = streams })
+unfolding nth_u32
+layout_fits_at fields contents n streams size bytes count read lists =
+    let long : length streams ≡ n = rw read (length-map-range_with_len (listed_at fields.block_size contents) 0 n) in
+    record { size = size; few = omega (arith, long, count, number_at-small contents 0 bytes); each = lists.each }

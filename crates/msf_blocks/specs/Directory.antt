@@ -1,5 +1,5 @@
 -- The stream directory: where its blocks are, and what it lists ("The MSF File Format", "The Stream Directory").
-use Rattle.std.specs.Prelude.{ℕ, zero, suc, None, if◌then◌else◌, ◌==◌, ◌≡◌, ◌+◌, ◌*◌, ◌/◌, ◌%◌, ◌<◌, ◌≤◌, ◌^◌, nat_le, List, [], ◌∷◌, ◌++◌, length, slice_index, map, All}
+use Rattle.std.specs.Prelude.{ℕ, zero, suc, None, if◌then◌else◌, ◌==◌, ◌≡◌, ◌+◌, ◌-◌, ◌*◌, ◌/◌, ◌%◌, ◌<◌, ◌≤◌, ◌^◌, min, nat_le, List, [], ◌∷◌, ◌++◌, length, take, drop, slice_index, map, All}
 use Rattle.std.specs.List.{range_with_len, flat_map}
 use Rattle.byte_fields.specs.Number.{number_at, nth_u32, u32s}
 use Rattle.byte_fields.specs.Check.{Check, checks_below, first_failing}
@@ -7,6 +7,8 @@ use Rattle.msf_blocks.specs.BlockNumber.{blocks_for, IsOrdinary, is_ordinary}
 use Rattle.msf_blocks.specs.Superblock.{Fields}
 use Rattle.msf_blocks.specs.declared.fault.MsfFault.{MsfFault}
 use Rattle.msf_blocks.specs.declared.fault.MsfFault.TheVariants.{DirectoryBlock, DirectoryShort, StreamBlock}
+use Rattle.msf_blocks.specs.declared.directory.Place.{Place}
+use Rattle.msf_blocks.specs.declared.directory.Place.TheVariants.{Blocks, Gathered}
 
 -- how many blocks the directory has
 abbrev pub directory_blocks : Fields → ℕ
@@ -96,6 +98,32 @@ pub record DirectoryView : Type 0 where
 pub record IsReadable (file : List ℕ) (fields : Fields) : Type 0 where
   pub whole : fields.num_blocks * fields.block_size ≤ length file
   pub blocks : first_failing (directory_block_checks file fields) ≡ None
+
+-- the contents of a directory, which are in the blocks of a file or in a buffer
+abbrev pub contents_in : Place → Fields → List ℕ
+contents_in (Blocks file) fields = directory_contents file.now fields
+contents_in (Gathered contents) fields = contents.now
+
+-- the directory is there as a whole
+abbrev pub IsThere : Place → Fields → Type 0
+IsThere (Blocks file) fields = IsReadable file.now fields
+IsThere (Gathered contents) fields = length contents.now ≡ fields.directory_bytes
+
+-- how many bytes of the directory are in its block at this position of the block map
+abbrev pub block_len : Fields → ℕ → ℕ
+block_len fields k = min (fields.directory_bytes - k * fields.block_size) fields.block_size
+
+-- these bytes
+abbrev pub block_of_directory : List ℕ → Fields → ℕ → List ℕ
+block_of_directory file fields k = take (block_len fields k) (drop (map_number file fields k * fields.block_size) file)
+
+-- the numbers of the blocks of the directory
+abbrev pub map_numbers : List ℕ → Fields → List ℕ
+map_numbers file fields = map (map_number file fields) (range_with_len 0 (directory_blocks fields))
+
+-- the checks of a directory whose blocks are ordinary: those of its length, and those of the lists of its streams
+abbrev pub directory_checks : Fields → List ℕ → List (Check MsfFault)
+directory_checks fields contents = length_checks fields.block_size contents ++ checks_below (nth_u32 contents 0) (stream_checks fields contents)
 
 -- stream t, read at the positions of its numbers
 unfoldable pub listed_at : ℕ → List ℕ → ℕ → Listed

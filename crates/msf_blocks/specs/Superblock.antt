@@ -64,3 +64,15 @@ superblock_checks file =
     ∷ record { holds = fields.directory_bytes % 4 == 0 && nat_le (blocks_for fields.block_size fields.directory_bytes) (fields.block_size / 4); fault = DirectorySize fields.directory_bytes }
     ∷ record { holds = is_ordinary fields.num_blocks fields.block_map_addr; fault = BlockMapAddr fields.block_map_addr }
     ∷ []
+
+-- the checks of a superblock after that of its length, by the first bytes of a file and how many bytes the file has
+unfoldable pub front_checks : List ℕ → ℕ → List (Check MsfFault)
+front_checks front have =
+    let fields = fields_of front in
+    record { holds = starts_with nat_eq front magic; fault = Magic }
+    ∷ record { holds = is_block_size fields.block_size; fault = BlockSize fields.block_size }
+    ∷ record { holds = fields.free_map_block == 1 || fields.free_map_block == 2; fault = FreeMapBlock fields.free_map_block }
+    ∷ record { holds = nat_le (fields.num_blocks * fields.block_size) have; fault = FileSize (fields.num_blocks * fields.block_size) have }
+    ∷ record { holds = fields.directory_bytes % 4 == 0 && nat_le (blocks_for fields.block_size fields.directory_bytes) (fields.block_size / 4); fault = DirectorySize fields.directory_bytes }
+    ∷ record { holds = is_ordinary fields.num_blocks fields.block_map_addr; fault = BlockMapAddr fields.block_map_addr }
+    ∷ []

@@ -3,9 +3,10 @@
 ghost use Rattle.std.specs.Prelude.{IfOk, OnOk, map, ◌^◌, ◌≡◌, ◌+◌, ◌*◌, ◌<◌, ◌≤◌, ◌∷◌, ◌++◌, length};
 ghost use Rattle.std.specs.List.{range_with_len};
 ghost use Rattle.byte_fields.specs.Number.{nth_u32, u32s};
+ghost use Rattle.byte_fields.specs.Bytes.{AreBytes};
 ghost use Rattle.byte_fields.specs.Check.{Makes, checks_below};
 ghost use Rattle.msf_blocks.specs.BlockNumber.{IsBlockSize, numbers};
-ghost use Rattle.msf_blocks.specs.Directory.{map_number, directory_blocks, directory_block_checks, directory_contents, bytes_of, stream_blocks, list_start, length_checks, stream_checks};
+ghost use Rattle.msf_blocks.specs.Directory.{IsReadable, map_number, directory_blocks, directory_block_checks, directory_contents, bytes_of, stream_blocks, list_start, length_checks, stream_checks};
 
 use crate::block_number::{blocks_for, is_ordinary, nth_block};
 use crate::fault::MsfFault;
@@ -24,23 +25,31 @@ pub fn bytes_of(size: u32) -> u32
     if size == NIL { 0 } else { size }
 }
 
-/// A stream directory whose blocks are in the file. Contracts see it as the values of the
-/// superblock and the contents of the directory. The code never copies these contents into one
-/// buffer.
+/// Where the bytes of a directory are.
+#[derive(Clone, Copy)]
+pub enum Place<'a> {
+    /// In the blocks of this file that the block map lists.
+    Blocks(&'a [u8]),
+    /// In this buffer, one after the other.
+    Gathered(&'a [u8]),
+}
+
+/// A stream directory. Contracts see it as the values of the superblock and the contents of the
+/// directory. Where the file is in memory, the code never copies these contents into one buffer.
 #[derive(Drop)]
 pub struct Directory<'a> {
-    file: &'a [u8],
+    place: Place<'a>,
     superblock: Superblock,
 }
 
 impl<'a> Model for Directory<'a> {
-    ghost use Rattle.msf_blocks.specs.Directory.{DirectoryView, IsReadable, directory_contents};
+    ghost use Rattle.msf_blocks.specs.Directory.{DirectoryView, IsThere, contents_in};
 
     ghost Value = { DirectoryView };
 
-    ghost view = { λ d. record { superblock = d.superblock; contents = directory_contents d.file.now d.superblock } };
+    ghost view = { λ d. record { superblock = d.superblock; contents = contents_in d.place d.superblock } };
 
-    ghost invariant = { λ d. IsReadable d.file.now d.superblock };
+    ghost invariant = { λ d. IsThere d.place d.superblock };
 }
 
 /// The number at a position of the block map.
@@ -69,6 +78,21 @@ fn check_block_map(file: &[u8], superblock: &Superblock) -> Result<(), MsfFault>
     Ok(())
 }
 
+/// The number at a position of a directory in the blocks of a file.
+#[tactic(auto, using(crate::proofs::DirectoryLaws::contents_length, crate::proofs::DirectoryLaws::nth_u32_is, crate::proofs::DirectoryLaws::nth_u32_block, crate::proofs::DirectoryLaws::nth_u32_fits, crate::proofs::SizeLaws::size_facts))]
+fn number_in_blocks(file: &[u8], superblock: &Superblock, position: u32) -> u32
+    requires readable { IsReadable file.now superblock.now }
+    requires inside { 4 * position + 4 ≤ length (directory_contents file.now superblock.now) }
+    ensures { result ≡ nth_u32 (directory_contents file.now superblock.now) position }
+{
+    let block_size = superblock.block_size();
+    let offset = 4 * position;
+    let block = map_number(file, superblock, offset / block_size);
+    let start = block as usize * block_size as usize;
+    // The size of a block is a multiple of four, so no number crosses the end of a block.
+    u32_at(file, start + (offset % block_size) as usize)
+}
+
 impl<'a> Directory<'a> {
     /// Finds the directory of a file that begins with this superblock, and checks the numbers of
     /// the directory's blocks.
@@ -81,7 +105,24 @@ impl<'a> Directory<'a> {
         ensures first { Makes result (directory_block_checks file.now superblock) }
     {
         check_block_map(file, &superblock)?;
-        Ok(Directory { file, superblock })
+        Ok(Directory {
+            place: Place::Blocks(file),
+            superblock,
+        })
+    }
+
+    /// The directory with these contents, of a file that begins with this superblock.
+    pub fn gathered(superblock: Superblock, contents: &'a [u8]) -> Directory<'a>
+        requires { length contents.now ≡ superblock.directory_bytes }
+        ensures superblock { result.superblock ≡ superblock }
+        ensures contents { result.contents ≡ contents.now }
+        ensures short { length result.contents < 2 ^ 32 }
+        ensures small { AreBytes contents.now }
+    {
+        Directory {
+            place: Place::Gathered(contents),
+            superblock,
+        }
     }
 
     /// The superblock of the file.
@@ -94,17 +135,15 @@ impl<'a> Directory<'a> {
     }
 
     /// The number at a position of the directory. The directory is a list of four-byte numbers.
-    #[tactic(auto, using(crate::proofs::DirectoryLaws::contents_length, crate::proofs::DirectoryLaws::nth_u32_is, crate::proofs::DirectoryLaws::nth_u32_block, crate::proofs::DirectoryLaws::nth_u32_fits, crate::proofs::SizeLaws::size_facts))]
+    #[tactic(auto, unfolding(byte_fields::specs::Number::nth_u32))]
     pub fn number(&self, position: u32) -> u32
         requires { 4 * position + 4 ≤ length self.now.contents }
         ensures { result ≡ nth_u32 self.now.contents position }
     {
-        let block_size = self.superblock.block_size();
-        let offset = 4 * position;
-        let block = map_number(self.file, &self.superblock, offset / block_size);
-        let start = block as usize * block_size as usize;
-        // The size of a block is a multiple of four, so no number crosses the end of a block.
-        u32_at(self.file, start + (offset % block_size) as usize)
+        match self.place {
+            Place::Blocks(file) => number_in_blocks(file, &self.superblock, position),
+            Place::Gathered(contents) => u32_at(contents, 4 * position as usize),
+        }
     }
 
     /// The listed size of a stream in bytes: 0xFFFFFFFF for a nil stream.

@@ -1,16 +1,20 @@
 //! Where the streams of a container are.
 
-ghost use Rattle.std.specs.Prelude.{◌≡◌, ◌≤◌, ◌<◌, ◌*◌, ◌^◌, length, map, IfOk, IfErr, slice_get, option_map};
+ghost use Rattle.std.specs.Prelude.{None, ◌≡◌, ◌⊎◌, ◌≤◌, ◌<◌, ◌*◌, ◌^◌, length, map, OnOk, IfOk, IfErr, slice_get, option_map};
+ghost use Rattle.byte_fields.specs.Bytes.{AreBytes};
 ghost use Rattle.byte_fields.specs.Number.{nth_u32};
 ghost use Rattle.byte_fields.specs.Check.{Makes, Refuses, first_failing};
+ghost use Rattle.byte_io.specs.At.{Breaks, IfKnown, IfOf};
 ghost use Rattle.msf_blocks.specs.Superblock.{IsSuperblock, fields_of};
-ghost use Rattle.msf_blocks.specs.Directory.{directory_contents, list_start, listed_below, bytes_of};
+ghost use Rattle.msf_blocks.specs.Directory.{directory_block_checks, directory_checks, directory_contents, list_start, listed_below, bytes_of};
 ghost use Rattle.msf_blocks.specs.Layout.{LayoutView, HasLayout, IsLayout, block_of, layout_checks};
 ghost use Rattle.msf_blocks.specs.Stream.{listed_of};
 
 use crate::directory::{Directory, bytes_of};
+use crate::directory_at::{check_directory, check_map, gather_directory};
 use crate::fault::MsfFault;
 use crate::superblock::Superblock;
+use byte_io::{AtFault, ReadAt, ReadFault};
 use std::alloc::{Allocator, Global};
 use std::marker::Model;
 
@@ -24,7 +28,7 @@ struct Stream<A: Allocator> {
 /// Where the streams of a container are: its superblock, and for each stream its size in bytes and
 /// the numbers of its blocks, as the stream directory lists them.
 ///
-/// Made by [`Layout::read`]. Each block number in it is above 0 and below the number of blocks of
+/// Made by [`Layout::read`] and [`Layout::read_at`]. Each block number in it is above 0 and below the number of blocks of
 /// the file. Each stream has as many blocks as its bytes need. ("The MSF File Format", "The Stream
 /// Directory".)
 #[derive(Drop)]
@@ -120,6 +124,74 @@ impl<A: Allocator + Copy> Layout<A> {
     }
 }
 
+/// Reads the contents of the directory of a file that begins with this superblock. All checks of the
+/// directory come before out of memory.
+fn read_contents<R: ReadAt, A: Allocator>(
+    alloc: A,
+    input: &mut R,
+    superblock: &Superblock,
+) -> Result<Vec<u8, A>, AtFault<MsfFault>>
+    requires whole { IfKnown (R.bytes input.old) (λ file. superblock.now.num_blocks * superblock.now.block_size ≤ length file) }
+    ensures keeps { R.bytes input.new ≡ R.bytes input.old }
+    ensures len { IfOk result (λ contents. length contents.items ≡ superblock.now.directory_bytes) }
+    ensures value { IfOk result (λ contents. IfKnown (R.bytes input.old) (λ file. contents.items ≡ directory_contents file superblock.now)) }
+    ensures held { OnOk result (IfKnown (R.bytes input.old) (λ file. first_failing (directory_block_checks file superblock.now) ≡ None)) }
+    ensures first { IfErr result (IfOf (λ fault. IfKnown (R.bytes input.old) (λ file. (first_failing (directory_block_checks file superblock.now) ≡ Some fault) ⊎ ((first_failing (directory_block_checks file superblock.now) ≡ None) × Refuses MsfFault.Memory (first_failing (directory_checks superblock.now (directory_contents file superblock.now))) fault)))) }
+    ensures read { IfErr result (λ fault. fault ≡ AtFault.Read → Breaks (R.bytes input.old) (R.is_broken input.new)) }
+{
+    check_map(input, superblock)?;
+    match gather_directory(alloc, input, superblock) {
+        Ok(contents) => Ok(contents),
+        Err(ReadFault::Memory) => {
+            check_directory(input, superblock)?;
+            Err(AtFault::Of(MsfFault::Memory))
+        }
+        Err(_) => Err(AtFault::Read),
+    }
+}
+
+/// Reads the layout of a container by position.
+fn layout_at<R: ReadAt, A: Allocator + Copy>(
+    alloc: A,
+    input: &mut R,
+) -> Result<Layout<A>, AtFault<MsfFault>>
+    ensures keeps { R.bytes input.new ≡ R.bytes input.old }
+    ensures small { IfKnown (R.bytes input.old) AreBytes }
+    ensures value { IfOk result (λ layout. IfKnown (R.bytes input.old) (λ file. HasLayout file layout)) }
+    ensures first { IfErr result (IfOf (λ fault. IfKnown (R.bytes input.old) (λ file. Refuses MsfFault.Memory (first_failing (layout_checks file)) fault))) }
+    ensures read { IfErr result (λ fault. fault ≡ AtFault.Read → Breaks (R.bytes input.old) (R.is_broken input.new)) }
+{
+    let superblock = Superblock::read_at(input)?;
+    let contents = read_contents(alloc, input, &superblock)?;
+    let directory = Directory::gathered(superblock, &contents);
+    let streams = directory.check_length()?;
+    directory.check_streams(streams)?;
+    let streams = listed(alloc, &directory, streams)?;
+    Ok(Layout {
+        superblock,
+        streams,
+    })
+}
+
+impl<A: Allocator + Copy> Layout<A> {
+    /// Reads the layout of a container by position: its superblock, its block map and its stream
+    /// directory. No other byte of the file is read.
+    ///
+    /// The faults are those of [`Layout::read`], in the same order, and `AtFault::Read` where a read
+    /// fails. This allocates room for the directory too, since its numbers are read once and then
+    /// checked again, as a file may change. ("The MSF File Format", "The Stream Directory".)
+    pub fn read_at<R: ReadAt>(alloc: A, input: &mut R) -> Result<Layout<A>, AtFault<MsfFault>>
+        ensures keeps { R.bytes input.new ≡ R.bytes input.old }
+        ensures small { IfKnown (R.bytes input.old) AreBytes }
+        ensures value { IfOk result (λ layout. IfKnown (R.bytes input.old) (λ file. HasLayout file layout)) }
+        ensures found { IfErr result (λ fault. IfKnown (R.bytes input.old) (λ file. (layout : LayoutView) → HasLayout file layout → fault ≡ AtFault.Of MsfFault.Memory)) }
+        ensures first { IfErr result (IfOf (λ fault. IfKnown (R.bytes input.old) (λ file. Refuses MsfFault.Memory (first_failing (layout_checks file)) fault))) }
+        ensures read { IfErr result (λ fault. fault ≡ AtFault.Read → Breaks (R.bytes input.old) (R.is_broken input.new)) }
+    {
+        layout_at(alloc, input)
+    }
+}
+
 impl<A: Allocator> Layout<A> {
     /// The superblock.
     pub fn superblock(&self) -> &Superblock
@@ -144,6 +216,15 @@ impl<A: Allocator> Layout<A> {
     {
         let stream = self.streams.get(s as usize)?;
         Some(bytes_of(stream.size))
+    }
+
+    /// The numbers of the blocks of the `s`-th stream, from 0. `None` where `s` is not a stream.
+    pub fn blocks(&self, s: u32) -> Option<&[u32]>
+        ensures value { option_map (λ blocks. blocks.now) result ≡ option_map (λ l. l.blocks) (slice_get self.now.streams s) }
+        ensures fits { IsLayout self.now }
+    {
+        let stream = self.streams.get(s as usize)?;
+        Some(&stream.blocks)
     }
 
     /// The number of the `k`-th block of the `s`-th stream. Both count from 0. `None` where `s` is

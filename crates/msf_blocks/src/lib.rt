@@ -7,6 +7,8 @@
 //! - [`Superblock::read`] checks and reads the superblock.
 //! - [`Layout::read`] also checks and reads the stream directory. Each block number in a [`Layout`]
 //!   is the number of a block of the file, so the crates above need no check of their own.
+//! - [`Superblock::read_at`] and [`Layout::read_at`] do the same by position, and [`read_blocks`]
+//!   reads the bytes in a list of blocks. Of a file they read no more than they need.
 //! - [`is_block_size`] says which sizes a block may have, and [`blocks_for`] how many blocks hold a
 //!   number of bytes.
 //! - [`superblock_bytes`], [`block_map_bytes`], [`directory_bytes`] and [`fill_map_block`] write the
@@ -23,7 +25,9 @@
 #![tactic(auto)]
 
 mod block_number;
+mod blocks;
 mod directory;
+mod directory_at;
 mod fault;
 mod free_map;
 pub mod laws;
@@ -31,6 +35,7 @@ mod layout;
 mod superblock;
 
 pub use block_number::{blocks_for, is_block_size, is_map_block, nth_block};
+pub use blocks::read_blocks;
 pub use byte_io::{In, NotTaken, Out, Sink, Source, put_all};
 pub use directory::{block_map_bytes, directory_bytes};
 pub use fault::MsfFault;

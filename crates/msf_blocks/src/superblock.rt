@@ -1,14 +1,17 @@
 //! The superblock of a container.
 
-ghost use Rattle.std.specs.Prelude.{◌≡◌, ◌*◌, ◌/◌, ◌%◌, ◌≤◌, ◌⊎◌, ◌≢◌, [], ◌∷◌, ◌++◌, length, IfOk, IfErr, IsOk};
-ghost use Rattle.byte_fields.specs.Check.{Makes};
+ghost use Rattle.std.specs.Prelude.{◌≡◌, ◌*◌, ◌/◌, ◌%◌, ◌≤◌, ◌⊎◌, ◌≢◌, [], ◌∷◌, ◌++◌, length, take, true, Some, None, IfOk, OnOk, IfErr, IsOk};
+ghost use Rattle.byte_fields.specs.Bytes.{AreBytes};
+ghost use Rattle.byte_fields.specs.Check.{Makes, first_failing};
+ghost use Rattle.byte_io.specs.At.{Breaks, IfKnown, IfOf};
 ghost use Rattle.byte_fields.specs.Number.{u32s};
 ghost use Rattle.msf_blocks.specs.BlockNumber.{IsBlockSize, IsOrdinary, blocks_for};
-ghost use Rattle.msf_blocks.specs.Superblock.{Fields, IsSuperblock, fields_of, magic, superblock_checks};
+ghost use Rattle.msf_blocks.specs.Superblock.{Fields, IsFit, IsSuperblock, fields_of, magic, front_checks, superblock_checks};
 
 use crate::block_number::{blocks_for, is_block_size, is_ordinary};
 use crate::fault::MsfFault;
 use byte_fields::u32_at;
+use byte_io::{AtFault, ReadAt};
 use std::marker::Model;
 
 /// The bytes with which every container begins. ("The MSF File Format", "The Superblock".)
@@ -77,6 +80,53 @@ impl Model for Superblock {
 }
 
 impl Superblock {
+    /// Reads the superblock in the first 56 bytes of a file that has `have` bytes.
+    #[tactic(auto, using(crate::proofs::SizeLaws::size_decides), unfolding(crate::specs::Superblock::front_checks))]
+    fn of(front: &[u8], have: u64) -> Result<Superblock, MsfFault>
+        requires { length front.now ≡ 56 }
+        ensures magical { OnOk result (take 32 front.now ≡ magic) }
+        ensures fields { IfOk result (λ s. s ≡ fields_of front.now) }
+        ensures whole { IfOk result (λ s. s.num_blocks * s.block_size ≤ have) }
+        ensures fit { IfOk result IsFit }
+        ensures first { Makes result (front_checks front.now have) }
+        ensures checked { IfErr result (λ fault. fault ≢ MsfFault.Memory) }
+    {
+        if !front.starts_with(&MAGIC) {
+            return Err(MsfFault::Magic);
+        }
+        let block_size = u32_at(front, BLOCK_SIZE);
+        if !is_block_size(block_size) {
+            return Err(MsfFault::BlockSize(block_size));
+        }
+        let free_map_block = u32_at(front, FREE_MAP_BLOCK);
+        if free_map_block != 1 && free_map_block != 2 {
+            return Err(MsfFault::FreeMapBlock(free_map_block));
+        }
+        let num_blocks = u32_at(front, NUM_BLOCKS);
+        let need = u64::from(num_blocks) * u64::from(block_size);
+        if have < need {
+            return Err(MsfFault::FileSize { need, have });
+        }
+        let directory_bytes = u32_at(front, DIRECTORY_BYTES);
+        // The block map is one block, and each of its numbers has four bytes.
+        let most_blocks = block_size / 4;
+        if directory_bytes % 4 != 0 || blocks_for(block_size, directory_bytes) > most_blocks {
+            return Err(MsfFault::DirectorySize(directory_bytes));
+        }
+        let block_map_addr = u32_at(front, BLOCK_MAP_ADDR);
+        if !is_ordinary(num_blocks, block_map_addr) {
+            return Err(MsfFault::BlockMapAddr(block_map_addr));
+        }
+        Ok(Superblock {
+            block_size,
+            free_map_block,
+            num_blocks,
+            directory_bytes,
+            unknown: u32_at(front, UNKNOWN),
+            block_map_addr,
+        })
+    }
+
     /// Reads the superblock at the front of a file.
     ///
     /// The faults, in the order in which they are checked:
@@ -92,7 +142,6 @@ impl Superblock {
     ///
     /// Bytes after the last block are ignored. This does not allocate. ("The MSF File Format", "The
     /// Superblock".)
-    #[tactic(auto, using(crate::proofs::SizeLaws::size_decides), unfolding(crate::specs::Superblock::superblock_checks))]
     pub fn read(file: &[u8]) -> Result<Superblock, MsfFault>
         ensures value { IfOk result (IsSuperblock file.now) }
         ensures fields { IfOk result (λ s. s ≡ fields_of file.now) }
@@ -103,41 +152,32 @@ impl Superblock {
         if file.len() < LENGTH {
             return Err(MsfFault::Short);
         }
-        if !file.starts_with(&MAGIC) {
-            return Err(MsfFault::Magic);
+        let superblock = Superblock::of(&file[..LENGTH], file.len() as u64)?;
+        Ok(superblock)
+    }
+
+    /// Reads the superblock at the front of a file that is read by position. The faults are those
+    /// of [`Superblock::read`], and `AtFault::Read` where a read failed. This does not allocate.
+    pub fn read_at<R: ReadAt>(input: &mut R) -> Result<Superblock, AtFault<MsfFault>>
+        ensures keeps { R.bytes input.new ≡ R.bytes input.old }
+        ensures small { IfKnown (R.bytes input.old) AreBytes }
+        ensures value { IfOk result (λ s. IfKnown (R.bytes input.old) (λ file. IsSuperblock file s)) }
+        ensures fields { IfOk result (λ s. IfKnown (R.bytes input.old) (λ file. s ≡ fields_of file)) }
+        ensures fit { IfOk result IsFit }
+        ensures held { OnOk result (IfKnown (R.bytes input.old) (λ file. first_failing (superblock_checks file) ≡ None)) }
+        ensures first { IfErr result (IfOf (λ fault. IfKnown (R.bytes input.old) (λ file. first_failing (superblock_checks file) ≡ Some fault))) }
+        ensures read { IfErr result (λ fault. fault ≡ AtFault.Read → Breaks (R.bytes input.old) (R.is_broken input.new)) }
+    {
+        let have = input.len();
+        if have < LENGTH as u64 {
+            return Err(AtFault::Of(MsfFault::Short));
         }
-        let block_size = u32_at(file, BLOCK_SIZE);
-        if !is_block_size(block_size) {
-            return Err(MsfFault::BlockSize(block_size));
-        }
-        let free_map_block = u32_at(file, FREE_MAP_BLOCK);
-        if free_map_block != 1 && free_map_block != 2 {
-            return Err(MsfFault::FreeMapBlock(free_map_block));
-        }
-        let num_blocks = u32_at(file, NUM_BLOCKS);
-        let need = u64::from(num_blocks) * u64::from(block_size);
-        let have = file.len() as u64;
-        if have < need {
-            return Err(MsfFault::FileSize { need, have });
-        }
-        let directory_bytes = u32_at(file, DIRECTORY_BYTES);
-        // The block map is one block, and each of its numbers has four bytes.
-        let most_blocks = block_size / 4;
-        if directory_bytes % 4 != 0 || blocks_for(block_size, directory_bytes) > most_blocks {
-            return Err(MsfFault::DirectorySize(directory_bytes));
-        }
-        let block_map_addr = u32_at(file, BLOCK_MAP_ADDR);
-        if !is_ordinary(num_blocks, block_map_addr) {
-            return Err(MsfFault::BlockMapAddr(block_map_addr));
-        }
-        Ok(Superblock {
-            block_size,
-            free_map_block,
-            num_blocks,
-            directory_bytes,
-            unknown: u32_at(file, UNKNOWN),
-            block_map_addr,
-        })
+        let mut front = [0u8; LENGTH];
+        let Some(()) = input.read_at(0, &mut front) else {
+            return Err(AtFault::Read);
+        };
+        let superblock = Superblock::of(&front, have)?;
+        Ok(superblock)
     }
 
     /// The size of a block, in bytes.

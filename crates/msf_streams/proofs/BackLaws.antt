@@ -19,7 +19,7 @@ use Rattle.msf_blocks.proofs.SizeLaws.{size_facts, big_enough, next_row, ceil_ge
 use Rattle.msf_streams.specs.Streams.{gathered, listed_contents}
 use Rattle.msf_blocks.specs.BlockNumber.{numbers}
 use Rattle.msf_streams.specs.Image.{filled, laid_out, superblock_numbers, listed_from, blocks_of_all, directory_len, directory_count, data_count, image_blocks, superblock_part, block_map_part, directory_part, parts, image, Fits, image_fields, ReadsBack}
-use Rattle.msf_streams.proofs.RangeLaws.{map-range_with_len_parts, map-same_ranges}
+use Rattle.msf_blocks.proofs.RangeLaws.{map-range_with_len_parts, map-same_ranges}
 use Rattle.msf_streams.proofs.PieceLaws.{gathered_first, at_most_one_for}
 use Rattle.msf_streams.proofs.ImageLaws.{part_back, image_long, length_parts, nth_below}
 

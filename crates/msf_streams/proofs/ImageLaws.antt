@@ -13,7 +13,7 @@ use Rattle.msf_blocks.proofs.SizeLaws.{size_facts, big_enough, ceil_ge, place_be
 use Rattle.msf_streams.specs.Streams.{gathered}
 use Rattle.msf_blocks.specs.FreeMap.{map_block, map_byte}
 use Rattle.msf_streams.specs.Image.{filled, data_block, image_block, laid_out, blocks_of_all, directory_len, directory_count, data_count}
-use Rattle.msf_streams.proofs.RangeLaws.{map-same_ranges, part_by_places}
+use Rattle.msf_blocks.proofs.RangeLaws.{map-same_ranges, part_by_places}
 use lib.ListN.{replicate}
 
 -- ---- lists of blocks of the same length

@@ -2,7 +2,7 @@
 use Rattle.std.proofs.Common.{◌≡◌, ℕ, ◌+◌, ◌-◌, ◌*◌, ◌/◌, ◌%◌, ◌<◌, ◌≤◌, List, [], length, take, drop, get_or, Some, None, refl, sym, ap, ◌∙◌, arith, inl, inr}
 use Rattle.std.specs.Prelude.{All, option_map}
 use Rattle.std.proofs.lemmas.Bool.{cases_lt}
-use Rattle.std.specs.List.{range_with_len, slice_get}
+use Rattle.std.specs.List.{slice_get}
 use Rattle.std.proofs.lemmas.Nat.{div-add-mod', mul-le}
 use Rattle.std.proofs.lemmas.Option.{slice_get_past, slice_get_within, slice_get-get_or}
 use Rattle.std.proofs.lemmas.List.Elements.{All-get_or}
@@ -11,7 +11,7 @@ use Rattle.msf_blocks.specs.Directory.{Listed, IsListed, bytes_of}
 use Rattle.msf_blocks.specs.Layout.{LayoutView, IsLayout, block_of}
 use Rattle.msf_blocks.proofs.SizeLaws.{some_bytes, ceil_ge, place_below}
 use Rattle.msf_streams.specs.Streams.{gathered, blocks_in, stream_contents, AreConsecutive}
-use Rattle.msf_streams.proofs.RangeLaws.{map-same_ranges, part_by_places}
+use Rattle.msf_blocks.proofs.RangeLaws.{map-same_ranges, part_by_places}
 use Rattle.msf_streams.proofs.PieceLaws.{none_for, no_stream, stream_at}
 
 -- the contents in consecutive blocks are the bytes from the first of them on

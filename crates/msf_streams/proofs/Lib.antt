@@ -1,6 +1,6 @@
-pub mod RangeLaws
 pub mod PieceLaws
 pub mod LentLaws
+pub mod AtLaws
 pub mod ImageLaws
 pub mod BackLaws
 pub mod WovenLaws

@@ -14,7 +14,7 @@ use Rattle.msf_blocks.specs.Superblock.{Fields}
 use Rattle.msf_blocks.specs.Directory.{Listed, IsListed, bytes_of}
 use Rattle.msf_blocks.specs.Layout.{LayoutView, IsLayout, block_in, block_of}
 use Rattle.msf_streams.specs.Streams.{FirstIsLong, gathered, pieces, blocks_in, pieces_from, stream_pieces, stream_contents}
-use Rattle.msf_streams.proofs.RangeLaws.{map-range_with_len_parts, map-same_ranges, part_by_places, next_block, first_block}
+use Rattle.msf_blocks.proofs.RangeLaws.{map-range_with_len_parts, map-same_ranges, part_by_places, next_block, first_block}
 
 -- ---- how many blocks some bytes need
 

@@ -13,7 +13,7 @@ use Rattle.msf_blocks.specs.BlockNumber.{IsBlockSize, blocks_for}
 use Rattle.msf_blocks.proofs.SizeLaws.{size_facts, some_bytes, big_enough, next_row, ceil_is}
 use Rattle.msf_streams.specs.Image.{joined, filled, superblock_part, block_map_part, directory_part, parts, image, image_blocks, data_count}
 use Rattle.msf_streams.specs.Put.{maps_before, woven, room, AppendsPart, Halfway, IsFront}
-use Rattle.msf_streams.proofs.RangeLaws.{next_block, first_block}
+use Rattle.msf_blocks.proofs.RangeLaws.{next_block, first_block}
 use Rattle.msf_streams.proofs.ImageLaws.{length_parts}
 use Rattle.msf_streams.proofs.BackLaws.{all_blocks, bounds}
 use Rattle.msf_streams.proofs.WovenLaws.{woven_parts, some_room, woven_run, some_stretch, image_woven}

@@ -12,6 +12,7 @@
 //!   block into the next. It allocates the whole buffer before it copies anything.
 //! - [`contents`] lends the contents where they are one part of the file, and gathers them
 //!   otherwise.
+//! - [`gather_at`] gathers the contents by position, and reads no other byte of the file.
 //! - [`write_image`] writes the *image* of five streams: the container that holds just these
 //!   streams. [`write_parts`] does the same for streams that are lent in several parts.
 //! - [`image_len`] computes the length of an image, or says that there is none.
@@ -39,6 +40,7 @@
 //! The file `src/examples.rt` of the crate `acceptance` shows this crate in use, in a few lines.
 #![tactic(auto)]
 
+mod at;
 mod fault;
 mod front;
 mod image;
@@ -47,6 +49,7 @@ mod put;
 mod streams;
 mod write;
 
+pub use at::gather_at;
 pub use fault::{StreamFault, WriteFault};
 pub use image::image_len;
 pub use streams::{StreamPieces as Pieces, contents, gather, lent, pieces};

@@ -1,5 +1,4 @@
 use Rattle.std.proofs.Common.{◌≡◌, ℕ, ◌+◌, ◌<◌, get_or}
-use Rattle.msf_blocks.specs.Layout.{block_of}
 use Rattle.std.specs.List.{slice_get}
 use Rattle.msf_streams.specs.Streams.{blocks_in}
 use Rattle.msf_streams.proofs.streams.are_consecutive.Given as goal

@@ -1,4 +1,4 @@
-use Rattle.std.proofs.Common.{◌≡◌, ◌*◌, arith, length, drop, sym, ap, ◌∙◌}
+use Rattle.std.proofs.Common.{◌≡◌, ◌*◌, arith, drop, sym, ap, ◌∙◌}
 use Rattle.std.proofs.lemmas.List.{length-take, length-drop}
 use Rattle.msf_blocks.specs.Superblock.{Fields}
 use Rattle.msf_streams.proofs.LentLaws.{is_sized, empty_lent, is_lent_at}

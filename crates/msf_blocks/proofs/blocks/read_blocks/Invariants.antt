@@ -1,0 +1,15 @@
+use Rattle.std.proofs.Common.{◌≡◌, ◌≤◌, ◌-◌, ◌*◌, min, length}
+use Rattle.byte_io.specs.At.{IfKnown}
+use Rattle.msf_blocks.specs.Blocks.{in_blocks}
+use Rattle.msf_blocks.proofs.blocks.read_blocks.Given as goal
+
+abbrev pub invariant-loop-position : goal.invariant-loop-position
+invariant-loop-position g l = record {
+  keeps : g.R.ReadAt.bytes l.input ≡ g.R.ReadAt.bytes l.initial.input;
+  upto : l.position ≤ length l.blocks;
+  len : length l.buffer.items ≡ min (l.position * l.block_size) l.size;
+  value : IfKnown (g.R.ReadAt.bytes l.initial.input) (λ file. l.buffer.items ≡ in_blocks file l.block_size l.blocks (min (l.position * l.block_size) l.size));
+}
+
+abbrev pub decreases-loop-position : goal.decreases-loop-position
+decreases-loop-position g l = length l.blocks - l.position

@@ -1,0 +1,24 @@
+use Rattle.std.proofs.Common.{◌∙◌, refl, arith}
+use Rattle.msf_blocks.specs.Directory.{directory_contents}
+use Rattle.msf_blocks.proofs.DirectoryLaws.{list_start_zero, list_start_more}
+use Rattle.msf_blocks.proofs.directory_at.read_lists_end.Goals as goal
+
+pub loop-stream-init : goal.loop-stream-init
+loop-stream-init g c = record {
+  keeps = refl;
+  few = omega (arith, c.from-end.ensures, c.ranges.streams.fits);
+  value = λ file known. omega (arith, c.from-end.ensures, c.requires.streams file known, list_start_zero c.args.superblock.now.block_size (directory_contents file c.args.superblock.now));
+}
+
+pub loop-stream-preserved : goal.loop-stream-preserved
+loop-stream-preserved g c =
+    let i = c.loop-stream.invariant in
+    let e = c.in_ok-read_stream_blocks.ensures in
+    record {
+      keeps = e.keeps ∙ i.keeps;
+      few = omega (arith, i.few, e.few, c.from.ensures);
+      value = λ file known.
+          let before = i.value file known in
+          let here = e.value file (i.keeps ∙ known) in
+          omega (arith, before, here, c.from.ensures, list_start_more c.args.superblock.now.block_size (directory_contents file c.args.superblock.now) c.loop-stream.stream);
+    }

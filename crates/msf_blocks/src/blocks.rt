@@ -1,0 +1,65 @@
+//! The bytes in a list of blocks, read by position.
+
+ghost use Rattle.std.specs.Prelude.{ℕ, ◌≡◌, ◌⊎◌, ◌<◌, ◌≤◌, ◌+◌, length, get_or, OnOk, IfErr};
+ghost use Rattle.byte_io.specs.At.{Breaks, IfKnown};
+ghost use Rattle.msf_blocks.specs.BlockNumber.{IsBlockSize, blocks_for};
+ghost use Rattle.msf_blocks.specs.Blocks.{AreInside, in_blocks};
+
+use byte_io::{ReadAt, ReadFault, read_more};
+use std::alloc::Allocator;
+
+/// How many bytes one read asks for, at most.
+const MOST: u32 = 1 << 30;
+
+/// How many blocks are consecutive in the file, from a position of a list on, and at most `most`.
+fn run_len(blocks: &[u32], position: u32, most: u32) -> u32
+    requires inside { position < length blocks.now }
+    requires some { 0 < most }
+    ensures some { 0 < result }
+    ensures most { result ≤ most }
+    ensures inside { position + result ≤ length blocks.now }
+    ensures side { (k : ℕ) → k < result → get_or blocks.now (position + k) 0 ≡ get_or blocks.now position 0 + k }
+{
+    let first = u64::from(blocks[position as usize]);
+    for k in 1..most {
+        let at = position as usize + k as usize;
+        if at >= blocks.len() || u64::from(blocks[at]) != first + u64::from(k) {
+            return k;
+        }
+    }
+    most
+}
+
+/// Reads the bytes in blocks with these numbers into a buffer, whose old bytes are dropped. There
+/// are `size` bytes, and `block_size` in each block but the last. Consecutive blocks are read at
+/// once, straight into the buffer.
+///
+/// The faults are `Memory` when out of memory, before anything is read, and `Read` where a read
+/// fails.
+pub fn read_blocks<R: ReadAt, A: Allocator>(
+    input: &mut R,
+    block_size: u32,
+    blocks: &[u32],
+    size: u32,
+    buffer: &mut Vec<u8, A>,
+) -> Result<(), ReadFault>
+    requires size { IsBlockSize block_size }
+    requires count { length blocks.now ≡ blocks_for block_size size }
+    requires inside { IfKnown (R.bytes input.old) (λ file. AreInside file block_size blocks.now) }
+    ensures keeps { R.bytes input.new ≡ R.bytes input.old }
+    ensures len { OnOk result (length buffer.new.items ≡ size) }
+    ensures value { OnOk result (IfKnown (R.bytes input.old) (λ file. buffer.new.items ≡ in_blocks file block_size blocks.now size)) }
+    ensures first { IfErr result (λ fault. ((fault ≡ ReadFault.Read) × Breaks (R.bytes input.old) (R.is_broken input.new)) ⊎ (fault ≡ ReadFault.Memory)) }
+{
+    buffer.clear();
+    buffer.reserve_exact(size as usize)?;
+    let mut position = 0;
+    while (position as usize) < blocks.len() {
+        let run = run_len(blocks, position, MOST / block_size);
+        let count = (size - position * block_size).min(run * block_size);
+        let start = u64::from(blocks[position as usize]) * u64::from(block_size);
+        read_more(input, start, count, buffer)?;
+        position += run;
+    }
+    Ok(())
+}
