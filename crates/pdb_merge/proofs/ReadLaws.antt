@@ -1,8 +1,16 @@
 -- An accepted file has one list of records and no fault.
-use Rattle.std.proofs.Common.{◌≡◌, ◌⊎◌, ℕ, List, Some, length, ap, ◌∙◌, arith, inl, inr}
+use Rattle.std.proofs.Common.{◌≡◌, ◌⊎◌, ℕ, ◌<◌, ◌≤◌, List, Option, Some, None, Bool, length, ap, ◌∙◌, refl, arith, inl, inr}
 use Rattle.std.specs.Prelude.{Result, Ok, Err, IfErr}
+use Rattle.byte_io.specs.At.{Breaks, IfKnown, IfOf}
+use Rattle.byte_io.specs.declared.at.AtFault.{AtFault}
+use Rattle.byte_io.specs.declared.at.AtFault.TheVariants as at
+use Rattle.msf_blocks.specs.declared.fault.MsfFault.{MsfFault}
+use Rattle.msf_blocks.specs.declared.fault.MsfFault.TheVariants as msf
+use Rattle.msf_streams.specs.declared.fault.StreamFault.{StreamFault}
+use Rattle.msf_streams.specs.declared.fault.StreamFault.TheVariants as streams
 use Rattle.byte_fields.specs.Bytes.{AreBytes}
-use Rattle.msf_blocks.specs.Layout.{LayoutView, HasLayout}
+use Rattle.byte_fields.specs.Check.{first_failing, Refuses}
+use Rattle.msf_blocks.specs.Layout.{LayoutView, HasLayout, layout_checks}
 use Rattle.msf_blocks.proofs.FoundLaws.{layout_holds}
 use Rattle.msf_streams.specs.Streams.{stream_contents}
 use Rattle.tpi_records.specs.Records.{HasRecords, IsFirstFault}
@@ -13,8 +21,8 @@ use Rattle.type_trees.proofs.CycleLaws.{types_sound}
 use Rattle.type_trees.specs.Check.{AreTypes, IsTypeFault}
 use Rattle.type_trees.specs.declared.fault.TypeFault.{TypeFault}
 use Rattle.type_trees.specs.declared.fault.TypeFault.TheVariants as types
-use Rattle.pdb_merge.specs.Read.{IsListed, IsAccepted, HasTypeRecords, ListsRecords, HasLongInfo, HasInfoFault, HasStreamFault, HasRecordsFault, HasPdbFault}
-use Rattle.pdb_merge.specs.Fault.{of_tpi, of_type}
+use Rattle.pdb_merge.specs.Read.{IsListed, IsAccepted, HasTypeRecords, ListsRecords, HasLongInfo, HasInfoFault, HasStreamFault, HasRecordsFault, HasPdbFault, IsLayoutFault}
+use Rattle.pdb_merge.specs.Fault.{of_msf, of_stream, of_tpi, of_type}
 use Rattle.pdb_merge.specs.declared.fault.PdbFault.{PdbFault}
 use Rattle.pdb_merge.specs.declared.fault.PdbFault.TheVariants as fault
 use Rattle.msf_blocks.proofs.OneLayoutLaws.{one_layout}
@@ -127,3 +135,68 @@ pub wants_memory : {T A : Type 0} (file : List ℕ) (records : List (List ℕ)) 
 wants_memory file records (Ok types) is refused = tt
 wants_memory file records (Err e) is (inl refused) = absurd (accepted_unrefused file records e is refused)
 wants_memory file records (Err e) is (inr memory) = memory
+
+-- ---- files that are read by position
+
+-- a fault of a layout that is read by position
+pub layout_refused : {A : Type 0} (file : List ℕ) (inner : MsfFault) (outer : PdbFault A) → outer ≡ of_msf inner → Refuses msf.Memory (first_failing (layout_checks file)) inner → IsLayoutFault file outer ⊎ (outer ≡ fault.Memory)
+layout_refused file msf.Memory outer made refused = inr made
+layout_refused file inner outer made (inl first) = inl (rw made first)
+layout_refused file inner outer made (inr want) = inr (made ∙ ap of_msf want.0)
+
+-- after a layout that was read, out of memory comes where the container has no fault
+pub sound_at : {T A : Type 0} (known : Option (List ℕ)) (result : Result T (AtFault (PdbFault A))) → IfKnown known (λ file. first_failing (layout_checks file) ≡ None)
+    → IfErr result (IfOf (λ e. e ≡ fault.Memory → IfKnown known (λ file. first_failing (layout_checks file) ≡ None)))
+sound_at known (Ok value) none = tt
+sound_at known (Err at.Read) none = tt
+sound_at known (Err (at.Of e)) none = λ is. none
+
+-- it is a fault on the way to the records, and on the way to the types
+pub layout_records : {A : Type 0} (file : List ℕ) (inner : PdbFault A) → IsLayoutFault file inner ⊎ (inner ≡ fault.Memory) → HasRecordsFault file inner ⊎ (inner ≡ fault.Memory)
+layout_records file (fault.Msf inner) (inl first) = inl first
+layout_records file inner (inl first) = absurd first
+layout_records file inner (inr want) = inr want
+
+pub layout_types : {A : Type 0} (file : List ℕ) (inner : PdbFault A) → IsLayoutFault file inner ⊎ (inner ≡ fault.Memory) → HasPdbFault file inner ⊎ (inner ≡ fault.Memory)
+layout_types file (fault.Msf inner) (inl first) = inl first
+layout_types file inner (inl first) = absurd first
+layout_types file inner (inr want) = inr want
+
+-- a stream 2 that is not gathered
+pub gather_refused : {A : Type 0} (file : List ℕ) (layout : LayoutView) (inner : StreamFault) (outer : PdbFault A) → outer ≡ of_stream inner
+    → ((inner ≡ streams.NoStream 2) × (length layout.streams ≤ 2)) ⊎ ((inner ≡ streams.Memory) × (2 < length layout.streams)) → HasStreamFault file layout outer ⊎ (outer ≡ fault.Memory)
+gather_refused file layout inner outer made (inl first) = inl (rw (made, first.0) (first.1, refl))
+gather_refused file layout inner outer made (inr want) = inr (made ∙ ap of_stream want.0)
+
+-- a fault of stream 2 is one on the way to the records, and on the way to the types
+pub stream_records : {A : Type 0} (file : List ℕ) (layout : LayoutView) (inner : PdbFault A) → HasLayout file layout → HasStreamFault file layout inner ⊎ (inner ≡ fault.Memory) → HasRecordsFault file inner ⊎ (inner ≡ fault.Memory)
+stream_records file layout (fault.Stream inner) has (inl first) = inl (layout, has, first)
+stream_records file layout (fault.Tpi inner) has (inl first) = inl (layout, has, first)
+stream_records file layout inner has (inl first) = absurd first
+stream_records file layout inner has (inr want) = inr want
+
+pub stream_types : {A : Type 0} (file : List ℕ) (layout : LayoutView) (inner : PdbFault A) → HasLayout file layout → HasLongInfo file layout → HasStreamFault file layout inner ⊎ (inner ≡ fault.Memory) → HasPdbFault file inner ⊎ (inner ≡ fault.Memory)
+stream_types file layout (fault.Stream inner) has info (inl first) = inl (layout, has, inr (info, first))
+stream_types file layout (fault.Tpi inner) has info (inl first) = inl (layout, has, inr (info, first))
+stream_types file layout inner has info (inl first) = absurd first
+stream_types file layout inner has info (inr want) = inr want
+
+-- a file that has type records is refused only when out of memory
+pub records_want_at : {T A : Type 0} (known : Option (List ℕ)) (broken : Bool) (answer : Result T (AtFault (PdbFault A))) → IfKnown known AreBytes → IfErr answer (IfOf (λ e. IfKnown known (λ file. HasRecordsFault file e ⊎ (e ≡ fault.Memory))))
+    → IfErr answer (λ e. e ≡ at.Read → Breaks known broken) → IfErr answer (λ e. IfKnown known (λ file. (records : List (List ℕ)) → HasTypeRecords file records → e ≡ at.Of fault.Memory))
+records_want_at known broken (Ok value) small first read = tt
+records_want_at known broken (Err at.Read) small first read = λ file is records has. let none = (read refl).0 in absurd cc
+records_want_at known broken (Err (at.Of e)) small first read = λ file is records has. elim (first file is) [
+  | inl refused ↦ absurd (records_unrefused file records e (small file is) has refused)
+  | inr want ↦ ap (λ f. at.Of f) want
+]
+
+-- an accepted file is refused only when out of memory
+pub wants_memory_at : {T A : Type 0} (known : Option (List ℕ)) (broken : Bool) (answer : Result T (AtFault (PdbFault A))) → IfErr answer (IfOf (λ e. IfKnown known (λ file. HasPdbFault file e ⊎ (e ≡ fault.Memory))))
+    → IfErr answer (λ e. e ≡ at.Read → Breaks known broken) → IfErr answer (λ e. IfKnown known (λ file. (records : List (List ℕ)) → IsAccepted file records → e ≡ at.Of fault.Memory))
+wants_memory_at known broken (Ok value) first read = tt
+wants_memory_at known broken (Err at.Read) first read = λ file is records has. let none = (read refl).0 in absurd cc
+wants_memory_at known broken (Err (at.Of e)) first read = λ file is records has. elim (first file is) [
+  | inl refused ↦ absurd (accepted_unrefused file records e has refused)
+  | inr want ↦ ap (λ f. at.Of f) want
+]

@@ -56,6 +56,11 @@ HasStreamFault file layout (fault.Stream inner) = (length layout.streams ≤ 2) 
 HasStreamFault file layout (fault.Tpi inner) = (stream : List ℕ) × (stream_contents file layout 2 ≡ Some stream) × IsFirstFault stream inner
 HasStreamFault file layout _ = ⊥
 
+-- this is the fault of the layout
+abbrev pub IsLayoutFault : {A : Type 0} → List ℕ → PdbFault A → Type 0
+IsLayoutFault file (fault.Msf inner) = first_failing (layout_checks file) ≡ Some inner
+IsLayoutFault file _ = ⊥
+
 -- this is the first fault of the file on the way to its type records: a fault of its layout, else of stream 2
 abbrev pub HasRecordsFault : {A : Type 0} → List ℕ → PdbFault A → Type 0
 HasRecordsFault file (fault.Msf inner) = first_failing (layout_checks file) ≡ Some inner

@@ -9,6 +9,8 @@
 //!   stream are consecutive. Otherwise they are lent from a [`Buffer`], which the caller passes. The
 //!   caller may pass the same buffer for the next file, so the gathered streams of two files
 //!   are never in memory at once. [`PdbFault`] is the first fault on the way.
+//! - [`read_records_at`] and [`read_types_at`] read the type records and the types by position: of
+//!   the file only its directory and the blocks of its TPI stream.
 //! - [`merge_to`] merges files: it writes one file with the types of all of them, each once, into
 //!   a sink. [`merge_files`] returns their canonical list, and [`write_merged`] writes the file of
 //!   such a list. [`Merge`] takes files one after the other.
@@ -31,6 +33,7 @@ pub mod laws;
 mod merge;
 mod merged;
 mod read;
+mod read_at;
 mod summary;
 mod written;
 
@@ -40,5 +43,6 @@ pub use files::merge_files;
 pub use merge::Merge;
 pub use merged::merge_to;
 pub use read::{read_records, read_types};
+pub use read_at::{read_records_at, read_types_at};
 pub use summary::Summary;
 pub use written::write_merged;

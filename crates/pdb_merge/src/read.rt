@@ -15,10 +15,10 @@ use tpi_records::Records;
 use type_trees::Types;
 
 /// The stream that identifies a file.
-const INFO_STREAM: u32 = 1;
+pub(crate) const INFO_STREAM: u32 = 1;
 
 /// The stream that holds the type records.
-const TPI_STREAM: u32 = 2;
+pub(crate) const TPI_STREAM: u32 = 2;
 
 /// Reads the header of stream 1. It is in the first piece of the stream, because a block has at
 /// least 512 bytes.

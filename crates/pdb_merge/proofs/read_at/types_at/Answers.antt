@@ -1,0 +1,13 @@
+use Rattle.msf_blocks.proofs.FoundLaws.{layout_holds}
+use Rattle.pdb_merge.proofs.read_at.types_at.Goals as goal
+
+pub returns-in-Ok-clause-value : goal.returns-in-Ok-clause-value
+returns-in-Ok-clause-value g c = λ file known. c.in-Ok.ensures.value file (c.in_ok-records.ensures.value file known)
+
+pub returns-in-Err-clause-first : goal.returns-in-Err-clause-first
+returns-in-Err-clause-first g c = λ file known. c.in-Err.ensures.first file (c.in_ok-records.ensures.value file known)
+
+pub returns-in-Err-clause-memory : goal.returns-in-Err-clause-memory
+returns-in-Err-clause-memory g c = λ is file known.
+    let listed = c.in_ok-records.ensures.value file known in
+    layout_holds file listed.has.layout listed.bytes listed.has.has_layout
