@@ -1,4 +1,5 @@
 pub mod BoundLaws
+pub mod InfoLaws
 pub mod MergeLaws
 pub mod RecordsLaws
 pub mod ShownLaws

@@ -54,6 +54,16 @@ abbrev pub ShowsInfo : List ℕ → List ℕ → Type 0
 ShowsInfo file text =
     (info : InfoView) × HasInfoStream file info × (text ≡ header_lines info.header ++ flat_map name_line info.names ++ flat_map feature_line info.features)
 
+-- this is the text of an info stream with these bytes
+abbrev pub IsInfoText : List ℕ → List ℕ → Type 0
+IsInfoText stream text =
+    (info : InfoView) × HasInfo stream info × (text ≡ header_lines info.header ++ flat_map name_line info.names ++ flat_map feature_line info.features)
+
+-- this is the first fault of an info stream with these bytes
+abbrev pub IsInfoFault : {A : Type 0} → List ℕ → RunFault A → Type 0
+IsInfoFault stream (Info fault) = first_failing (info_checks stream) ≡ Some fault
+IsInfoFault stream _ = ⊥
+
 -- this is the first fault of the file on the way to the bytes of its info stream: a fault of its layout, else that it has no stream 1
 abbrev pub HasNoInfoStream : {A : Type 0} → List ℕ → PdbFault A → Type 0
 HasNoInfoStream file (pdb.Stream fault) = (layout : LayoutView) × HasLayout file layout × (length layout.streams ≤ 1) × (fault ≡ NoStream 1)

@@ -1,8 +1,10 @@
 -- How a command that shows a file answers: it reads the whole file, makes a text from it and prints the text, or is refused.
-use Rattle.std.specs.Prelude.{ℕ, ◌≡◌, ◌<◌, ◌⊎◌, Bool, true, List, length, take, Option, Result, OnOk, IfErr}
+use Rattle.std.specs.Prelude.{ℕ, ◌≡◌, ◌<◌, ◌≤◌, ◌⊎◌, Bool, true, List, length, take, Option, Result, OnOk, IfErr}
 use Rattle.std.specs.Io.KnownBytes.{Appends}
+use Rattle.byte_io.specs.At.{Breaks, IfKnown}
 use Rattle.byte_io.specs.Input.{GivesAll, IsNotRead, HasGiven}
 use Rattle.byte_io.specs.declared.input.ReadFault.{ReadFault}
+use Rattle.byte_io.specs.declared.input.ReadFault.TheVariants as reads
 use Rattle.pdb_commands.specs.declared.fault.RunFault.{RunFault}
 use Rattle.pdb_commands.specs.declared.fault.RunFault.TheVariants.{Read, Memory, Write}
 
@@ -46,4 +48,31 @@ pub record Answers {A W T : Type 0} (Shows : List ℕ → List ℕ → Type 0) (
   pub first : IfErr result (IfOfFile (GivesRefused Refuses limit left_before left_after))
   pub memory : IfErr result (λ fault. fault ≡ Memory → HasGiven left_before left_after limit)
   pub write : IfErr result (λ fault. fault ≡ Write → (is_broken after ≡ true) × PrintsPart Shows limit left_before left_after (taken before) (taken after))
+  pub untouched : IfErr result (λ fault. (fault ≡ Write) ⊎ (after ≡ before))
+
+-- ---- a file that is read by position
+
+-- the sink took the text that shows the file, which is at most `limit` bytes long
+abbrev pub PrintsAt : (List ℕ → List ℕ → Type 0) → ℕ → List ℕ → Option (List ℕ) → Option (List ℕ) → Type 0
+PrintsAt Shows limit file taken_before taken_after = (text : List ℕ) × (length file ≤ limit) × Shows file text × Appends taken_before taken_after text
+
+-- the sink took the first bytes of the text that shows the file, but not all of them
+abbrev pub PrintsPartAt : (List ℕ → List ℕ → Type 0) → ℕ → List ℕ → Option (List ℕ) → Option (List ℕ) → Type 0
+PrintsPartAt Shows limit file taken_before taken_after =
+    (text : List ℕ) × (count : ℕ) × (length file ≤ limit) × Shows file text × (count < length text) × Appends taken_before taken_after (take count text)
+
+-- this is why a file is not read: a read failed, or the file has more bytes than the limit allows
+abbrev pub IsNotReadAt : Option (List ℕ) → Bool → ℕ → ReadFault → Type 0
+IsNotReadAt known broken limit reads.Read = Breaks known broken
+IsNotReadAt known broken limit reads.TooLong = IfKnown known (λ file. limit < length file)
+IsNotReadAt known broken limit reads.Memory = ⊥
+
+-- how a command answers that reads by position: where the bytes of the file are known, it prints what shows the file, or is refused by its length or by its first fault; memory runs out only where its length is within the limit; a sink that breaks took the first bytes of the text, and after any other refusal it is as it was
+pub record AnswersAt {A W T : Type 0} (Shows : List ℕ → List ℕ → Type 0) (Refuses : List ℕ → RunFault A → Type 0) (limit : ℕ) (known : Option (List ℕ)) (broken : Bool)
+    (taken : W → Option (List ℕ)) (is_broken : W → Bool) (before after : W) (result : Result T (RunFault A)) : Type 0 where
+  pub value : OnOk result (IfKnown known (λ file. PrintsAt Shows limit file (taken before) (taken after)))
+  pub read : IfErr result (IfRead (IsNotReadAt known broken limit))
+  pub first : IfErr result (IfOfFile (λ fault. IfKnown known (λ file. Refuses file fault)))
+  pub memory : IfErr result (λ fault. fault ≡ Memory → IfKnown known (λ file. length file ≤ limit))
+  pub write : IfErr result (λ fault. fault ≡ Write → (is_broken after ≡ true) × IfKnown known (λ file. PrintsPartAt Shows limit file (taken before) (taken after)))
   pub untouched : IfErr result (λ fault. (fault ≡ Write) ⊎ (after ≡ before))

@@ -1,15 +1,17 @@
 //! The command `check`: whether the types of a file can be trusted.
 
-ghost use Rattle.std.specs.Prelude.{◌≡◌, ◌⊎◌, ◌++◌, true, OnOk, IfErr, string_bytes};
+ghost use Rattle.std.specs.Prelude.{◌≡◌, ◌⊎◌, ◌++◌, true, ℕ, List, OnOk, IfOk, IfErr, string_bytes};
 ghost use Rattle.pdb_commands.specs.Check.{ShowsChecked, HasNoAccepted, checked_lines};
-ghost use Rattle.pdb_commands.specs.Show.{Answers};
+ghost use Rattle.pdb_commands.specs.Show.{Answers, AnswersAt};
+ghost use Rattle.pdb_merge.specs.Read.{IsAccepted};
 
 use crate::fault::RunFault;
-use crate::show::{Show, run};
+use crate::show::{Show, ShowAt, run, run_at};
 use crate::text::push_named;
-use byte_io::{Sink, Source};
-use pdb_merge::{Buffer, read_types};
+use byte_io::{AtFault, ReadAt, Sink, Source};
+use pdb_merge::{Buffer, read_types, read_types_at};
 use std::alloc::{AllocError, Allocator};
+use type_trees::Types;
 
 /// Appends `accepted`, then the number of records, of bytes and of levels, one per line.
 #[tactic(auto, unfolding(crate::specs::Check::checked_lines))]
@@ -28,6 +30,21 @@ fn push_checked<A: Allocator>(
     Ok(())
 }
 
+/// The text of types.
+fn types_text<A: Allocator + Copy>(alloc: A, types: &Types<'_, A>) -> Result<String<A>, RunFault<A>>
+    ensures value { IfOk result (λ text. (file : List ℕ) → IsAccepted file types.now → ShowsChecked file (string_bytes text)) }
+    ensures memory { IfErr result (λ fault. fault ≡ RunFault.Memory) }
+{
+    let mut text = String::new(alloc);
+    push_checked(
+        &mut text,
+        types.len() as u32,
+        types.bytes_len(),
+        types.levels(),
+    )?;
+    Ok(text)
+}
+
 /// The command `check`.
 #[derive(Clone, Copy, Debug)]
 pub(crate) struct Check;
@@ -40,14 +57,23 @@ impl<A: Allocator + Copy> Show<A> for Check {
     fn text(&self, alloc: A, file: &[u8]) -> Result<String<A>, RunFault<A>> {
         let mut buffer = Buffer::new(alloc);
         let types = read_types(alloc, file, &mut buffer)?;
-        let mut text = String::new(alloc);
-        push_checked(
-            &mut text,
-            types.len() as u32,
-            types.bytes_len(),
-            types.levels(),
-        )?;
-        Ok(text)
+        types_text(alloc, &types)
+    }
+}
+
+impl<A: Allocator + Copy> ShowAt<A> for Check {
+    fn text_at<R: ReadAt>(
+        &self,
+        alloc: A,
+        input: &mut R,
+    ) -> Result<String<A>, AtFault<RunFault<A>>> {
+        let mut buffer = Buffer::new(alloc);
+        let types = match read_types_at(alloc, input, &mut buffer) {
+            Ok(types) => types,
+            Err(AtFault::Of(fault)) => return Err(AtFault::Of(RunFault::from(fault))),
+            Err(AtFault::Read) => return Err(AtFault::Read),
+        };
+        Ok(types_text(alloc, &types)?)
     }
 }
 
@@ -70,4 +96,20 @@ pub fn run_check<R: Source, W: Sink, A: Allocator + Copy>(
     ensures { Answers ShowsChecked HasNoAccepted limit (R.left input.old) (R.left input.new) (R.is_broken input.new) W.taken W.is_broken out.old out.new result }
 {
     run(alloc, &Check, input, limit, out)
+}
+
+/// Runs the command `check` by position: of the file only the superblock, the block map, the
+/// directory and the blocks of stream 2 are read.
+///
+/// The faults are those of [`run_check`], in the same order, but for reading: `TooLong` comes
+/// first, by the length of the file, and `Read` where a read that is needed fails.
+pub fn run_check_at<R: ReadAt, W: Sink, A: Allocator + Copy>(
+    alloc: A,
+    input: &mut R,
+    limit: u32,
+    out: &mut W,
+) -> Result<(), RunFault<A>>
+    ensures { AnswersAt ShowsChecked HasNoAccepted limit (R.bytes input.old) (R.is_broken input.new) W.taken W.is_broken out.old out.new result }
+{
+    run_at(alloc, &Check, input, limit, out)
 }

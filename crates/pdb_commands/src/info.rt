@@ -2,19 +2,21 @@
 
 ghost use Rattle.std.specs.Prelude.{◌≡◌, ◌⊎◌, ◌++◌, map, Some, true, OnOk, IfOk, IfErr, string_bytes};
 ghost use Rattle.std.specs.List.{flat_map};
+ghost use Rattle.byte_io.specs.At.{Breaks, IfKnown, IfOf};
 ghost use Rattle.msf_blocks.specs.Layout.{LayoutView, HasLayout};
 ghost use Rattle.msf_streams.specs.Streams.{stream_contents};
 ghost use Rattle.pdb_info.specs.Name.{named};
-ghost use Rattle.pdb_commands.specs.Show.{Answers};
-ghost use Rattle.pdb_commands.specs.Info.{ShowsInfo, HasNoInfo, HasNoInfoStream, signature_line, guid_line, header_lines, name_line, feature_line};
+ghost use Rattle.pdb_commands.specs.Show.{Answers, AnswersAt};
+ghost use Rattle.pdb_commands.specs.Info.{ShowsInfo, HasNoInfo, HasNoInfoStream, IsInfoFault, IsInfoText, signature_line, guid_line, header_lines, name_line, feature_line};
 
 use crate::bound::INFO_STREAM;
 use crate::fault::RunFault;
-use crate::show::{Show, run};
+use crate::show::{Show, ShowAt, run, run_at};
 use crate::streams::read_layout;
 use crate::text::{push_index, push_named, push_quoted};
-use byte_io::{Sink, Source};
-use msf_streams::contents;
+use byte_io::{AtFault, ReadAt, Sink, Source};
+use msf_blocks::Layout;
+use msf_streams::{contents, gather_at};
 use pdb_info::{InfoHeader, Name};
 use pdb_merge::PdbFault;
 use std::alloc::{AllocError, Allocator};
@@ -110,6 +112,44 @@ fn info_stream<'a, A: Allocator + Copy>(
     Ok(contents(alloc, file, &layout, INFO_STREAM, buffer)?)
 }
 
+/// Reads stream 1 of a file by position into the buffer.
+fn info_stream_at<R: ReadAt, A: Allocator + Copy>(
+    alloc: A,
+    input: &mut R,
+    buffer: &mut Vec<u8, A>,
+) -> Result<(), AtFault<PdbFault<A>>>
+    ensures value { OnOk result (IfKnown (R.bytes input.old) (λ file. (layout : LayoutView) × HasLayout file layout × (stream_contents file layout 1 ≡ Some buffer.new.items))) }
+    ensures first { IfErr result (IfOf (λ fault. IfKnown (R.bytes input.old) (λ file. HasNoInfoStream file fault ⊎ (fault ≡ PdbFault.Memory)))) }
+    ensures read { IfErr result (λ fault. fault ≡ AtFault.Read → Breaks (R.bytes input.old) (R.is_broken input.new)) }
+{
+    let layout = match Layout::read_at(alloc, input) {
+        Ok(layout) => layout,
+        Err(AtFault::Of(fault)) => return Err(AtFault::Of(PdbFault::from(fault))),
+        Err(AtFault::Read) => return Err(AtFault::Read),
+    };
+    match gather_at(input, &layout, INFO_STREAM, buffer) {
+        Ok(()) => Ok(()),
+        Err(AtFault::Of(fault)) => Err(AtFault::Of(PdbFault::from(fault))),
+        Err(AtFault::Read) => Err(AtFault::Read),
+    }
+}
+
+/// The text of the bytes of an info stream.
+fn stream_text<A: Allocator + Copy>(alloc: A, stream: &[u8]) -> Result<String<A>, RunFault<A>>
+    ensures value { IfOk result (λ text. IsInfoText stream.now (string_bytes text)) }
+    ensures first { IfErr result (λ fault. IsInfoFault stream.now fault ⊎ (fault ≡ RunFault.Memory)) }
+{
+    let info = pdb_info::Info::read(alloc, stream)?;
+    let mut text = String::new(alloc);
+    // Names may share their bytes, and have far more together than the file. So the space for
+    // them is asked for before any of them is copied.
+    text.reserve(names_length(info.names()))?;
+    push_header(&mut text, info.header())?;
+    push_names(&mut text, info.names())?;
+    push_features(&mut text, info.features())?;
+    Ok(text)
+}
+
 /// The command `info`.
 #[derive(Clone, Copy, Debug)]
 pub(crate) struct Info;
@@ -122,14 +162,24 @@ impl<A: Allocator + Copy> Show<A> for Info {
     fn text(&self, alloc: A, file: &[u8]) -> Result<String<A>, RunFault<A>> {
         let mut buffer = Vec::new(alloc);
         let stream = info_stream(alloc, file, &mut buffer)?;
-        let info = pdb_info::Info::read(alloc, stream)?;
-        let mut text = String::new(alloc);
-        // Names may share their bytes, and have far more together than the file. So the space for
-        // them is asked for before any of them is copied.
-        text.reserve(names_length(info.names()))?;
-        push_header(&mut text, info.header())?;
-        push_names(&mut text, info.names())?;
-        push_features(&mut text, info.features())?;
+        let text = stream_text(alloc, stream)?;
+        Ok(text)
+    }
+}
+
+impl<A: Allocator + Copy> ShowAt<A> for Info {
+    fn text_at<R: ReadAt>(
+        &self,
+        alloc: A,
+        input: &mut R,
+    ) -> Result<String<A>, AtFault<RunFault<A>>> {
+        let mut buffer = Vec::new(alloc);
+        match info_stream_at(alloc, input, &mut buffer) {
+            Ok(()) => {}
+            Err(AtFault::Of(fault)) => return Err(AtFault::Of(RunFault::from(fault))),
+            Err(AtFault::Read) => return Err(AtFault::Read),
+        }
+        let text = stream_text(alloc, &buffer)?;
         Ok(text)
     }
 }
@@ -152,4 +202,20 @@ pub fn run_info<R: Source, W: Sink, A: Allocator + Copy>(
     ensures { Answers ShowsInfo HasNoInfo limit (R.left input.old) (R.left input.new) (R.is_broken input.new) W.taken W.is_broken out.old out.new result }
 {
     run(alloc, &Info, input, limit, out)
+}
+
+/// Runs the command `info` by position: of the file only the superblock, the block map, the
+/// directory and the blocks of stream 1 are read.
+///
+/// The faults are those of [`run_info`], in the same order, but for reading: `TooLong` comes
+/// first, by the length of the file, and `Read` where a read that is needed fails.
+pub fn run_info_at<R: ReadAt, W: Sink, A: Allocator + Copy>(
+    alloc: A,
+    input: &mut R,
+    limit: u32,
+    out: &mut W,
+) -> Result<(), RunFault<A>>
+    ensures { AnswersAt ShowsInfo HasNoInfo limit (R.bytes input.old) (R.is_broken input.new) W.taken W.is_broken out.old out.new result }
+{
+    run_at(alloc, &Info, input, limit, out)
 }

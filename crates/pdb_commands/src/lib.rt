@@ -5,12 +5,13 @@
 //! end, makes its whole text, and then writes it into a [`Sink`](msf_blocks::Sink). [`run_merge`]
 //! writes one file with the types of several files, and a report on it. Each refusal is a
 //! [`RunFault`]. [`run_shown`] runs any command that shows a file, with a limit on the stream that it
-//! reads, and [`check_type_stream`] is that limit.
+//! reads, and [`check_type_stream`] is that limit. [`run_records_at`], [`run_record_at`],
+//! [`run_types_at`], [`run_check_at`] and [`run_info_at`] read by position, and only what they need.
 //!
 //! What is proved of the commands that show a file: the text that is written is the text of the
 //! file (`Shows..` of `specs/`), byte for byte. A refusal is the first fault of reading or of the
 //! file. After `36 Write` the sink is broken and took the first bytes of the text. After any other
-//! refusal nothing was written.
+//! refusal nothing was written. By position this holds of files whose bytes are known, as slices.
 //!
 //! The module `show` runs the commands that show a file. Each command has a module of its own.
 //! `text` prints numbers and names.
@@ -32,12 +33,12 @@ mod text;
 mod types;
 
 pub use bound::check_type_stream;
-pub use check::run_check;
+pub use check::{run_check, run_check_at};
 pub use fault::RunFault;
-pub use info::run_info;
+pub use info::{run_info, run_info_at};
 pub use merge::run_merge;
-pub use record::run_record;
-pub use records::run_records;
+pub use record::{run_record, run_record_at};
+pub use records::{run_records, run_records_at};
 pub use shown::{Shown, run_shown};
 pub use streams::run_streams;
-pub use types::run_types;
+pub use types::{run_types, run_types_at};

@@ -5,14 +5,15 @@ ghost use Rattle.std.specs.List.{flat_map};
 ghost use Rattle.cv_leaves.specs.Place.{HasPlaces, IsChecked};
 ghost use Rattle.cv_leaves.specs.Name.{name_of};
 ghost use Rattle.pdb_commands.specs.Record.{ShowsRecord, HasNoRecord, record_of, bytes_line, place_line, name_lines};
-ghost use Rattle.pdb_commands.specs.Show.{Answers};
+ghost use Rattle.pdb_commands.specs.Show.{Answers, AnswersAt, IsOfText};
+ghost use Rattle.pdb_merge.specs.Read.{HasTypeRecords};
 
 use crate::fault::RunFault;
-use crate::show::{Show, run};
+use crate::show::{Show, ShowAt, run, run_at};
 use crate::text::{push_index, push_quoted};
-use byte_io::{Sink, Source};
+use byte_io::{AtFault, ReadAt, Sink, Source};
 use cv_leaves::{check, places, ref_at, type_name};
-use pdb_merge::{Buffer, read_records};
+use pdb_merge::{Buffer, read_records, read_records_at};
 use std::alloc::{AllocError, Allocator};
 use tpi_records::{FIRST_INDEX, Records};
 
@@ -95,6 +96,25 @@ fn record_text<A: Allocator + Copy>(alloc: A, bytes: &[u8]) -> Result<String<A>,
     Ok(text)
 }
 
+/// The text of the record that has a type index.
+fn indexed_text<A: Allocator + Copy>(
+    alloc: A,
+    records: &Records<'_, A>,
+    index: u32,
+) -> Result<String<A>, RunFault<A>>
+    ensures value { IfOk result (λ text. (file : List ℕ) → HasTypeRecords file records.now → ShowsRecord index file (string_bytes text)) }
+    ensures first { IfErr result (λ fault. (file : List ℕ) → HasTypeRecords file records.now → HasNoRecord index file fault ⊎ (fault ≡ RunFault.Memory)) }
+    ensures pure { IfErr result IsOfText }
+{
+    let Some(bytes) = record_of(records, index) else {
+        return Err(RunFault::NoRecord(index));
+    };
+    if let Err(fault) = check(bytes) {
+        return Err(RunFault::Leaf { index, fault });
+    }
+    Ok(record_text(alloc, bytes)?)
+}
+
 /// The command `record`.
 #[derive(Clone, Copy, Debug)]
 pub(crate) struct Record {
@@ -107,16 +127,28 @@ impl<A: Allocator + Copy> Show<A> for Record {
     ghost refuses = { λ c. HasNoRecord c.index };
 
     fn text(&self, alloc: A, file: &[u8]) -> Result<String<A>, RunFault<A>> {
-        let index = self.index;
         let mut buffer = Buffer::new(alloc);
         let records = read_records(alloc, file, &mut buffer)?;
-        let Some(bytes) = record_of(&records, index) else {
-            return Err(RunFault::NoRecord(index));
+        indexed_text(alloc, &records, self.index)
+    }
+}
+
+impl<A: Allocator + Copy> ShowAt<A> for Record {
+    fn text_at<R: ReadAt>(
+        &self,
+        alloc: A,
+        input: &mut R,
+    ) -> Result<String<A>, AtFault<RunFault<A>>> {
+        let mut buffer = Buffer::new(alloc);
+        let records = match read_records_at(alloc, input, &mut buffer) {
+            Ok(records) => records,
+            Err(AtFault::Of(fault)) => return Err(AtFault::Of(RunFault::from(fault))),
+            Err(AtFault::Read) => return Err(AtFault::Read),
         };
-        if let Err(fault) = check(bytes) {
-            return Err(RunFault::Leaf { index, fault });
+        match indexed_text(alloc, &records, self.index) {
+            Ok(text) => Ok(text),
+            Err(fault) => Err(AtFault::Of(fault)),
         }
-        Ok(record_text(alloc, bytes)?)
     }
 }
 
@@ -140,4 +172,21 @@ pub fn run_record<R: Source, W: Sink, A: Allocator + Copy>(
     ensures { Answers (ShowsRecord index) (HasNoRecord index) limit (R.left input.old) (R.left input.new) (R.is_broken input.new) W.taken W.is_broken out.old out.new result }
 {
     run(alloc, &Record { index }, input, limit, out)
+}
+
+/// Runs the command `record` by position: of the file only the superblock, the block map, the
+/// directory and the blocks of stream 2 are read.
+///
+/// The faults are those of [`run_record`], in the same order, but for reading: `TooLong` comes
+/// first, by the length of the file, and `Read` where a read that is needed fails.
+pub fn run_record_at<R: ReadAt, W: Sink, A: Allocator + Copy>(
+    alloc: A,
+    input: &mut R,
+    limit: u32,
+    index: u32,
+    out: &mut W,
+) -> Result<(), RunFault<A>>
+    ensures { AnswersAt (ShowsRecord index) (HasNoRecord index) limit (R.bytes input.old) (R.is_broken input.new) W.taken W.is_broken out.old out.new result }
+{
+    run_at(alloc, &Record { index }, input, limit, out)
 }

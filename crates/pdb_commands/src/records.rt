@@ -3,14 +3,14 @@
 ghost use Rattle.std.specs.Prelude.{◌≡◌, ◌⊎◌, ◌++◌, true, OnOk, IfOk, IfErr, string_bytes};
 ghost use Rattle.tpi_records.specs.Records.{IsRecord};
 ghost use Rattle.pdb_commands.specs.Records.{ShowsRecords, HasNoTypeRecords, record_line, record_lines};
-ghost use Rattle.pdb_commands.specs.Show.{Answers};
+ghost use Rattle.pdb_commands.specs.Show.{Answers, AnswersAt};
 
 use crate::fault::RunFault;
-use crate::show::{Show, run};
+use crate::show::{Show, ShowAt, run, run_at};
 use crate::text::{push_index, push_kind};
-use byte_io::{Sink, Source};
+use byte_io::{AtFault, ReadAt, Sink, Source};
 use cv_leaves::kind_of;
-use pdb_merge::{Buffer, read_records};
+use pdb_merge::{Buffer, read_records, read_records_at};
 use std::alloc::{AllocError, Allocator};
 use tpi_records::FIRST_INDEX;
 
@@ -64,6 +64,25 @@ impl<A: Allocator + Copy> Show<A> for Records {
     }
 }
 
+impl<A: Allocator + Copy> ShowAt<A> for Records {
+    fn text_at<R: ReadAt>(
+        &self,
+        alloc: A,
+        input: &mut R,
+    ) -> Result<String<A>, AtFault<RunFault<A>>> {
+        let mut buffer = Buffer::new(alloc);
+        let records = match read_records_at(alloc, input, &mut buffer) {
+            Ok(records) => records,
+            Err(AtFault::Of(fault)) => return Err(AtFault::Of(RunFault::from(fault))),
+            Err(AtFault::Read) => return Err(AtFault::Read),
+        };
+        match record_lines(alloc, &records) {
+            Ok(text) => Ok(text),
+            Err(_) => Err(AtFault::Of(RunFault::Memory)),
+        }
+    }
+}
+
 /// Runs the command `records`: writes a line for each type record, with its type index, its kind
 /// and its size in bytes. The size includes the length field.
 ///
@@ -81,4 +100,20 @@ pub fn run_records<R: Source, W: Sink, A: Allocator + Copy>(
     ensures { Answers ShowsRecords HasNoTypeRecords limit (R.left input.old) (R.left input.new) (R.is_broken input.new) W.taken W.is_broken out.old out.new result }
 {
     run(alloc, &Records, input, limit, out)
+}
+
+/// Runs the command `records` by position: of the file only the superblock, the block map, the
+/// directory and the blocks of stream 2 are read.
+///
+/// The faults are those of [`run_records`], in the same order, but for reading: `TooLong` comes
+/// first, by the length of the file, and `Read` where a read that is needed fails.
+pub fn run_records_at<R: ReadAt, W: Sink, A: Allocator + Copy>(
+    alloc: A,
+    input: &mut R,
+    limit: u32,
+    out: &mut W,
+) -> Result<(), RunFault<A>>
+    ensures { AnswersAt ShowsRecords HasNoTypeRecords limit (R.bytes input.old) (R.is_broken input.new) W.taken W.is_broken out.old out.new result }
+{
+    run_at(alloc, &Records, input, limit, out)
 }

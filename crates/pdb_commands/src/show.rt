@@ -1,11 +1,12 @@
 //! How a command that shows a file runs.
 
 ghost use Rattle.std.specs.Prelude.{◌≡◌, ◌⊎◌, ℕ, List, true, OnOk, IfOk, IfErr, string_bytes};
-ghost use Rattle.pdb_commands.specs.Show.{Answers, IsOfText};
+ghost use Rattle.byte_io.specs.At.{Breaks, IfKnown, IfOf};
+ghost use Rattle.pdb_commands.specs.Show.{Answers, AnswersAt, IsOfText};
 ghost use Rattle.pdb_commands.specs.declared.fault.RunFault.{RunFault};
 
 use crate::fault::RunFault;
-use byte_io::{Sink, Source, put_all, read_all};
+use byte_io::{AtFault, ReadAt, ReadFault, Sink, Source, put_all, read_all};
 use std::alloc::Allocator;
 
 /// A command that shows a file: it makes a text from the file's bytes.
@@ -22,6 +23,44 @@ pub trait Show<A: Allocator + Copy> {
         ensures first { IfErr result (λ fault. refuses self.now file.now fault ⊎ (fault ≡ RunFault.Memory)) }
         // This neither reads nor writes, so it has no fault of reading or of writing.
         ensures pure { IfErr result IsOfText };
+}
+
+/// A command that shows a file, and reads by position only the parts of it that it needs.
+pub trait ShowAt<A: Allocator + Copy>: Show<A> {
+    /// Makes the whole text.
+    fn text_at<R: ReadAt>(&self, alloc: A, input: &mut R) -> Result<String<A>, AtFault<RunFault<A>>>
+        ensures value { IfOk result (λ text. IfKnown (R.bytes input.old) (λ file. Self.shows self.now file (string_bytes text))) }
+        ensures first { IfErr result (IfOf (λ fault. IfKnown (R.bytes input.old) (λ file. Self.refuses self.now file fault ⊎ (fault ≡ RunFault.Memory)))) }
+        ensures pure { IfErr result (IfOf IsOfText) }
+        ensures read { IfErr result (λ fault. fault ≡ AtFault.Read → Breaks (R.bytes input.old) (R.is_broken input.new)) };
+}
+
+/// Runs a command by position: reads what it needs of the input, makes the whole text, then writes
+/// the text.
+///
+/// `limit` is the greatest number of bytes that the input may have. The faults come in this order:
+/// `TooLong`; those of the command for this file, and `Read` where a read failed; and `Write`, where
+/// the sink did not take the whole text. Only after `Write` has the sink taken anything. It is
+/// broken then, and it has the first bytes of the text.
+pub fn run_at<C: ShowAt<A>, R: ReadAt, W: Sink, A: Allocator + Copy>(
+    alloc: A,
+    command: &C,
+    input: &mut R,
+    limit: u32,
+    out: &mut W,
+) -> Result<(), RunFault<A>>
+    ensures { AnswersAt (C.shows command.now) (C.refuses command.now) limit (R.bytes input.old) (R.is_broken input.new) W.taken W.is_broken out.old out.new result }
+{
+    if u64::from(limit) < input.len() {
+        return Err(RunFault::Read(ReadFault::TooLong));
+    }
+    let text = match command.text_at(alloc, input) {
+        Ok(text) => text,
+        Err(AtFault::Of(fault)) => return Err(fault),
+        Err(AtFault::Read) => return Err(RunFault::Read(ReadFault::Read)),
+    };
+    put_all(out, text.as_bytes())?;
+    Ok(())
 }
 
 /// Runs a command: reads the whole input, makes the whole text, then writes the text.

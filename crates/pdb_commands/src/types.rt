@@ -9,16 +9,16 @@ ghost use Rattle.cv_leaves.specs.Checks.{record_checks};
 ghost use Rattle.cv_leaves.specs.Place.{HasPlaces, IsChecked};
 ghost use Rattle.cv_leaves.specs.Name.{name_of};
 ghost use Rattle.cv_leaves.specs.declared.fault.LeafFault.{LeafFault};
-ghost use Rattle.pdb_commands.specs.Show.{Answers};
+ghost use Rattle.pdb_commands.specs.Show.{Answers, AnswersAt};
 ghost use Rattle.pdb_commands.specs.Text.{index_text};
 ghost use Rattle.pdb_commands.specs.Types.{ShowsTypes, HasNoTypes, AreTypeLines, HasLeafFault, type_line, reference, quoted_name, leaf_name};
 
 use crate::fault::RunFault;
-use crate::show::{Show, run};
+use crate::show::{Show, ShowAt, run, run_at};
 use crate::text::{push_index, push_quoted};
-use byte_io::{Sink, Source};
+use byte_io::{AtFault, ReadAt, Sink, Source};
 use cv_leaves::{check, kind_of, leaf_text, places, ref_at, type_name};
-use pdb_merge::{Buffer, read_records};
+use pdb_merge::{Buffer, read_records, read_records_at};
 use std::alloc::{AllocError, Allocator};
 use tpi_records::{FIRST_INDEX, Records};
 
@@ -148,6 +148,25 @@ impl<A: Allocator + Copy> Show<A> for Types {
     }
 }
 
+impl<A: Allocator + Copy> ShowAt<A> for Types {
+    fn text_at<R: ReadAt>(
+        &self,
+        alloc: A,
+        input: &mut R,
+    ) -> Result<String<A>, AtFault<RunFault<A>>> {
+        let mut buffer = Buffer::new(alloc);
+        let records = match read_records_at(alloc, input, &mut buffer) {
+            Ok(records) => records,
+            Err(AtFault::Of(fault)) => return Err(AtFault::Of(RunFault::from(fault))),
+            Err(AtFault::Read) => return Err(AtFault::Read),
+        };
+        match type_lines(alloc, &records) {
+            Ok(text) => Ok(text),
+            Err(fault) => Err(AtFault::Of(fault)),
+        }
+    }
+}
+
 /// Runs the command `types`: writes a line for each type record. The line has the record's type
 /// index, the name of its leaf, its size in bytes, the type indices that it names, in the order of
 /// their places, and its name in quotes, where it has one.
@@ -166,4 +185,20 @@ pub fn run_types<R: Source, W: Sink, A: Allocator + Copy>(
     ensures { Answers ShowsTypes HasNoTypes limit (R.left input.old) (R.left input.new) (R.is_broken input.new) W.taken W.is_broken out.old out.new result }
 {
     run(alloc, &Types, input, limit, out)
+}
+
+/// Runs the command `types` by position: of the file only the superblock, the block map, the
+/// directory and the blocks of stream 2 are read.
+///
+/// The faults are those of [`run_types`], in the same order, but for reading: `TooLong` comes
+/// first, by the length of the file, and `Read` where a read that is needed fails.
+pub fn run_types_at<R: ReadAt, W: Sink, A: Allocator + Copy>(
+    alloc: A,
+    input: &mut R,
+    limit: u32,
+    out: &mut W,
+) -> Result<(), RunFault<A>>
+    ensures { AnswersAt ShowsTypes HasNoTypes limit (R.bytes input.old) (R.is_broken input.new) W.taken W.is_broken out.old out.new result }
+{
+    run_at(alloc, &Types, input, limit, out)
 }
