@@ -11,4 +11,6 @@ mod examples;
 #[cfg(test)]
 mod orders;
 #[cfg(test)]
+mod positions;
+#[cfg(test)]
 mod reading;

@@ -11,6 +11,8 @@ mod images;
 #[cfg(test)]
 mod leaves;
 #[cfg(test)]
+mod positions;
+#[cfg(test)]
 mod settings;
 #[cfg(test)]
 mod streams;

@@ -6,6 +6,7 @@
 //! - [`refusals`] makes a try on heaps of increasing size, and on heaps of which one allocation
 //!   fails.
 //! - [`Narrow`] is a sink with little room. [`Dripping`] is a source that gives one byte a call.
+//!   [`Positions`] is a file of which one read by position fails.
 //! - [`folding`] is a good hasher. For [`Constant`] all texts have one hash.
 //!
 //! Shipped crates use this one only in their tests.
@@ -17,6 +18,7 @@ mod growth;
 mod hashers;
 mod images;
 mod narrow;
+mod positions;
 mod records;
 
 pub use dripping::Dripping;
@@ -25,6 +27,7 @@ pub use growth::{Refusal, TestHeap, refusals, refusals_amid};
 pub use hashers::{Constant, folding};
 pub use images::{GUID, LIMIT, pdb, pdb_with, settings};
 pub use narrow::Narrow;
+pub use positions::Positions;
 pub use records::{
     CONST, DECLARATION, DEFINITION, LIST, LIST_BEFORE_FIRST, LIST_BEFORE_SECOND, MEMBER_OF_FIRST,
     MEMBER_OF_SECOND, MEMBERS, NO_MEMBER, TO_FIFTH, TO_FIRST, TO_FOURTH, TO_INT, TO_SECOND,
