@@ -33,11 +33,15 @@ pub trait ReadAt {
     /// All the bytes, where they are known.
     ghost bytes: { Self → Option (List ℕ) };
 
+    /// How many bytes it says that it has.
+    ghost told: { Self → ℕ };
+
     /// Whether a read failed.
     ghost is_broken: { Self → Bool };
 
-    /// How many bytes there are.
+    /// How many bytes there are. Where the bytes are not known, this is what is said of them.
     fn len(&self) -> u64
+        ensures told { result ≡ told self.now }
         ensures value { IfKnown (bytes self.now) (λ file. result ≡ length file) }
         ensures small { IfKnown (bytes self.now) (λ file. (i : ℕ) → get_or file i 0 < 256) };
 
@@ -87,6 +91,8 @@ fn slice_len(bytes: &[u8]) -> u64
 impl<'a> ReadAt for &'a [u8] {
     ghost bytes = { λ s. Some s.now };
 
+    ghost told = { λ s. length s.now };
+
     ghost is_broken = { λ _. false };
 
     fn len(&self) -> u64 {
@@ -111,9 +117,10 @@ pub struct Seeking<F> {
 }
 
 impl<F: Read + Seek> Seeking<F> {
-    /// A file that has this many bytes. It is not broken.
+    /// A file that is said to have this many bytes. It is not broken.
     pub fn new(file: F, len: u64) -> Seeking<F>
-        ensures { ⟦<Seeking<F> as ReadAt>⟧.is_broken result ≡ false }
+        ensures told { ⟦<Seeking<F> as ReadAt>⟧.told result ≡ len }
+        ensures whole { ⟦<Seeking<F> as ReadAt>⟧.is_broken result ≡ false }
     {
         Seeking {
             file,
@@ -125,6 +132,8 @@ impl<F: Read + Seek> Seeking<F> {
 
 impl<F: Read + Seek> ReadAt for Seeking<F> {
     ghost bytes = { λ _. None };
+
+    ghost told = { λ s. s.len };
 
     ghost is_broken = { λ s. s.broken };
 

@@ -1,6 +1,6 @@
 //! A file that is read by position.
 
-ghost use Rattle.std.specs.Prelude.{None};
+ghost use Rattle.std.specs.Prelude.{None, length};
 
 use byte_io::ReadAt;
 
@@ -34,6 +34,8 @@ impl<'a> Positions<'a> {
 
 impl ReadAt for Positions<'_> {
     ghost bytes = { λ _. None };
+
+    ghost told = { λ s. length s.bytes.now };
 
     ghost is_broken = { λ s. s.broken };
 
