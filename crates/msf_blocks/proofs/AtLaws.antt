@@ -1,5 +1,5 @@
 -- What is read by position, of a file that may be known.
-use Rattle.std.proofs.Common.{◌≡◌, ◌++◌, ℕ, ◌+◌, ◌*◌, ◌/◌, ◌%◌, ◌<◌, ◌≤◌, min, map, true, false, Bool, List, Option, Some, None, length, take, drop, get_or, ap, ◌∙◌, refl, sym, arith}
+use Rattle.std.proofs.Common.{◌≡◌, ℕ, zero, suc, ◌+◌, ◌*◌, ◌/◌, ◌%◌, ◌<◌, ◌≤◌, map, true, false, Bool, List, Option, Some, None, length, take, drop, get_or, ap, ◌∙◌, refl, sym, arith}
 use Rattle.std.proofs.lemmas.List.{take-take, get_or-take, get_or-drop, length-take}
 use Rattle.std.proofs.lemmas.List.FromFn.{get_or-map-range_with_len, length-map-range_with_len}
 use Rattle.std.specs.List.{starts_with, range_with_len}
@@ -7,14 +7,13 @@ use Rattle.std.specs.Prelude.{nat_le, nat_eq, IfSome}
 use Rattle.std.proofs.lemmas.Bool.Decides.{nat_tests}
 use Rattle.std.proofs.lemmas.Nat.{mul-le}
 use Rattle.byte_fields.specs.Number.{number_at, nth_u32}
-use Rattle.byte_fields.specs.Check.{first_failing}
+use Rattle.byte_fields.specs.Check.{Check, checks_below, first_failing}
 use Rattle.byte_io.specs.At.{StandsAt}
 use Rattle.msf_blocks.specs.BlockNumber.{IsBlockSize}
 use Rattle.msf_blocks.specs.Blocks.{AreInside, in_blocks}
-use Rattle.msf_blocks.specs.Directory.{IsReadable, map_number, directory_blocks, directory_block_checks, directory_contents, length_checks, list_start, map_numbers, block_len, block_of_directory}
+use Rattle.msf_blocks.specs.Directory.{map_number, map_numbers, number_check, number_checks, directory_blocks, directory_block_check, directory_block_checks, directory_contents, length_checks, list_start}
 use Rattle.msf_blocks.specs.declared.fault.MsfFault.TheVariants.{Short, DirectoryShort}
 use Rattle.msf_blocks.specs.Superblock.{Fields, IsFit, IsSuperblock, magic, fields_of, superblock_checks, front_checks}
-use Rattle.msf_blocks.proofs.BlocksLaws.{block_begins, blocks_run}
 use Rattle.msf_blocks.proofs.RangeLaws.{map-same_ranges}
 use Rattle.msf_blocks.proofs.SizeLaws.{some_bytes, place_below}
 use Rattle.msf_blocks.proofs.DirectoryLaws.{map_is_ordinary}
@@ -109,6 +108,35 @@ number_is file bytes offset stands four =
     let here : offset + 0 ≡ offset = omega arith in
     rw here at (number_read file bytes offset 0 stands (omega (arith, four)))
 
+-- a block map that was read is that of the file
+pub block_map_stands : (file bytes : List ℕ) (fields : Fields) (addr size n : ℕ) → addr ≡ fields.block_map_addr → size ≡ fields.block_size → addr < fields.num_blocks → fields.num_blocks * fields.block_size ≤ length file
+    → n ≤ size → length bytes ≡ n → bytes ≡ take n (drop (addr * size) file) → StandsAt file (fields.block_map_addr * fields.block_size) bytes
+block_map_stands file bytes fields addr size n at long below whole few many is =
+    let rows : (addr + 1) * size ≤ fields.num_blocks * fields.block_size = rw (← long) (mul-le (addr + 1) size fields.num_blocks size (omega (arith, below)) (omega arith)) in
+    rw (← at, ← long) (record { inside = omega (arith, rows, whole, few, many); is = rw many is })
+
+-- the numbers of a block map that was read are those of the file
+pub numbers_read : (file bytes : List ℕ) (fields : Fields) → StandsAt file (fields.block_map_addr * fields.block_size) bytes → 4 * directory_blocks fields ≤ length bytes
+    → map (nth_u32 bytes) (range_with_len 0 (directory_blocks fields)) ≡ map_numbers file fields
+unfolding nth_u32 map_number
+numbers_read file bytes fields stands fits =
+    map-same_ranges (nth_u32 bytes) (map_number file fields) 0 0 (directory_blocks fields) (λ k lt.
+    let same : 0 + k ≡ k = omega arith in
+    rw same (number_read file bytes (fields.block_map_addr * fields.block_size) (4 * k) stands (omega (arith, lt, fits))))
+
+same_checks : {F : Type 0} (n : ℕ) (f g : ℕ → List (Check F)) → ((k : ℕ) → k < n → f k ≡ g k) → checks_below n f ≡ checks_below n g
+same_checks zero f g same = refl
+same_checks (suc n) f g same = rw (same_checks n f g (λ k lt. same k (omega (arith, lt))), same n (omega arith)) refl
+
+-- so are their checks
+pub number_checks_are : (file numbers : List ℕ) (fields : Fields) → numbers ≡ map_numbers file fields → number_checks numbers fields ≡ directory_block_checks file fields
+unfolding number_checks directory_block_checks
+number_checks_are file numbers fields is =
+    let count = directory_blocks fields in
+    same_checks count (number_check numbers fields) (directory_block_check file fields) (λ k lt.
+    let at : get_or numbers k 0 ≡ map_number file fields k = rw is (get_or-map-range_with_len (map_number file fields) 0 count k k 0 lt (omega arith)) in
+    rw at refl)
+
 -- the contents of the directory are in the blocks that the block map lists
 pub map_contents : (file : List ℕ) (fields : Fields) → IsBlockSize fields.block_size
     → in_blocks file fields.block_size (map_numbers file fields) fields.directory_bytes ≡ directory_contents file fields
@@ -169,36 +197,6 @@ long_enough b contents le room lists =
     let d : nat_le (4 + 4 * nth_u32 contents 0) (length contents) ≡ true = grind (arith, nat_tests) in
     let e : nat_le (4 * list_start b contents (nth_u32 contents 0)) (length contents) ≡ true = grind (arith, nat_tests) in
     rw (a, d, e) refl
-
--- a block of the directory is in the file
-pub block_inside : (file : List ℕ) (fields : Fields) (k : ℕ) → IsReadable file fields → k < directory_blocks fields → map_number file fields k * fields.block_size + block_len fields k ≤ length file
-block_inside file fields k readable lt =
-    let inside = (map_is_ordinary file fields k readable lt).1 in
-    let m : (map_number file fields k + 1) * fields.block_size ≤ fields.num_blocks * fields.block_size = mul-le _ _ _ _ (omega (arith, inside)) (omega arith) in
-    omega (arith, m, readable.whole)
-
--- the contents of the directory, one block more
-pub directory_step : (file before : List ℕ) (fields : Fields) (k : ℕ) → IsBlockSize fields.block_size → IsReadable file fields → k < directory_blocks fields
-    → before ≡ in_blocks file fields.block_size (map_numbers file fields) (min (k * fields.block_size) fields.directory_bytes)
-    → before ++ block_of_directory file fields k ≡ in_blocks file fields.block_size (map_numbers file fields) (min ((k + 1) * fields.block_size) fields.directory_bytes)
-directory_step file before fields k size readable lt is =
-    let b = fields.block_size in
-    let bytes = fields.directory_bytes in
-    let blocks = map_numbers file fields in
-    let n = block_len fields k in
-    let low : k * b < bytes = block_begins b bytes k (some_bytes b size) lt in
-    let front : min (k * b) bytes ≡ k * b = omega (arith, low) in
-    let rows : (k + 1) * b ≡ k * b + b = omega arith in
-    let back : min ((k + 1) * b) bytes ≡ k * b + n = rw rows (omega (arith, low)) in
-    let at : get_or blocks k 0 ≡ map_number file fields k = get_or-map-range_with_len (map_number file fields) 0 (directory_blocks fields) k k 0 lt (omega arith) in
-    let side : (i : ℕ) → i < 1 → get_or blocks (k + i) 0 ≡ get_or blocks k 0 + i = λ i below.
-    let none : i ≡ 0 = omega arith in
-    let same : k + 0 ≡ k = omega arith in
-    let sum : get_or blocks k 0 + 0 ≡ get_or blocks k 0 = omega arith in
-    rw (none, same, sum) refl in
-    let more = blocks_run file b blocks k 1 n (some_bytes b size) side (omega arith) (rw at (block_inside file fields k readable lt)) in
-    let first : before ≡ in_blocks file b blocks (k * b) = rw front at is in
-    rw (back, first) (sym (rw at at more))
 
 -- a file that is too short for a superblock
 pub short_file : (file : List ℕ) → length file < 56 → first_failing (superblock_checks file) ≡ Some Short

@@ -1,12 +1,12 @@
 -- The stream directory: where its blocks are, and what it lists ("The MSF File Format", "The Stream Directory").
-use Rattle.std.specs.Prelude.{ℕ, zero, suc, None, if◌then◌else◌, ◌==◌, ◌≡◌, ◌+◌, ◌-◌, ◌*◌, ◌/◌, ◌%◌, ◌<◌, ◌≤◌, ◌^◌, min, nat_le, List, [], ◌∷◌, ◌++◌, length, take, drop, slice_index, map, All}
+use Rattle.std.specs.Prelude.{ℕ, zero, suc, Some, None, if◌then◌else◌, ◌==◌, ◌≡◌, ◌⊎◌, ◌+◌, ◌-◌, ◌*◌, ◌/◌, ◌%◌, ◌<◌, ◌≤◌, ◌^◌, nat_le, List, [], ◌∷◌, ◌++◌, length, slice_index, get_or, map, All}
 use Rattle.std.specs.List.{range_with_len, flat_map}
 use Rattle.byte_fields.specs.Number.{number_at, nth_u32, u32s}
-use Rattle.byte_fields.specs.Check.{Check, checks_below, first_failing}
+use Rattle.byte_fields.specs.Check.{Check, Refuses, checks_below, first_failing}
 use Rattle.msf_blocks.specs.BlockNumber.{blocks_for, IsOrdinary, is_ordinary}
 use Rattle.msf_blocks.specs.Superblock.{Fields}
 use Rattle.msf_blocks.specs.declared.fault.MsfFault.{MsfFault}
-use Rattle.msf_blocks.specs.declared.fault.MsfFault.TheVariants.{DirectoryBlock, DirectoryShort, StreamBlock}
+use Rattle.msf_blocks.specs.declared.fault.MsfFault.TheVariants.{DirectoryBlock, DirectoryShort, StreamBlock, Memory}
 use Rattle.msf_blocks.specs.declared.directory.Place.{Place}
 use Rattle.msf_blocks.specs.declared.directory.Place.TheVariants.{Blocks, Gathered}
 
@@ -109,14 +109,6 @@ abbrev pub IsThere : Place → Fields → Type 0
 IsThere (Blocks file) fields = IsReadable file.now fields
 IsThere (Gathered contents) fields = length contents.now ≡ fields.directory_bytes
 
--- how many bytes of the directory are in its block at this position of the block map
-abbrev pub block_len : Fields → ℕ → ℕ
-block_len fields k = min (fields.directory_bytes - k * fields.block_size) fields.block_size
-
--- these bytes
-abbrev pub block_of_directory : List ℕ → Fields → ℕ → List ℕ
-block_of_directory file fields k = take (block_len fields k) (drop (map_number file fields k * fields.block_size) file)
-
 -- the numbers of the blocks of the directory
 abbrev pub map_numbers : List ℕ → Fields → List ℕ
 map_numbers file fields = map (map_number file fields) (range_with_len 0 (directory_blocks fields))
@@ -124,6 +116,24 @@ map_numbers file fields = map (map_number file fields) (range_with_len 0 (direct
 -- the checks of a directory whose blocks are ordinary: those of its length, and those of the lists of its streams
 abbrev pub directory_checks : Fields → List ℕ → List (Check MsfFault)
 directory_checks fields contents = length_checks fields.block_size contents ++ checks_below (nth_u32 contents 0) (stream_checks fields contents)
+
+-- the check of a number of a block map that was read
+abbrev pub number_check : List ℕ → Fields → ℕ → List (Check MsfFault)
+number_check numbers fields k = record { holds = is_ordinary fields.num_blocks (get_or numbers k 0); fault = DirectoryBlock k (get_or numbers k 0) } ∷ []
+
+-- the checks of these numbers, in order
+unfoldable pub number_checks : List ℕ → Fields → List (Check MsfFault)
+number_checks numbers fields = checks_below (directory_blocks fields) (number_check numbers fields)
+
+-- a block map was read for this superblock: as many numbers as the directory has blocks, and all of them are ordinary
+abbrev pub HasBlockMap : Fields → Type 0
+HasBlockMap fields = (numbers : List ℕ) × (length numbers ≡ directory_blocks fields) × (first_failing (number_checks numbers fields) ≡ None)
+
+-- this is the first fault of the directory of a file that begins with this superblock: that of a number of the block map, else one of what the directory lists, else it is out of memory
+abbrev pub IsDirectoryFault : List ℕ → Fields → MsfFault → Type 0
+IsDirectoryFault file fields fault =
+    (first_failing (directory_block_checks file fields) ≡ Some fault)
+    ⊎ ((first_failing (directory_block_checks file fields) ≡ None) × Refuses Memory (first_failing (directory_checks fields (directory_contents file fields))) fault)
 
 -- stream t, read at the positions of its numbers
 unfoldable pub listed_at : ℕ → List ℕ → ℕ → Listed

@@ -1,10 +1,10 @@
 -- The layout of a container: its superblock, and its streams as the directory lists them.
-use Rattle.std.specs.Prelude.{ℕ, ◌<◌, ◌^◌, ◌++◌, List, Option, Some, None, length, slice_get, All}
+use Rattle.std.specs.Prelude.{ℕ, ◌≡◌, ◌<◌, ◌^◌, ◌++◌, List, Option, Some, None, length, slice_get, All}
 use Rattle.byte_fields.specs.Number.{nth_u32}
 use Rattle.byte_fields.specs.Check.{Check, checks_below}
 use Rattle.msf_blocks.specs.BlockNumber.{IsBlockSize}
-use Rattle.msf_blocks.specs.Superblock.{Fields, IsSuperblock, fields_of, superblock_checks}
-use Rattle.msf_blocks.specs.Directory.{Listed, IsListed, IsDirectory, ListsStreams, directory_contents, directory_block_checks, length_checks, stream_checks}
+use Rattle.msf_blocks.specs.Superblock.{Fields, IsSuperblock, HasFront, fields_of, superblock_checks}
+use Rattle.msf_blocks.specs.Directory.{Listed, IsListed, IsDirectory, ListsStreams, HasBlockMap, directory_contents, directory_block_checks, length_checks, stream_checks}
 use Rattle.msf_blocks.specs.declared.fault.MsfFault.{MsfFault}
 
 -- contracts see a layout as the values of the superblock and the list of streams
@@ -17,6 +17,14 @@ pub record HasLayout (file : List ℕ) (layout : LayoutView) : Type 0 where
   pub superblock : IsSuperblock file layout.superblock
   pub contents : List ℕ
   pub directory : IsDirectory file layout.superblock contents
+  pub lists : ListsStreams layout.superblock contents layout.streams
+
+-- the texts that were read for this layout, of a container that is said to have so many bytes: each is as long as the one before it announces, and all checks of it hold
+pub record HasTexts (told : ℕ) (layout : LayoutView) : Type 0 where
+  pub front : HasFront told layout.superblock
+  pub block_map : HasBlockMap layout.superblock
+  pub contents : List ℕ
+  pub count : length contents ≡ layout.superblock.directory_bytes
   pub lists : ListsStreams layout.superblock contents layout.streams
 
 -- what holds of every layout

@@ -1,8 +1,8 @@
 -- The superblock: the first 56 bytes of a container ("The MSF File Format", "The Superblock").
-use Rattle.std.specs.Prelude.{ℕ, ◌≡◌, ◌*◌, ◌/◌, ◌%◌, ◌≤◌, ◌⊎◌, ◌==◌, ◌&&◌, ◌||◌, nat_le, nat_eq, List, [], ◌∷◌, ◌++◌, length, take, codes}
+use Rattle.std.specs.Prelude.{ℕ, None, ◌≡◌, ◌*◌, ◌/◌, ◌%◌, ◌≤◌, ◌⊎◌, ◌==◌, ◌&&◌, ◌||◌, nat_le, nat_eq, List, [], ◌∷◌, ◌++◌, length, take, codes}
 use Rattle.std.specs.List.{starts_with}
 use Rattle.byte_fields.specs.Number.{number_at}
-use Rattle.byte_fields.specs.Check.{Check}
+use Rattle.byte_fields.specs.Check.{Check, first_failing}
 use Rattle.msf_blocks.specs.BlockNumber.{IsBlockSize, is_block_size, blocks_for, IsOrdinary, is_ordinary}
 use Rattle.msf_blocks.specs.declared.fault.MsfFault.{MsfFault}
 use Rattle.msf_blocks.specs.declared.fault.MsfFault.TheVariants.{Short, Magic, BlockSize, FreeMapBlock, FileSize, DirectorySize, BlockMapAddr}
@@ -76,3 +76,13 @@ front_checks front have =
     ∷ record { holds = fields.directory_bytes % 4 == 0 && nat_le (blocks_for fields.block_size fields.directory_bytes) (fields.block_size / 4); fault = DirectorySize fields.directory_bytes }
     ∷ record { holds = is_ordinary fields.num_blocks fields.block_map_addr; fault = BlockMapAddr fields.block_map_addr }
     ∷ []
+
+-- these are the first bytes of a container with this superblock, which is said to have so many bytes: all checks of its front hold
+pub record IsFront (front : List ℕ) (told : ℕ) (fields : Fields) : Type 0 where
+  pub count : length front ≡ 56
+  pub fields_are : fields ≡ fields_of front
+  pub sound : first_failing (front_checks front told) ≡ None
+
+-- a front was read for this superblock
+abbrev pub HasFront : ℕ → Fields → Type 0
+HasFront told fields = (front : List ℕ) × IsFront front told fields

@@ -1,19 +1,21 @@
-//! A stream directory that is read by position. Its checks take one number at a time, so they need no
-//! memory. They come before the directory is gathered into a buffer.
+//! A stream directory that is read by position. Where memory is refused for it, its checks are made
+//! all the same: they take one number at a time then, which needs no memory.
 
-ghost use Rattle.std.specs.Prelude.{ℕ, None, Some, ◌≡◌, ◌⊎◌, ◌+◌, ◌*◌, ◌<◌, ◌≤◌, ◌^◌, ◌++◌, length, OnOk, IfOk, IfErr, IfSome, IfNone};
+ghost use Rattle.std.specs.Prelude.{ℕ, None, Some, ◌≡◌, ◌⊎◌, ◌+◌, ◌*◌, ◌<◌, ◌≤◌, ◌^◌, length, map, OnOk, IfOk, IfErr, IfSome, IfNone};
+ghost use Rattle.std.specs.List.{range_with_len};
 ghost use Rattle.byte_fields.specs.Number.{number_at, nth_u32};
-ghost use Rattle.byte_fields.specs.Check.{first_failing, checks_below};
+ghost use Rattle.byte_fields.specs.Check.{Makes, first_failing, checks_below};
 ghost use Rattle.byte_io.specs.At.{Breaks, IfKnown, IfOf};
-ghost use Rattle.msf_blocks.specs.Directory.{IsReadable, block_len, block_of_directory, map_number, directory_blocks, directory_block_checks, directory_checks, directory_contents, list_start, length_checks, stream_blocks, stream_checks};
+ghost use Rattle.msf_blocks.specs.Directory.{IsReadable, IsDirectoryFault, HasBlockMap, map_number, map_numbers, number_checks, directory_blocks, directory_block_checks, directory_checks, directory_contents, list_start, length_checks, stream_blocks, stream_checks};
 
 use crate::block_number::{blocks_for, is_ordinary};
+use crate::blocks::read_blocks;
 use crate::directory::bytes_of;
 use crate::fault::MsfFault;
 use crate::superblock::Superblock;
 use byte_fields::u32_at;
 use byte_io::{AtFault, ReadAt, ReadFault, read_more};
-use std::alloc::Allocator;
+use std::alloc::{AllocError, Allocator};
 
 /// Reads a number of four bytes. `None` where the read fails.
 fn read_number<R: ReadAt>(input: &mut R, offset: u64) -> Option<u32>
@@ -41,7 +43,7 @@ fn read_map_number<R: ReadAt>(input: &mut R, superblock: &Superblock, position: 
 }
 
 /// Checks the numbers in the block map.
-pub fn check_map<R: ReadAt>(input: &mut R, superblock: &Superblock) -> Result<(), AtFault<MsfFault>>
+fn check_map<R: ReadAt>(input: &mut R, superblock: &Superblock) -> Result<(), AtFault<MsfFault>>
     requires whole { IfKnown (R.bytes input.old) (λ file. superblock.now.num_blocks * superblock.now.block_size ≤ length file) }
     ensures keeps { R.bytes input.new ≡ R.bytes input.old }
     ensures held { OnOk result (IfKnown (R.bytes input.old) (λ file. first_failing (directory_block_checks file superblock.now) ≡ None)) }
@@ -207,7 +209,7 @@ fn check_streams<R: ReadAt>(
 }
 
 /// Checks what the directory lists: its length, and the block numbers of its streams.
-pub fn check_directory<R: ReadAt>(
+fn check_directory<R: ReadAt>(
     input: &mut R,
     superblock: &Superblock,
 ) -> Result<(), AtFault<MsfFault>>
@@ -222,51 +224,123 @@ pub fn check_directory<R: ReadAt>(
     Ok(())
 }
 
-/// Reads a block of the directory to the end of its contents. `at` is its number in the block map.
-fn gather_block<R: ReadAt, A: Allocator>(
-    input: &mut R,
-    superblock: &Superblock,
-    at: u32,
-    contents: &mut Vec<u8, A>,
-) -> Result<(), ReadFault>
-    requires readable { IfKnown (R.bytes input.old) (λ file. IsReadable file superblock.now) }
-    requires below { at < directory_blocks superblock.now }
+/// The fault of a directory for which memory was refused. This does not allocate: it checks one
+/// number at a time, and `Memory` is left where all checks hold.
+fn fault_without_memory<R: ReadAt>(input: &mut R, superblock: &Superblock) -> AtFault<MsfFault>
+    requires { IfKnown (R.bytes input.old) (λ file. superblock.now.num_blocks * superblock.now.block_size ≤ length file) }
     ensures keeps { R.bytes input.new ≡ R.bytes input.old }
-    ensures len { OnOk result (length contents.new.items ≡ length contents.old.items + block_len superblock.now at) }
-    ensures value { OnOk result (IfKnown (R.bytes input.old) (λ file. contents.new.items ≡ contents.old.items ++ block_of_directory file superblock.now at)) }
-    ensures first { IfErr result (λ fault. ((fault ≡ ReadFault.Read) × Breaks (R.bytes input.old) (R.is_broken input.new)) ⊎ (fault ≡ ReadFault.Memory)) }
+    ensures first { IfOf (λ fault. IfKnown (R.bytes input.old) (λ file. IsDirectoryFault file superblock.now fault)) result }
+    ensures read { result ≡ AtFault.Read → Breaks (R.bytes input.old) (R.is_broken input.new) }
 {
-    let block_size = superblock.block_size();
-    let count = (superblock.directory_bytes() - at * block_size).min(block_size);
-    let Some(block) = read_map_number(input, superblock, at) else {
-        return Err(ReadFault::Read);
-    };
-    read_more(
-        input,
-        u64::from(block) * u64::from(block_size),
-        count,
-        contents,
-    )
+    if let Err(fault) = check_map(input, superblock) {
+        return fault;
+    }
+    match check_directory(input, superblock) {
+        Ok(()) => AtFault::Of(MsfFault::Memory),
+        Err(fault) => fault,
+    }
 }
 
-/// Gathers the contents of the directory.
-///
-/// The faults are `Memory` when out of memory, and `Read` where a read fails.
-pub fn gather_directory<R: ReadAt, A: Allocator>(
+/// The first numbers in these bytes, of which each has four.
+#[tactic(auto, using(crate::proofs::DirectoryLaws::map_range_more), unfolding(byte_fields::specs::Number::nth_u32))]
+fn numbers_in<A: Allocator>(alloc: A, bytes: &[u8], count: u32) -> Result<Vec<u32, A>, AllocError>
+    requires { 4 * count ≤ length bytes.now }
+    ensures { IfOk result (λ v. v.items ≡ map (nth_u32 bytes.now) (range_with_len 0 count)) }
+{
+    let mut numbers = Vec::with_capacity(alloc, count as usize)?;
+    for k in 0..count {
+        numbers.push(u32_at(bytes, 4 * k as usize))?;
+    }
+    Ok(numbers)
+}
+
+/// Reads the numbers in the block map, all at once.
+#[tactic(auto, using(crate::proofs::SizeLaws::size_facts))]
+fn read_map<R: ReadAt, A: Allocator + Copy>(
     alloc: A,
     input: &mut R,
     superblock: &Superblock,
-) -> Result<Vec<u8, A>, ReadFault>
-    requires readable { IfKnown (R.bytes input.old) (λ file. IsReadable file superblock.now) }
+) -> Result<Vec<u32, A>, ReadFault>
+    requires { IfKnown (R.bytes input.old) (λ file. superblock.now.num_blocks * superblock.now.block_size ≤ length file) }
+    ensures keeps { R.bytes input.new ≡ R.bytes input.old }
+    ensures len { IfOk result (λ v. length v.items ≡ directory_blocks superblock.now) }
+    ensures value { IfOk result (λ v. IfKnown (R.bytes input.old) (λ file. v.items ≡ map_numbers file superblock.now)) }
+    ensures first { IfErr result (λ fault. ((fault ≡ ReadFault.Read) × Breaks (R.bytes input.old) (R.is_broken input.new)) ⊎ (fault ≡ ReadFault.Memory)) }
+{
+    let block_size = superblock.block_size();
+    let count = blocks_for(block_size, superblock.directory_bytes());
+    let start = u64::from(superblock.block_map_addr()) * u64::from(block_size);
+    let mut bytes = Vec::new(alloc);
+    read_more(input, start, 4 * count, &mut bytes)?;
+    Ok(numbers_in(alloc, &bytes, count)?)
+}
+
+/// Checks the numbers of a block map.
+#[tactic(auto, unfolding(crate::specs::Directory::number_checks))]
+fn check_numbers(numbers: &[u32], superblock: &Superblock) -> Result<(), MsfFault>
+    requires { length numbers.now ≡ directory_blocks superblock.now }
+    ensures { Makes result (number_checks numbers.now superblock.now) }
+{
+    for at in 0..blocks_for(superblock.block_size(), superblock.directory_bytes()) {
+        let n = numbers[at as usize];
+        if !is_ordinary(superblock.num_blocks(), n) {
+            return Err(MsfFault::DirectoryBlock { at, n });
+        }
+    }
+    Ok(())
+}
+
+/// Reads the numbers in the block map, and checks them.
+fn read_numbers<R: ReadAt, A: Allocator + Copy>(
+    alloc: A,
+    input: &mut R,
+    superblock: &Superblock,
+) -> Result<Vec<u32, A>, AtFault<MsfFault>>
+    requires { IfKnown (R.bytes input.old) (λ file. superblock.now.num_blocks * superblock.now.block_size ≤ length file) }
+    ensures keeps { R.bytes input.new ≡ R.bytes input.old }
+    ensures len { IfOk result (λ v. length v.items ≡ directory_blocks superblock.now) }
+    ensures value { IfOk result (λ v. IfKnown (R.bytes input.old) (λ file. v.items ≡ map_numbers file superblock.now)) }
+    ensures sound { IfOk result (λ v. first_failing (number_checks v.items superblock.now) ≡ None) }
+    ensures held { OnOk result (IfKnown (R.bytes input.old) (λ file. first_failing (directory_block_checks file superblock.now) ≡ None)) }
+    ensures first { IfErr result (IfOf (λ fault. IfKnown (R.bytes input.old) (λ file. IsDirectoryFault file superblock.now fault))) }
+    ensures read { IfErr result (λ fault. fault ≡ AtFault.Read → Breaks (R.bytes input.old) (R.is_broken input.new)) }
+{
+    let numbers = match read_map(alloc, input, superblock) {
+        Ok(numbers) => numbers,
+        Err(ReadFault::Memory) => return Err(fault_without_memory(input, superblock)),
+        Err(_) => return Err(AtFault::Read),
+    };
+    match check_numbers(&numbers, superblock) {
+        Ok(()) => Ok(numbers),
+        Err(fault) => Err(AtFault::Of(fault)),
+    }
+}
+
+/// Reads the contents of the directory of a file that begins with this superblock. The block map is
+/// read at once, and so are directory blocks that are consecutive.
+///
+/// All checks of the directory come before out of memory: where memory is refused, they are made one
+/// number at a time.
+pub fn read_contents<R: ReadAt, A: Allocator + Copy>(
+    alloc: A,
+    input: &mut R,
+    superblock: &Superblock,
+) -> Result<Vec<u8, A>, AtFault<MsfFault>>
+    requires { IfKnown (R.bytes input.old) (λ file. superblock.now.num_blocks * superblock.now.block_size ≤ length file) }
     ensures keeps { R.bytes input.new ≡ R.bytes input.old }
     ensures len { IfOk result (λ contents. length contents.items ≡ superblock.now.directory_bytes) }
     ensures value { IfOk result (λ contents. IfKnown (R.bytes input.old) (λ file. contents.items ≡ directory_contents file superblock.now)) }
-    ensures first { IfErr result (λ fault. ((fault ≡ ReadFault.Read) × Breaks (R.bytes input.old) (R.is_broken input.new)) ⊎ (fault ≡ ReadFault.Memory)) }
+    ensures map { OnOk result (HasBlockMap superblock.now) }
+    ensures held { OnOk result (IfKnown (R.bytes input.old) (λ file. first_failing (directory_block_checks file superblock.now) ≡ None)) }
+    ensures first { IfErr result (IfOf (λ fault. IfKnown (R.bytes input.old) (λ file. IsDirectoryFault file superblock.now fault))) }
+    ensures read { IfErr result (λ fault. fault ≡ AtFault.Read → Breaks (R.bytes input.old) (R.is_broken input.new)) }
 {
+    let blocks = read_numbers(alloc, input, superblock)?;
     let size = superblock.directory_bytes();
-    let mut contents = Vec::with_capacity(alloc, size as usize)?;
-    for at in 0..blocks_for(superblock.block_size(), size) {
-        gather_block(input, superblock, at, &mut contents)?;
+    let mut contents = Vec::new(alloc);
+    match read_blocks(input, superblock.block_size(), &blocks, size, &mut contents) {
+        Ok(()) => Ok(contents),
+        Err(ReadFault::Memory) => Err(fault_without_memory(input, superblock)),
+        Err(_) => Err(AtFault::Read),
     }
-    Ok(contents)
 }

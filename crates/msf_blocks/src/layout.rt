@@ -1,20 +1,20 @@
 //! Where the streams of a container are.
 
-ghost use Rattle.std.specs.Prelude.{None, ◌≡◌, ◌⊎◌, ◌≤◌, ◌<◌, ◌*◌, ◌^◌, length, map, OnOk, IfOk, IfErr, slice_get, option_map};
+ghost use Rattle.std.specs.Prelude.{None, ◌≡◌, ◌≤◌, ◌<◌, ◌*◌, ◌^◌, length, map, IfOk, IfErr, slice_get, option_map};
 ghost use Rattle.byte_fields.specs.Bytes.{AreBytes};
 ghost use Rattle.byte_fields.specs.Number.{nth_u32};
 ghost use Rattle.byte_fields.specs.Check.{Makes, Refuses, first_failing};
 ghost use Rattle.byte_io.specs.At.{Breaks, IfKnown, IfOf};
 ghost use Rattle.msf_blocks.specs.Superblock.{IsSuperblock, fields_of};
-ghost use Rattle.msf_blocks.specs.Directory.{directory_block_checks, directory_checks, directory_contents, list_start, listed_below, bytes_of};
-ghost use Rattle.msf_blocks.specs.Layout.{LayoutView, HasLayout, IsLayout, block_of, layout_checks};
+ghost use Rattle.msf_blocks.specs.Directory.{directory_contents, list_start, listed_below, bytes_of};
+ghost use Rattle.msf_blocks.specs.Layout.{LayoutView, HasLayout, HasTexts, IsLayout, block_of, layout_checks};
 ghost use Rattle.msf_blocks.specs.Stream.{listed_of};
 
 use crate::directory::{Directory, bytes_of};
-use crate::directory_at::{check_directory, check_map, gather_directory};
+use crate::directory_at::read_contents;
 use crate::fault::MsfFault;
 use crate::superblock::Superblock;
-use byte_io::{AtFault, ReadAt, ReadFault};
+use byte_io::{AtFault, ReadAt};
 use std::alloc::{Allocator, Global};
 use std::marker::Model;
 
@@ -124,32 +124,6 @@ impl<A: Allocator + Copy> Layout<A> {
     }
 }
 
-/// Reads the contents of the directory of a file that begins with this superblock. All checks of the
-/// directory come before out of memory.
-fn read_contents<R: ReadAt, A: Allocator>(
-    alloc: A,
-    input: &mut R,
-    superblock: &Superblock,
-) -> Result<Vec<u8, A>, AtFault<MsfFault>>
-    requires whole { IfKnown (R.bytes input.old) (λ file. superblock.now.num_blocks * superblock.now.block_size ≤ length file) }
-    ensures keeps { R.bytes input.new ≡ R.bytes input.old }
-    ensures len { IfOk result (λ contents. length contents.items ≡ superblock.now.directory_bytes) }
-    ensures value { IfOk result (λ contents. IfKnown (R.bytes input.old) (λ file. contents.items ≡ directory_contents file superblock.now)) }
-    ensures held { OnOk result (IfKnown (R.bytes input.old) (λ file. first_failing (directory_block_checks file superblock.now) ≡ None)) }
-    ensures first { IfErr result (IfOf (λ fault. IfKnown (R.bytes input.old) (λ file. (first_failing (directory_block_checks file superblock.now) ≡ Some fault) ⊎ ((first_failing (directory_block_checks file superblock.now) ≡ None) × Refuses MsfFault.Memory (first_failing (directory_checks superblock.now (directory_contents file superblock.now))) fault)))) }
-    ensures read { IfErr result (λ fault. fault ≡ AtFault.Read → Breaks (R.bytes input.old) (R.is_broken input.new)) }
-{
-    check_map(input, superblock)?;
-    match gather_directory(alloc, input, superblock) {
-        Ok(contents) => Ok(contents),
-        Err(ReadFault::Memory) => {
-            check_directory(input, superblock)?;
-            Err(AtFault::Of(MsfFault::Memory))
-        }
-        Err(_) => Err(AtFault::Read),
-    }
-}
-
 /// Reads the layout of a container by position.
 fn layout_at<R: ReadAt, A: Allocator + Copy>(
     alloc: A,
@@ -158,6 +132,7 @@ fn layout_at<R: ReadAt, A: Allocator + Copy>(
     ensures keeps { R.bytes input.new ≡ R.bytes input.old }
     ensures small { IfKnown (R.bytes input.old) AreBytes }
     ensures value { IfOk result (λ layout. IfKnown (R.bytes input.old) (λ file. HasLayout file layout)) }
+    ensures texts { IfOk result (HasTexts (R.told input.old)) }
     ensures first { IfErr result (IfOf (λ fault. IfKnown (R.bytes input.old) (λ file. Refuses MsfFault.Memory (first_failing (layout_checks file)) fault))) }
     ensures read { IfErr result (λ fault. fault ≡ AtFault.Read → Breaks (R.bytes input.old) (R.is_broken input.new)) }
 {
@@ -184,6 +159,8 @@ impl<A: Allocator + Copy> Layout<A> {
         ensures keeps { R.bytes input.new ≡ R.bytes input.old }
         ensures small { IfKnown (R.bytes input.old) AreBytes }
         ensures value { IfOk result (λ layout. IfKnown (R.bytes input.old) (λ file. HasLayout file layout)) }
+        // Whatever is known of the file, the layout is that of the texts that were read.
+        ensures texts { IfOk result (HasTexts (R.told input.old)) }
         ensures found { IfErr result (λ fault. IfKnown (R.bytes input.old) (λ file. (layout : LayoutView) → HasLayout file layout → fault ≡ AtFault.Of MsfFault.Memory)) }
         ensures first { IfErr result (IfOf (λ fault. IfKnown (R.bytes input.old) (λ file. Refuses MsfFault.Memory (first_failing (layout_checks file)) fault))) }
         ensures read { IfErr result (λ fault. fault ≡ AtFault.Read → Breaks (R.bytes input.old) (R.is_broken input.new)) }

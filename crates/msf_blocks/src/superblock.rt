@@ -6,7 +6,7 @@ ghost use Rattle.byte_fields.specs.Check.{Makes, first_failing};
 ghost use Rattle.byte_io.specs.At.{Breaks, IfKnown, IfOf};
 ghost use Rattle.byte_fields.specs.Number.{u32s};
 ghost use Rattle.msf_blocks.specs.BlockNumber.{IsBlockSize, IsOrdinary, blocks_for};
-ghost use Rattle.msf_blocks.specs.Superblock.{Fields, IsFit, IsSuperblock, fields_of, magic, front_checks, superblock_checks};
+ghost use Rattle.msf_blocks.specs.Superblock.{Fields, IsFit, IsSuperblock, fields_of, magic, front_checks, superblock_checks, HasFront};
 
 use crate::block_number::{blocks_for, is_block_size, is_ordinary};
 use crate::fault::MsfFault;
@@ -164,6 +164,8 @@ impl Superblock {
         ensures value { IfOk result (λ s. IfKnown (R.bytes input.old) (λ file. IsSuperblock file s)) }
         ensures fields { IfOk result (λ s. IfKnown (R.bytes input.old) (λ file. s ≡ fields_of file)) }
         ensures fit { IfOk result IsFit }
+        // Whatever is known of the file, this holds of the bytes that were read.
+        ensures front { IfOk result (HasFront (R.told input.old)) }
         ensures held { OnOk result (IfKnown (R.bytes input.old) (λ file. first_failing (superblock_checks file) ≡ None)) }
         ensures first { IfErr result (IfOf (λ fault. IfKnown (R.bytes input.old) (λ file. first_failing (superblock_checks file) ≡ Some fault))) }
         ensures read { IfErr result (λ fault. fault ≡ AtFault.Read → Breaks (R.bytes input.old) (R.is_broken input.new)) }

@@ -94,3 +94,20 @@ returns-clause-value g c = λ file known.
     ∙ rw (d.superblock, is_contents) at c.in_ok-check_streams.ensures in
     layout_is file superblock contents n (map listed_of c.in_ok-streams-2.streams.items) (s.small file known) (s.value file known) (s.fields file known) (t.value file (s.keeps ∙ known)) count (rw (d.superblock, is_contents) at l.room) held
     (rw (d.superblock, is_contents) at c.in_ok-streams-2.ensures.value)
+
+pub returns-clause-texts : goal.returns-clause-texts
+returns-clause-texts g c =
+    let superblock = c.in_ok-superblock.superblock in
+    let t = c.in_ok-contents.ensures in
+    let d = c.gathered-directory.ensures in
+    let contents = c.in_ok-contents.contents.items in
+    let is_contents = d.contents ∙ c.deref.ensures.value in
+    let l = c.in_ok-streams.ensures in
+    record {
+      front = c.in_ok-superblock.ensures.front;
+      block_map = t.map;
+      contents = contents;
+      count = t.len;
+      lists = lists_are_read superblock contents c.in_ok-streams.streams (map listed_of c.in_ok-streams-2.streams.items) (rw c.deref.ensures.value at d.small) (rw is_contents at l.streams) (rw (d.superblock, is_contents) at l.room)
+          (rw (d.superblock, is_contents) at c.in_ok-check_streams.ensures) (rw (d.superblock, is_contents) at c.in_ok-streams-2.ensures.value);
+    }

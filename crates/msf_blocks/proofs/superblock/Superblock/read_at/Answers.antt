@@ -25,3 +25,8 @@ returns-clause-fields g c = λ file known.
 pub returns-clause-held : goal.returns-clause-held
 returns-clause-held g c = λ file known.
     checks_read file c.read_at.new.into (c.in-Some.ensures.value file known) c.in-Some.ensures.same ∙ rw (← c.len-have.ensures.value file known) c.in_ok-superblock.ensures.first
+
+pub returns-clause-front : goal.returns-clause-front
+returns-clause-front g c =
+    let s = c.in_ok-superblock.ensures in
+    (c.read_at.new.into, record { count = c.in-Some.ensures.same; fields_are = s.fields; sound = rw c.len-have.ensures.told at s.first })
