@@ -17,6 +17,10 @@ listed_contents file block_size stream = gathered file block_size stream.blocks 
 abbrev pub stream_contents : List ℕ → LayoutView → ℕ → Option (List ℕ)
 stream_contents file layout s = option_map (listed_contents file layout.superblock.block_size) (slice_get layout.streams s)
 
+-- these bytes were read for the s-th stream of this layout: there is such a stream, and they are as many as it has
+abbrev pub WasRead : LayoutView → ℕ → List ℕ → Type 0
+WasRead layout s text = (stream : Listed) × (slice_get layout.streams s ≡ Some stream) × (length text ≡ bytes_of stream.size)
+
 -- the contents of a stream in pieces: one piece for each block, and the last piece is what remains of the stream's size
 unfoldable pub pieces : List ℕ → ℕ → List ℕ → ℕ → List (List ℕ)
 pieces file block_size [] size = []

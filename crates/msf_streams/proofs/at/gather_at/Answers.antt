@@ -39,3 +39,8 @@ returns-in-Err-Memory-clause-first g c =
     let are = are_blocks layout c.args.s c.in-Some.size blocks sized c.in-Some-blocks.ensures.value in
     let b : c.block_size.result ≡ layout.superblock.block_size = c.block_size.ensures.value ∙ ap (λ (f : Fields). f.block_size) c.superblock.ensures in
     inr (refl, sized.inside)
+
+pub returns-in-Ok-clause-len : goal.returns-in-Ok-clause-len
+returns-in-Ok-clause-len g c =
+    let sized = is_sized c.args.layout.now c.args.s c.in-Some.size c.in-Some.ensures.fits (sym c.size.ensures.value ∙ c.in-Some.is) in
+    (sized.stream, sized.here, c.in-Ok.ensures.len ∙ sym sized.is)
