@@ -1,6 +1,6 @@
 -- An accepted file has one list of records and no fault.
 use Rattle.std.proofs.Common.{◌≡◌, ◌⊎◌, ℕ, ◌<◌, ◌≤◌, List, Option, Some, None, Bool, length, ap, ◌∙◌, refl, arith, inl, inr}
-use Rattle.std.specs.Prelude.{Result, Ok, Err, IfErr}
+use Rattle.std.specs.Prelude.{Result, Ok, Err, IfOk, IfErr}
 use Rattle.byte_io.specs.At.{Breaks, IfKnown, IfOf}
 use Rattle.byte_io.specs.declared.at.AtFault.{AtFault}
 use Rattle.byte_io.specs.declared.at.AtFault.TheVariants as at
@@ -137,6 +137,11 @@ wants_memory file records (Err e) is (inl refused) = absurd (accepted_unrefused 
 wants_memory file records (Err e) is (inr memory) = memory
 
 -- ---- files that are read by position
+
+-- what follows of each value
+pub ok_more : {T E : Type 0} (P Q : T → Type 0) (answer : Result T E) → ((value : T) → P value → Q value) → IfOk answer P → IfOk answer Q
+ok_more P Q (Ok value) each is = each value is
+ok_more P Q (Err fault) each is = tt
 
 -- a fault of a layout that is read by position
 pub layout_refused : {A : Type 0} (file : List ℕ) (inner : MsfFault) (outer : PdbFault A) → outer ≡ of_msf inner → Refuses msf.Memory (first_failing (layout_checks file)) inner → IsLayoutFault file outer ⊎ (outer ≡ fault.Memory)

@@ -13,7 +13,7 @@ use Rattle.msf_blocks.specs.Directory.{Listed, bytes_of}
 use Rattle.msf_blocks.specs.Layout.{LayoutView}
 use Rattle.std.specs.List.{concat}
 use Rattle.msf_streams.specs.Streams.{FirstIsLong, stream_contents, listed_contents, gathered}
-use Rattle.pdb_merge.specs.Read.{HasLongInfo, HasShortInfo}
+use Rattle.pdb_merge.specs.Read.{HasLongInfo, HasShortInfo, ListsLongInfo}
 
 length-text : (file : List ℕ) (block_size : ℕ) (stream : Listed) → length (listed_contents file block_size stream) ≡ bytes_of stream.size
 unfolding gathered
@@ -30,6 +30,16 @@ pub long_info : (file : List ℕ) (layout : LayoutView) (size : ℕ) → option_
 long_info file layout size is long =
     let there = text_there file layout.superblock.block_size size (slice_get layout.streams 1) is in
     (there.0, there.1, omega (arith, there.2))
+
+-- so it is listed
+pub listed_info : (layout : LayoutView) (size : ℕ) → option_map (λ s. bytes_of s.size) (slice_get layout.streams 1) ≡ Some size → 28 ≤ size → ListsLongInfo layout
+listed_info layout size is long = elim (slice_get_cases layout.streams 1).1 [
+  | inl (stream, lt, there, at) ↦
+      let both : Some (bytes_of stream.size) ≡ Some size = rw there at is in
+      let same : bytes_of stream.size ≡ size = cc in
+      (stream, there, omega (arith, same, long))
+  | inr (le, none) ↦ let bad = rw none at is in absurd cc
+]
 
 -- a stream 1 of fewer than 28 bytes
 pub short_info : (file : List ℕ) (layout : LayoutView) (size : ℕ) → option_map (λ s. bytes_of s.size) (slice_get layout.streams 1) ≡ Some size → size < 28 → HasShortInfo file layout

@@ -1,10 +1,11 @@
 -- Which files are accepted, and with which types.
-use Rattle.std.specs.Prelude.{ℕ, ◌≡◌, ◌<◌, ◌≤◌, ◌⊎◌, List, Some, length}
+use Rattle.std.specs.Prelude.{ℕ, ◌≡◌, ◌<◌, ◌≤◌, ◌⊎◌, List, Some, length, slice_get}
 use Rattle.msf_streams.specs.declared.fault.StreamFault.TheVariants.{NoStream}
 use Rattle.byte_fields.specs.Bytes.{AreBytes}
 use Rattle.byte_fields.specs.Check.{first_failing}
+use Rattle.msf_blocks.specs.Directory.{Listed, bytes_of}
 use Rattle.msf_blocks.specs.Layout.{LayoutView, HasLayout, layout_checks}
-use Rattle.msf_streams.specs.Streams.{stream_contents}
+use Rattle.msf_streams.specs.Streams.{WasRead, stream_contents}
 use Rattle.pdb_info.specs.declared.fault.InfoFault.TheVariants.{InfoShort}
 use Rattle.tpi_records.specs.Records.{HasRecords, IsFirstFault}
 use Rattle.type_trees.specs.Check.{AreTypes, HasTypeFault}
@@ -43,6 +44,18 @@ pub record IsAccepted (file : List ℕ) (records : List (List ℕ)) : Type 0 whe
   pub has : HasTypeRecords file records
   pub info : HasLongInfo file has.layout
   pub types : AreTypes records
+
+-- these records were read for this layout: they are those of the bytes that were read for its stream 2
+abbrev pub RecordsWereRead : LayoutView → List (List ℕ) → Type 0
+RecordsWereRead layout records = (stream : List ℕ) × WasRead layout 2 stream × HasRecords stream records
+
+-- the layout lists a stream 1 of at least 28 bytes
+abbrev pub ListsLongInfo : LayoutView → Type 0
+ListsLongInfo layout = (info : Listed) × (slice_get layout.streams 1 ≡ Some info) × (28 ≤ bytes_of info.size)
+
+-- these types were read for this layout: it lists a long enough stream 1, and the records that were read are types
+abbrev pub TypesWereRead : LayoutView → List (List ℕ) → Type 0
+TypesWereRead layout records = RecordsWereRead layout records × ListsLongInfo layout × AreTypes records
 
 -- this is the fault of stream 1: it is missing, or it is too short
 abbrev pub HasInfoFault : {A : Type 0} → List ℕ → LayoutView → PdbFault A → Type 0

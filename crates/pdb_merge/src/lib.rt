@@ -10,7 +10,8 @@
 //!   caller may pass the same buffer for the next file, so the gathered streams of two files
 //!   are never in memory at once. [`PdbFault`] is the first fault on the way.
 //! - [`read_records_at`] and [`read_types_at`] read the type records and the types by position: of
-//!   the file only its directory and the blocks of its TPI stream.
+//!   the file only its directory and the blocks of its TPI stream. [`read_records_of`] and
+//!   [`read_types_of`] do so where the layout of the file was read before.
 //! - [`merge_to`] merges files: it writes one file with the types of all of them, each once, into
 //!   a sink. [`merge_files`] returns their canonical list, and [`write_merged`] writes the file of
 //!   such a list. [`Merge`] takes files one after the other.
@@ -43,6 +44,6 @@ pub use files::merge_files;
 pub use merge::Merge;
 pub use merged::merge_to;
 pub use read::{read_records, read_types};
-pub use read_at::{read_records_at, read_types_at};
+pub use read_at::{read_records_at, read_records_of, read_types_at, read_types_of};
 pub use summary::Summary;
 pub use written::write_merged;

@@ -3,6 +3,7 @@
 ghost use Rattle.std.specs.Prelude.{◌≡◌, ◌⊎◌, ◌*◌, ◌≤◌, ℕ, List, None, length, OnOk, IfOk, IfErr};
 ghost use Rattle.byte_fields.specs.Check.{first_failing};
 ghost use Rattle.msf_blocks.specs.Layout.{layout_checks};
+ghost use Rattle.type_trees.specs.Check.{AreTypes};
 ghost use Rattle.pdb_merge.specs.Read.{IsListed, IsAccepted, HasPdbFault, HasTypeRecords, ListsRecords, HasRecordsFault, HasStreamFault, HasLongInfo, HasInfoFault};
 
 use crate::buffer::Buffer;
@@ -92,6 +93,7 @@ pub(crate) fn check_types<'a, A: Allocator + Copy>(
     records: Records<'a, A>,
 ) -> Result<Types<'a, A>, PdbFault<A>>
     ensures value { (file : List ℕ) → IsListed file records.entry → IfOk result (IsAccepted file) }
+    ensures types { IfOk result (λ types. (types ≡ records.entry) × AreTypes types) }
     ensures first { (file : List ℕ) → IsListed file records.entry → IfErr result (λ fault. HasPdbFault file fault ⊎ (fault ≡ PdbFault.Memory)) }
 {
     Ok(Types::check(alloc, records)?)

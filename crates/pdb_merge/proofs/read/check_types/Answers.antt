@@ -10,3 +10,8 @@ returns-in_err-check-clause-first g c file lists =
 pub returns-clause-value : goal.returns-clause-value
 returns-clause-value g c file lists =
     rw c.in_ok-check.ensures.value.0 (listed_accepted file c.args.records lists c.in_ok-check.ensures.value.1)
+
+pub returns-clause-types : goal.returns-clause-types
+returns-clause-types g c =
+    let e = c.in_ok-check.ensures.value in
+    (e.0, rw e.0 e.1)

@@ -11,3 +11,9 @@ pub returns-in-Err-clause-memory : goal.returns-in-Err-clause-memory
 returns-in-Err-clause-memory g c = λ is file known.
     let listed = c.in_ok-records.ensures.value file known in
     layout_holds file listed.has.layout listed.bytes listed.has.has_layout
+
+pub returns-in-Ok-clause-texts : goal.returns-in-Ok-clause-texts
+returns-in-Ok-clause-texts g c =
+    let t = c.in_ok-records.ensures.texts in
+    let types = c.in-Ok.ensures.types in
+    rw types.0 (t.0, t.1, (t.2, t.3, rw types.0 at types.1))
