@@ -5,6 +5,8 @@ use Rattle.byte_fields.specs.Bytes.{AreBytes}
 use Rattle.byte_fields.specs.Check.{first_failing, Refuses}
 use Rattle.msf_blocks.specs.Directory.{Listed, bytes_of}
 use Rattle.msf_blocks.specs.Layout.{LayoutView, HasLayout, layout_checks}
+use Rattle.byte_io.specs.declared.at.AtFault.{AtFault}
+use Rattle.byte_io.specs.declared.at.AtFault.TheVariants as at
 use Rattle.msf_blocks.specs.declared.fault.MsfFault.{MsfFault}
 use Rattle.msf_blocks.specs.declared.fault.MsfFault.TheVariants.{Memory}
 use Rattle.msf_blocks.proofs.MemoryLaws.{layout_wants_none}
@@ -23,3 +25,7 @@ not_long file layout limit s size bytes has is short long =
 pub sound_without_memory : (file : List ℕ) (fault : MsfFault) → fault ≡ Memory → Refuses Memory (first_failing (layout_checks file)) fault → first_failing (layout_checks file) ≡ None
 sound_without_memory file fault is (inl first) = absurd (layout_wants_none file (first ∙ ap Some is))
 sound_without_memory file fault is (inr want) = want.1
+
+-- a fault of what was read is the only one with its value
+pub never_of : (fault : MsfFault) → ◌≡◌ {A = AtFault MsfFault} (at.Of fault) (at.Of Memory) → fault ≡ Memory
+never_of fault is = cc

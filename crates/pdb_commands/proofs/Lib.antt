@@ -1,7 +1,10 @@
 pub mod BoundLaws
+pub mod FreeLaws
 pub mod InfoLaws
+pub mod LayoutLaws
 pub mod MergeLaws
 pub mod RecordsLaws
+pub mod ShowLaws
 pub mod ShownLaws
 pub mod StreamsLaws
 pub mod TextLaws

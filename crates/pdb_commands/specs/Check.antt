@@ -2,7 +2,8 @@
 use Rattle.std.specs.Prelude.{ℕ, ◌≡◌, List, ◌∷◌, ◌++◌, length, codes}
 use Rattle.std.specs.List.{concat}
 use Rattle.type_trees.specs.Depth.{HasLevels}
-use Rattle.pdb_merge.specs.Read.{IsAccepted, HasPdbFault}
+use Rattle.msf_blocks.specs.Layout.{LayoutView}
+use Rattle.pdb_merge.specs.Read.{IsAccepted, TypesWereRead, HasPdbFault}
 use Rattle.pdb_commands.specs.Text.{named_line}
 use Rattle.pdb_commands.specs.declared.fault.RunFault.{RunFault}
 use Rattle.pdb_commands.specs.declared.fault.RunFault.TheVariants.{Pdb}
@@ -16,6 +17,11 @@ checked_lines records bytes levels =
 abbrev pub ShowsChecked : List ℕ → List ℕ → Type 0
 ShowsChecked file text =
     (records : List (List ℕ)) × (levels : ℕ) × IsAccepted file records × HasLevels records levels × (text ≡ checked_lines (length records) (length (concat records)) levels)
+
+-- `check` prints this text where the types of this layout were read
+abbrev pub ShowsCheckedRead : LayoutView → List ℕ → Type 0
+ShowsCheckedRead layout text =
+    (records : List (List ℕ)) × (levels : ℕ) × TypesWereRead layout records × HasLevels records levels × (text ≡ checked_lines (length records) (length (concat records)) levels)
 
 -- this is the first fault of the file on the way to its types
 abbrev pub HasNoAccepted : {A : Type 0} → List ℕ → RunFault A → Type 0

@@ -5,7 +5,7 @@ use Rattle.std.specs.Fmt.{decimal}
 use Rattle.uuid.specs.Text.{hyphenated_text, lower}
 use Rattle.byte_fields.specs.Check.{first_failing}
 use Rattle.msf_blocks.specs.Layout.{LayoutView, HasLayout}
-use Rattle.msf_streams.specs.Streams.{stream_contents}
+use Rattle.msf_streams.specs.Streams.{WasRead, stream_contents}
 use Rattle.msf_streams.specs.declared.fault.StreamFault.TheVariants.{NoStream}
 use Rattle.pdb_info.specs.Header.{HeaderFields}
 use Rattle.pdb_info.specs.Names.{NamedStream}
@@ -58,6 +58,10 @@ ShowsInfo file text =
 abbrev pub IsInfoText : List ℕ → List ℕ → Type 0
 IsInfoText stream text =
     (info : InfoView) × HasInfo stream info × (text ≡ header_lines info.header ++ flat_map name_line info.names ++ flat_map feature_line info.features)
+
+-- `info` prints this text where stream 1 of this layout was read
+abbrev pub ShowsInfoRead : LayoutView → List ℕ → Type 0
+ShowsInfoRead layout text = (stream : List ℕ) × WasRead layout 1 stream × IsInfoText stream text
 
 -- this is the first fault of an info stream with these bytes
 abbrev pub IsInfoFault : {A : Type 0} → List ℕ → RunFault A → Type 0

@@ -8,7 +8,8 @@ use Rattle.byte_fields.specs.Check.{first_failing}
 use Rattle.cv_leaves.specs.Checks.{body_of, record_checks}
 use Rattle.cv_leaves.specs.Place.{HasPlaces}
 use Rattle.cv_leaves.specs.Name.{name_of}
-use Rattle.pdb_merge.specs.Read.{HasTypeRecords}
+use Rattle.msf_blocks.specs.Layout.{LayoutView}
+use Rattle.pdb_merge.specs.Read.{HasTypeRecords, RecordsWereRead}
 use Rattle.pdb_commands.specs.Records.{HasNoTypeRecords}
 use Rattle.pdb_commands.specs.Text.{index_text, quoted}
 use Rattle.pdb_commands.specs.declared.fault.RunFault.{RunFault}
@@ -36,6 +37,16 @@ name_lines (Some name) = codes "name " ++ quoted name ++ 10 ∷ []
 pub record ShowsRecord (index : ℕ) (file text : List ℕ) : Type 0 where
   pub records : List (List ℕ)
   pub has_records : HasTypeRecords file records
+  pub bytes : List ℕ
+  pub is_record : record_of records index ≡ Some bytes
+  pub places : List ℕ
+  pub has_places : HasPlaces bytes places
+  pub lines : text ≡ bytes_line bytes ++ flat_map (place_line bytes) places ++ name_lines (name_of bytes)
+
+-- `record` prints this text for the type index where the records of this layout were read
+pub record ShowsRecordRead (index : ℕ) (layout : LayoutView) (text : List ℕ) : Type 0 where
+  pub records : List (List ℕ)
+  pub were_read : RecordsWereRead layout records
   pub bytes : List ℕ
   pub is_record : record_of records index ≡ Some bytes
   pub places : List ℕ

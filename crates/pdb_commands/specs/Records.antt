@@ -2,7 +2,8 @@
 use Rattle.std.specs.Prelude.{ℕ, ◌≡◌, ◌+◌, List, [], ◌∷◌, ◌++◌, length}
 use Rattle.std.specs.Fmt.{decimal}
 use Rattle.byte_fields.specs.Number.{number_at}
-use Rattle.pdb_merge.specs.Read.{HasTypeRecords, HasRecordsFault}
+use Rattle.msf_blocks.specs.Layout.{LayoutView}
+use Rattle.pdb_merge.specs.Read.{HasTypeRecords, RecordsWereRead, HasRecordsFault}
 use Rattle.pdb_commands.specs.Text.{index_text, kind_text}
 use Rattle.pdb_commands.specs.declared.fault.RunFault.{RunFault}
 use Rattle.pdb_commands.specs.declared.fault.RunFault.TheVariants.{Pdb}
@@ -20,6 +21,10 @@ record_lines index (bytes ∷ others) = record_line index bytes ++ record_lines 
 -- `records` prints this text for the file: a line for each of its type records
 abbrev pub ShowsRecords : List ℕ → List ℕ → Type 0
 ShowsRecords file text = (records : List (List ℕ)) × HasTypeRecords file records × (text ≡ record_lines first_index records)
+
+-- `records` prints this text where the records of this layout were read
+abbrev pub ShowsRecordsRead : LayoutView → List ℕ → Type 0
+ShowsRecordsRead layout text = (records : List (List ℕ)) × RecordsWereRead layout records × (text ≡ record_lines first_index records)
 
 -- this is the first fault of the file on the way to its type records
 abbrev pub HasNoTypeRecords : {A : Type 0} → List ℕ → RunFault A → Type 0

@@ -3,12 +3,12 @@ use Rattle.std.specs.Prelude.{ℕ, ◌≡◌, ◌<◌, ◌-◌, ◌^◌, ◌⊎�
 use Rattle.byte_fields.specs.Check.{first_failing}
 use Rattle.msf_blocks.specs.Directory.{Listed, bytes_of}
 use Rattle.msf_blocks.specs.Layout.{LayoutView, HasLayout, layout_checks}
-use Rattle.pdb_commands.specs.Check.{ShowsChecked, HasNoAccepted}
-use Rattle.pdb_commands.specs.Info.{ShowsInfo, HasNoInfo}
-use Rattle.pdb_commands.specs.Record.{ShowsRecord, HasNoRecord}
-use Rattle.pdb_commands.specs.Records.{ShowsRecords, HasNoTypeRecords}
-use Rattle.pdb_commands.specs.Streams.{ShowsStreams, HasNoLayout}
-use Rattle.pdb_commands.specs.Types.{ShowsTypes, HasNoTypes}
+use Rattle.pdb_commands.specs.Check.{ShowsChecked, ShowsCheckedRead, HasNoAccepted}
+use Rattle.pdb_commands.specs.Info.{ShowsInfo, ShowsInfoRead, HasNoInfo}
+use Rattle.pdb_commands.specs.Record.{ShowsRecord, ShowsRecordRead, HasNoRecord}
+use Rattle.pdb_commands.specs.Records.{ShowsRecords, ShowsRecordsRead, HasNoTypeRecords}
+use Rattle.pdb_commands.specs.Streams.{ShowsStreams, ShowsStreamsRead, HasNoLayout}
+use Rattle.pdb_commands.specs.Types.{ShowsTypes, ShowsTypesRead, HasNoTypes}
 use Rattle.pdb_commands.specs.declared.fault.RunFault.{RunFault}
 use Rattle.pdb_commands.specs.declared.fault.RunFault.TheVariants.{TooLong}
 use Rattle.pdb_commands.specs.declared.shown.Shown.{Shown}
@@ -31,6 +31,15 @@ RefusesIt shown.Types = HasNoTypes
 RefusesIt shown.Check = HasNoAccepted
 RefusesIt shown.Info = HasNoInfo
 RefusesIt shown.Streams = HasNoLayout
+
+-- the command prints this text where texts of this layout were read
+abbrev pub ShowsItRead : Shown → LayoutView → List ℕ → Type 0
+ShowsItRead shown.Records = ShowsRecordsRead
+ShowsItRead (shown.Record index) = ShowsRecordRead index
+ShowsItRead shown.Types = ShowsTypesRead
+ShowsItRead shown.Check = ShowsCheckedRead
+ShowsItRead shown.Info = ShowsInfoRead
+ShowsItRead shown.Streams = ShowsStreamsRead
 
 -- the stream that the command reads whole, if it reads one
 abbrev pub stream_of : Shown → Option ℕ

@@ -1,11 +1,12 @@
 -- What the command `streams` prints.
-use Rattle.std.specs.Prelude.{ℕ, ◌≡◌, ◌+◌, count_by, List, [], ◌∷◌, ◌++◌, length, Some, codes}
+use Rattle.std.specs.Prelude.{ℕ, ◌≡◌, ◌+◌, ◌*◌, ◌/◌, ◌%◌, ◌^◌, ◌<◌, ◌≤◌, ◌==◌, ◌&&◌, nat_lt, slice_index, Bool, count_by, List, [], ◌∷◌, ◌++◌, length, Some, codes}
 use Rattle.std.specs.List.{range_with_len, flat_map}
 use Rattle.std.specs.Fmt.{decimal}
 use Rattle.byte_fields.specs.Check.{first_failing}
 use Rattle.msf_blocks.specs.Superblock.{Fields}
 use Rattle.msf_blocks.specs.Directory.{Listed, bytes_of}
-use Rattle.msf_blocks.specs.FreeMap.{is_free}
+use Rattle.byte_io.specs.At.{StandsAt}
+use Rattle.msf_blocks.specs.FreeMap.{is_free, map_block_of, blocks_per_map_block}
 use Rattle.msf_blocks.specs.Layout.{LayoutView, HasLayout, layout_checks}
 use Rattle.pdb_merge.specs.declared.fault.PdbFault.{PdbFault}
 use Rattle.pdb_merge.specs.declared.fault.PdbFault.TheVariants as pdb
@@ -17,14 +18,32 @@ use Rattle.pdb_commands.specs.declared.fault.RunFault.TheVariants.{Pdb}
 unfoldable pub free_blocks : List ℕ → Fields → ℕ
 free_blocks file fields = count_by (is_free file fields) (range_with_len 0 fields.num_blocks)
 
--- the lines on the container
-unfoldable pub container_lines : List ℕ → LayoutView → List ℕ
-container_lines file layout =
+-- the lines on a container, of which this many blocks are free
+unfoldable pub container_with : ℕ → LayoutView → List ℕ
+container_with free layout =
     named_line (codes "block-size") layout.superblock.block_size
     ++ named_line (codes "blocks") layout.superblock.num_blocks
-    ++ named_line (codes "free") (free_blocks file layout.superblock)
+    ++ named_line (codes "free") free
     ++ named_line (codes "directory") layout.superblock.directory_bytes
     ++ named_line (codes "streams") (length layout.streams)
+
+-- the lines on the container
+abbrev pub container_lines : List ℕ → LayoutView → List ℕ
+container_lines file layout = container_with (free_blocks file layout.superblock) layout
+
+-- ---- the free map in force, of which one block is in a page
+
+-- whether a bit of a map block is 1
+abbrev pub bit_of : List ℕ → ℕ → Bool
+bit_of page bit = slice_index page (bit / 8) / 2 ^ (bit % 8) % 2 == 1
+
+-- the block is free, by the page with its map block
+abbrev pub is_free_by : List ℕ → Fields → ℕ → Bool
+is_free_by page fields block = nat_lt (map_block_of fields block) fields.num_blocks && bit_of page (block % blocks_per_map_block fields)
+
+-- the page has the map block with the bit of this block, if that map block is in the file
+abbrev pub HasMap : List ℕ → Fields → ℕ → List ℕ → Type 0
+HasMap file fields block page = map_block_of fields block < fields.num_blocks → StandsAt file (map_block_of fields block * fields.block_size) page
 
 -- a number after a space
 abbrev pub blank_number : ℕ → List ℕ
@@ -42,6 +61,10 @@ stream_lines s (stream ∷ others) = stream_line s stream ++ stream_lines (s + 1
 -- `streams` prints this text for the file: the lines on the container, and a line for each stream
 abbrev pub ShowsStreams : List ℕ → List ℕ → Type 0
 ShowsStreams file text = (layout : LayoutView) × HasLayout file layout × (text ≡ container_lines file layout ++ stream_lines 0 layout.streams)
+
+-- `streams` prints this text where this layout was read, and so many blocks are free by the map that was read
+abbrev pub ShowsStreamsRead : LayoutView → List ℕ → Type 0
+ShowsStreamsRead layout text = (free : ℕ) × (free ≤ layout.superblock.num_blocks) × (text ≡ container_with free layout ++ stream_lines 0 layout.streams)
 
 -- this is the first fault of the file on the way to its layout
 abbrev pub HasLayoutFault : {A : Type 0} → List ℕ → PdbFault A → Type 0

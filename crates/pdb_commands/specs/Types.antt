@@ -10,7 +10,8 @@ use Rattle.cv_leaves.specs.Checks.{kind_of, body_of, record_checks}
 use Rattle.cv_leaves.specs.Place.{HasPlaces, IsChecked}
 use Rattle.cv_leaves.specs.Name.{name_of}
 use Rattle.cv_leaves.specs.declared.fault.LeafFault.{LeafFault}
-use Rattle.pdb_merge.specs.Read.{HasTypeRecords}
+use Rattle.msf_blocks.specs.Layout.{LayoutView}
+use Rattle.pdb_merge.specs.Read.{RecordsWereRead, HasTypeRecords}
 use Rattle.pdb_commands.specs.Records.{HasNoTypeRecords}
 use Rattle.pdb_commands.specs.Text.{index_text, quoted}
 use Rattle.pdb_commands.specs.declared.fault.RunFault.{RunFault}
@@ -43,6 +44,10 @@ AreTypeLines index (bytes ∷ others) text =
 -- `types` prints this text for the file: a line for each of its type records
 abbrev pub ShowsTypes : List ℕ → List ℕ → Type 0
 ShowsTypes file text = (records : List (List ℕ)) × HasTypeRecords file records × AreTypeLines first_index records text
+
+-- `types` prints this text where the records of this layout were read
+abbrev pub ShowsTypesRead : LayoutView → List ℕ → Type 0
+ShowsTypesRead layout text = (records : List (List ℕ)) × RecordsWereRead layout records × AreTypeLines first_index records text
 
 -- the first of these records whose leaf is at fault has this type index and this fault
 abbrev pub HasLeafFault : List (List ℕ) → ℕ → LeafFault → Type 0

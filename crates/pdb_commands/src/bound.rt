@@ -1,9 +1,13 @@
 //! A limit on a stream of a file.
 
-ghost use Rattle.std.specs.Prelude.{◌≡◌, ◌⊎◌, OnOk, IfErr};
+ghost use Rattle.std.specs.Prelude.{◌≡◌, ◌⊎◌, ℕ, List, OnOk, IfErr};
+ghost use Rattle.byte_fields.specs.Bytes.{AreBytes};
+ghost use Rattle.byte_io.specs.At.{Breaks, IfKnown, IfOf};
+ghost use Rattle.msf_blocks.specs.Layout.{HasLayout};
 ghost use Rattle.pdb_commands.specs.Shown.{HasLongStream, MayRunOut};
 
 use crate::fault::RunFault;
+use byte_io::{AtFault, ReadAt};
 use msf_blocks::{Layout, MsfFault};
 use std::alloc::Allocator;
 
@@ -12,6 +16,23 @@ pub(crate) const INFO_STREAM: u32 = 1;
 
 /// The stream that holds the type records.
 pub(crate) const TPI_STREAM: u32 = 2;
+
+/// Checks that a stream of a file with this layout has at most `limit` bytes. A stream that is not
+/// there is left to the reader that comes next.
+pub(crate) fn check_size<L: Allocator, A: Allocator>(
+    layout: &Layout<L>,
+    stream: u32,
+    limit: u32,
+) -> Result<(), RunFault<A>>
+    ensures value { (file : List ℕ) → AreBytes file → HasLayout file layout.now → OnOk result (HasLongStream limit stream file → ⊥) }
+    ensures first { (file : List ℕ) → HasLayout file layout.now → IfErr result (λ fault. HasLongStream limit stream file) }
+    ensures own { IfErr result (λ fault. fault ≡ RunFault.TooLong) }
+{
+    match layout.size(stream) {
+        Some(size) if limit < size => Err(RunFault::TooLong),
+        _ => Ok(()),
+    }
+}
 
 /// Checks that a stream of a file has at most `limit` bytes. A stream may list a block many times,
 /// so it may have more bytes than its file.
@@ -34,10 +55,7 @@ pub(crate) fn check_stream<A: Allocator + Copy>(
         return Ok(());
     }
     match Layout::read(alloc, file) {
-        Ok(layout) => match layout.size(stream) {
-            Some(size) if limit < size => Err(RunFault::TooLong),
-            _ => Ok(()),
-        },
+        Ok(layout) => check_size(&layout, stream, limit),
         Err(fault) => match fault {
             MsfFault::Memory => Err(RunFault::Memory),
             _ => Ok(()),
@@ -60,4 +78,36 @@ pub fn check_type_stream<A: Allocator + Copy>(
     ensures memory { IfErr result (λ fault. fault ≡ RunFault.Memory → MayRunOut limit file.now) }
 {
     check_stream(alloc, file, TPI_STREAM, limit)
+}
+
+/// Checks that the stream of type records has at most `limit` bytes, by position, as
+/// [`check_type_stream`] does for a whole file. Of the file only the superblock, the block map and
+/// the directory are read, and nothing where `limit` is `u32::MAX`.
+///
+/// The faults are `AtFault::Read` where a read failed, `TooLong` and `Memory`.
+pub fn check_type_stream_at<R: ReadAt, A: Allocator + Copy>(
+    alloc: A,
+    input: &mut R,
+    limit: u32,
+) -> Result<(), AtFault<RunFault<A>>>
+    ensures keeps { R.bytes input.new ≡ R.bytes input.old }
+    ensures value { OnOk result (IfKnown (R.bytes input.old) (λ file. HasLongStream limit 2 file → ⊥)) }
+    ensures first { IfErr result (IfOf (λ fault. ((fault ≡ RunFault.TooLong) × IfKnown (R.bytes input.old) (HasLongStream limit 2)) ⊎ (fault ≡ RunFault.Memory))) }
+    ensures memory { IfErr result (IfOf (λ fault. fault ≡ RunFault.Memory → IfKnown (R.bytes input.old) (MayRunOut limit))) }
+    ensures read { IfErr result (λ fault. fault ≡ AtFault.Read → Breaks (R.bytes input.old) (R.is_broken input.new)) }
+{
+    if limit == u32::MAX {
+        return Ok(());
+    }
+    match Layout::read_at(alloc, input) {
+        Ok(layout) => match check_size(&layout, TPI_STREAM, limit) {
+            Ok(()) => Ok(()),
+            Err(fault) => Err(AtFault::Of(fault)),
+        },
+        Err(AtFault::Of(fault)) => match fault {
+            MsfFault::Memory => Err(AtFault::Of(RunFault::Memory)),
+            _ => Ok(()),
+        },
+        Err(AtFault::Read) => Err(AtFault::Read),
+    }
 }

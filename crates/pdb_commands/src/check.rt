@@ -1,15 +1,17 @@
 //! The command `check`: whether the types of a file can be trusted.
 
 ghost use Rattle.std.specs.Prelude.{◌≡◌, ◌⊎◌, ◌++◌, true, ℕ, List, OnOk, IfOk, IfErr, string_bytes};
-ghost use Rattle.pdb_commands.specs.Check.{ShowsChecked, HasNoAccepted, checked_lines};
+ghost use Rattle.msf_blocks.specs.Layout.{LayoutView};
+ghost use Rattle.pdb_commands.specs.Check.{ShowsChecked, ShowsCheckedRead, HasNoAccepted, checked_lines};
 ghost use Rattle.pdb_commands.specs.Show.{Answers, AnswersAt};
-ghost use Rattle.pdb_merge.specs.Read.{IsAccepted};
+ghost use Rattle.pdb_merge.specs.Read.{IsAccepted, TypesWereRead};
 
 use crate::fault::RunFault;
 use crate::show::{Show, ShowAt, run, run_at};
 use crate::text::push_named;
 use byte_io::{AtFault, ReadAt, Sink, Source};
-use pdb_merge::{Buffer, read_types, read_types_at};
+use msf_blocks::{Layout, MsfFault};
+use pdb_merge::{Buffer, PdbFault, read_types, read_types_of};
 use std::alloc::{AllocError, Allocator};
 use type_trees::Types;
 
@@ -33,6 +35,7 @@ fn push_checked<A: Allocator>(
 /// The text of types.
 fn types_text<A: Allocator + Copy>(alloc: A, types: &Types<'_, A>) -> Result<String<A>, RunFault<A>>
     ensures value { IfOk result (λ text. (file : List ℕ) → IsAccepted file types.now → ShowsChecked file (string_bytes text)) }
+    ensures texts { IfOk result (λ text. (layout : LayoutView) → TypesWereRead layout types.now → ShowsCheckedRead layout (string_bytes text)) }
     ensures memory { IfErr result (λ fault. fault ≡ RunFault.Memory) }
 {
     let mut text = String::new(alloc);
@@ -62,13 +65,20 @@ impl<A: Allocator + Copy> Show<A> for Check {
 }
 
 impl<A: Allocator + Copy> ShowAt<A> for Check {
-    fn text_at<R: ReadAt>(
+    ghost shows_read = { λ _. ShowsCheckedRead };
+
+    fn refuse_layout(&self, fault: MsfFault) -> RunFault<A> {
+        RunFault::from(PdbFault::from(fault))
+    }
+
+    fn text_of<R: ReadAt>(
         &self,
         alloc: A,
         input: &mut R,
+        layout: &Layout<A>,
     ) -> Result<String<A>, AtFault<RunFault<A>>> {
         let mut buffer = Buffer::new(alloc);
-        let types = match read_types_at(alloc, input, &mut buffer) {
+        let types = match read_types_of(alloc, input, layout, &mut buffer) {
             Ok(types) => types,
             Err(AtFault::Of(fault)) => return Err(AtFault::Of(RunFault::from(fault))),
             Err(AtFault::Read) => return Err(AtFault::Read),
@@ -109,7 +119,7 @@ pub fn run_check_at<R: ReadAt, W: Sink, A: Allocator + Copy>(
     limit: u32,
     out: &mut W,
 ) -> Result<(), RunFault<A>>
-    ensures { AnswersAt ShowsChecked HasNoAccepted limit (R.bytes input.old) (R.is_broken input.new) W.taken W.is_broken out.old out.new result }
+    ensures { AnswersAt ShowsChecked HasNoAccepted ShowsCheckedRead limit (R.bytes input.old) (R.told input.old) (R.is_broken input.new) W.taken W.is_broken out.old out.new result }
 {
     run_at(alloc, &Check, input, limit, out)
 }

@@ -4,10 +4,10 @@ ghost use Rattle.std.specs.Prelude.{◌≡◌, ◌⊎◌, ◌++◌, map, Some, t
 ghost use Rattle.std.specs.List.{flat_map};
 ghost use Rattle.byte_io.specs.At.{Breaks, IfKnown, IfOf};
 ghost use Rattle.msf_blocks.specs.Layout.{LayoutView, HasLayout};
-ghost use Rattle.msf_streams.specs.Streams.{stream_contents};
+ghost use Rattle.msf_streams.specs.Streams.{WasRead, stream_contents};
 ghost use Rattle.pdb_info.specs.Name.{named};
 ghost use Rattle.pdb_commands.specs.Show.{Answers, AnswersAt};
-ghost use Rattle.pdb_commands.specs.Info.{ShowsInfo, HasNoInfo, HasNoInfoStream, IsInfoFault, IsInfoText, signature_line, guid_line, header_lines, name_line, feature_line};
+ghost use Rattle.pdb_commands.specs.Info.{ShowsInfo, ShowsInfoRead, HasNoInfo, HasNoInfoStream, IsInfoFault, IsInfoText, signature_line, guid_line, header_lines, name_line, feature_line};
 
 use crate::bound::INFO_STREAM;
 use crate::fault::RunFault;
@@ -15,7 +15,7 @@ use crate::show::{Show, ShowAt, run, run_at};
 use crate::streams::read_layout;
 use crate::text::{push_index, push_named, push_quoted};
 use byte_io::{AtFault, ReadAt, Sink, Source};
-use msf_blocks::Layout;
+use msf_blocks::{Layout, MsfFault};
 use msf_streams::{contents, gather_at};
 use pdb_info::{InfoHeader, Name};
 use pdb_merge::PdbFault;
@@ -112,22 +112,19 @@ fn info_stream<'a, A: Allocator + Copy>(
     Ok(contents(alloc, file, &layout, INFO_STREAM, buffer)?)
 }
 
-/// Reads stream 1 of a file by position into the buffer.
-fn info_stream_at<R: ReadAt, A: Allocator + Copy>(
-    alloc: A,
+/// Reads stream 1 of a file with this layout by position into the buffer.
+fn info_stream_of<R: ReadAt, L: Allocator, A: Allocator>(
     input: &mut R,
+    layout: &Layout<L>,
     buffer: &mut Vec<u8, A>,
 ) -> Result<(), AtFault<PdbFault<A>>>
+    requires { IfKnown (R.bytes input.old) (λ file. HasLayout file layout.now) }
     ensures value { OnOk result (IfKnown (R.bytes input.old) (λ file. (layout : LayoutView) × HasLayout file layout × (stream_contents file layout 1 ≡ Some buffer.new.items))) }
+    ensures texts { OnOk result (WasRead layout.now 1 buffer.new.items) }
     ensures first { IfErr result (IfOf (λ fault. IfKnown (R.bytes input.old) (λ file. HasNoInfoStream file fault ⊎ (fault ≡ PdbFault.Memory)))) }
     ensures read { IfErr result (λ fault. fault ≡ AtFault.Read → Breaks (R.bytes input.old) (R.is_broken input.new)) }
 {
-    let layout = match Layout::read_at(alloc, input) {
-        Ok(layout) => layout,
-        Err(AtFault::Of(fault)) => return Err(AtFault::Of(PdbFault::from(fault))),
-        Err(AtFault::Read) => return Err(AtFault::Read),
-    };
-    match gather_at(input, &layout, INFO_STREAM, buffer) {
+    match gather_at(input, layout, INFO_STREAM, buffer) {
         Ok(()) => Ok(()),
         Err(AtFault::Of(fault)) => Err(AtFault::Of(PdbFault::from(fault))),
         Err(AtFault::Read) => Err(AtFault::Read),
@@ -168,13 +165,20 @@ impl<A: Allocator + Copy> Show<A> for Info {
 }
 
 impl<A: Allocator + Copy> ShowAt<A> for Info {
-    fn text_at<R: ReadAt>(
+    ghost shows_read = { λ _. ShowsInfoRead };
+
+    fn refuse_layout(&self, fault: MsfFault) -> RunFault<A> {
+        RunFault::from(PdbFault::from(fault))
+    }
+
+    fn text_of<R: ReadAt>(
         &self,
         alloc: A,
         input: &mut R,
+        layout: &Layout<A>,
     ) -> Result<String<A>, AtFault<RunFault<A>>> {
         let mut buffer = Vec::new(alloc);
-        match info_stream_at(alloc, input, &mut buffer) {
+        match info_stream_of(input, layout, &mut buffer) {
             Ok(()) => {}
             Err(AtFault::Of(fault)) => return Err(AtFault::Of(RunFault::from(fault))),
             Err(AtFault::Read) => return Err(AtFault::Read),
@@ -215,7 +219,7 @@ pub fn run_info_at<R: ReadAt, W: Sink, A: Allocator + Copy>(
     limit: u32,
     out: &mut W,
 ) -> Result<(), RunFault<A>>
-    ensures { AnswersAt ShowsInfo HasNoInfo limit (R.bytes input.old) (R.is_broken input.new) W.taken W.is_broken out.old out.new result }
+    ensures { AnswersAt ShowsInfo HasNoInfo ShowsInfoRead limit (R.bytes input.old) (R.told input.old) (R.is_broken input.new) W.taken W.is_broken out.old out.new result }
 {
     run_at(alloc, &Info, input, limit, out)
 }

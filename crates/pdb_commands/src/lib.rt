@@ -5,13 +5,18 @@
 //! end, makes its whole text, and then writes it into a [`Sink`](msf_blocks::Sink). [`run_merge`]
 //! writes one file with the types of several files, and a report on it. Each refusal is a
 //! [`RunFault`]. [`run_shown`] runs any command that shows a file, with a limit on the stream that it
-//! reads, and [`check_type_stream`] is that limit. [`run_records_at`], [`run_record_at`],
-//! [`run_types_at`], [`run_check_at`] and [`run_info_at`] read by position, and only what they need.
+//! reads, and [`check_type_stream`] is that limit.
+//!
+//! [`run_records_at`], [`run_record_at`], [`run_types_at`], [`run_check_at`], [`run_info_at`],
+//! [`run_streams_at`] and [`run_shown_at`] read by position, and only what they need.
+//! [`run_shown_file`] does so too, and reads the whole file where a read by position fails.
 //!
 //! What is proved of the commands that show a file: the text that is written is the text of the
 //! file (`Shows..` of `specs/`), byte for byte. A refusal is the first fault of reading or of the
 //! file. After `36 Write` the sink is broken and took the first bytes of the text. After any other
-//! refusal nothing was written. By position this holds of files whose bytes are known, as slices.
+//! refusal nothing was written. By position this holds of files whose bytes are known, as slices. Of
+//! any file a length above the limit is refused first, and the text is that of the texts that were
+//! read (`ShowsItRead`).
 //!
 //! The module `show` runs the commands that show a file. Each command has a module of its own.
 //! `text` prints numbers and names.
@@ -32,13 +37,13 @@ mod streams;
 mod text;
 mod types;
 
-pub use bound::check_type_stream;
+pub use bound::{check_type_stream, check_type_stream_at};
 pub use check::{run_check, run_check_at};
 pub use fault::RunFault;
 pub use info::{run_info, run_info_at};
 pub use merge::run_merge;
 pub use record::{run_record, run_record_at};
 pub use records::{run_records, run_records_at};
-pub use shown::{Shown, run_shown};
-pub use streams::run_streams;
+pub use shown::{Shown, run_shown, run_shown_at, run_shown_file};
+pub use streams::{run_streams, run_streams_at};
 pub use types::{run_types, run_types_at};

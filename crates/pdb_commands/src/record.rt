@@ -4,16 +4,18 @@ ghost use Rattle.std.specs.Prelude.{◌≡◌, ◌≤◌, ◌+◌, ◌^◌, ◌�
 ghost use Rattle.std.specs.List.{flat_map};
 ghost use Rattle.cv_leaves.specs.Place.{HasPlaces, IsChecked};
 ghost use Rattle.cv_leaves.specs.Name.{name_of};
-ghost use Rattle.pdb_commands.specs.Record.{ShowsRecord, HasNoRecord, record_of, bytes_line, place_line, name_lines};
+ghost use Rattle.msf_blocks.specs.Layout.{LayoutView};
+ghost use Rattle.pdb_commands.specs.Record.{ShowsRecord, ShowsRecordRead, HasNoRecord, record_of, bytes_line, place_line, name_lines};
 ghost use Rattle.pdb_commands.specs.Show.{Answers, AnswersAt, IsOfText};
-ghost use Rattle.pdb_merge.specs.Read.{HasTypeRecords};
+ghost use Rattle.pdb_merge.specs.Read.{HasTypeRecords, RecordsWereRead};
 
 use crate::fault::RunFault;
 use crate::show::{Show, ShowAt, run, run_at};
 use crate::text::{push_index, push_quoted};
 use byte_io::{AtFault, ReadAt, Sink, Source};
 use cv_leaves::{check, places, ref_at, type_name};
-use pdb_merge::{Buffer, read_records, read_records_at};
+use msf_blocks::{Layout, MsfFault};
+use pdb_merge::{Buffer, PdbFault, read_records, read_records_of};
 use std::alloc::{AllocError, Allocator};
 use tpi_records::{FIRST_INDEX, Records};
 
@@ -103,6 +105,7 @@ fn indexed_text<A: Allocator + Copy>(
     index: u32,
 ) -> Result<String<A>, RunFault<A>>
     ensures value { IfOk result (λ text. (file : List ℕ) → HasTypeRecords file records.now → ShowsRecord index file (string_bytes text)) }
+    ensures texts { IfOk result (λ text. (layout : LayoutView) → RecordsWereRead layout records.now → ShowsRecordRead index layout (string_bytes text)) }
     ensures first { IfErr result (λ fault. (file : List ℕ) → HasTypeRecords file records.now → HasNoRecord index file fault ⊎ (fault ≡ RunFault.Memory)) }
     ensures pure { IfErr result IsOfText }
 {
@@ -134,13 +137,20 @@ impl<A: Allocator + Copy> Show<A> for Record {
 }
 
 impl<A: Allocator + Copy> ShowAt<A> for Record {
-    fn text_at<R: ReadAt>(
+    ghost shows_read = { λ c. ShowsRecordRead c.index };
+
+    fn refuse_layout(&self, fault: MsfFault) -> RunFault<A> {
+        RunFault::from(PdbFault::from(fault))
+    }
+
+    fn text_of<R: ReadAt>(
         &self,
         alloc: A,
         input: &mut R,
+        layout: &Layout<A>,
     ) -> Result<String<A>, AtFault<RunFault<A>>> {
         let mut buffer = Buffer::new(alloc);
-        let records = match read_records_at(alloc, input, &mut buffer) {
+        let records = match read_records_of(alloc, input, layout, &mut buffer) {
             Ok(records) => records,
             Err(AtFault::Of(fault)) => return Err(AtFault::Of(RunFault::from(fault))),
             Err(AtFault::Read) => return Err(AtFault::Read),
@@ -186,7 +196,7 @@ pub fn run_record_at<R: ReadAt, W: Sink, A: Allocator + Copy>(
     index: u32,
     out: &mut W,
 ) -> Result<(), RunFault<A>>
-    ensures { AnswersAt (ShowsRecord index) (HasNoRecord index) limit (R.bytes input.old) (R.is_broken input.new) W.taken W.is_broken out.old out.new result }
+    ensures { AnswersAt (ShowsRecord index) (HasNoRecord index) (ShowsRecordRead index) limit (R.bytes input.old) (R.told input.old) (R.is_broken input.new) W.taken W.is_broken out.old out.new result }
 {
     run_at(alloc, &Record { index }, input, limit, out)
 }

@@ -2,7 +2,7 @@
 
 ghost use Rattle.std.specs.Prelude.{◌≡◌, ◌⊎◌, ◌++◌, true, OnOk, IfOk, IfErr, string_bytes};
 ghost use Rattle.tpi_records.specs.Records.{IsRecord};
-ghost use Rattle.pdb_commands.specs.Records.{ShowsRecords, HasNoTypeRecords, record_line, record_lines};
+ghost use Rattle.pdb_commands.specs.Records.{ShowsRecords, ShowsRecordsRead, HasNoTypeRecords, record_line, record_lines};
 ghost use Rattle.pdb_commands.specs.Show.{Answers, AnswersAt};
 
 use crate::fault::RunFault;
@@ -10,7 +10,8 @@ use crate::show::{Show, ShowAt, run, run_at};
 use crate::text::{push_index, push_kind};
 use byte_io::{AtFault, ReadAt, Sink, Source};
 use cv_leaves::kind_of;
-use pdb_merge::{Buffer, read_records, read_records_at};
+use msf_blocks::{Layout, MsfFault};
+use pdb_merge::{Buffer, PdbFault, read_records, read_records_of};
 use std::alloc::{AllocError, Allocator};
 use tpi_records::FIRST_INDEX;
 
@@ -65,13 +66,20 @@ impl<A: Allocator + Copy> Show<A> for Records {
 }
 
 impl<A: Allocator + Copy> ShowAt<A> for Records {
-    fn text_at<R: ReadAt>(
+    ghost shows_read = { λ _. ShowsRecordsRead };
+
+    fn refuse_layout(&self, fault: MsfFault) -> RunFault<A> {
+        RunFault::from(PdbFault::from(fault))
+    }
+
+    fn text_of<R: ReadAt>(
         &self,
         alloc: A,
         input: &mut R,
+        layout: &Layout<A>,
     ) -> Result<String<A>, AtFault<RunFault<A>>> {
         let mut buffer = Buffer::new(alloc);
-        let records = match read_records_at(alloc, input, &mut buffer) {
+        let records = match read_records_of(alloc, input, layout, &mut buffer) {
             Ok(records) => records,
             Err(AtFault::Of(fault)) => return Err(AtFault::Of(RunFault::from(fault))),
             Err(AtFault::Read) => return Err(AtFault::Read),
@@ -113,7 +121,7 @@ pub fn run_records_at<R: ReadAt, W: Sink, A: Allocator + Copy>(
     limit: u32,
     out: &mut W,
 ) -> Result<(), RunFault<A>>
-    ensures { AnswersAt ShowsRecords HasNoTypeRecords limit (R.bytes input.old) (R.is_broken input.new) W.taken W.is_broken out.old out.new result }
+    ensures { AnswersAt ShowsRecords HasNoTypeRecords ShowsRecordsRead limit (R.bytes input.old) (R.told input.old) (R.is_broken input.new) W.taken W.is_broken out.old out.new result }
 {
     run_at(alloc, &Records, input, limit, out)
 }

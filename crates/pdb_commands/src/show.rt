@@ -1,12 +1,16 @@
 //! How a command that shows a file runs.
 
 ghost use Rattle.std.specs.Prelude.{◌≡◌, ◌⊎◌, ℕ, List, true, OnOk, IfOk, IfErr, string_bytes};
+ghost use Rattle.byte_fields.specs.Bytes.{AreBytes};
+ghost use Rattle.byte_fields.specs.Check.{Refuses, first_failing};
 ghost use Rattle.byte_io.specs.At.{Breaks, IfKnown, IfOf};
-ghost use Rattle.pdb_commands.specs.Show.{Answers, AnswersAt, IsOfText};
+ghost use Rattle.msf_blocks.specs.Layout.{HasLayout, layout_checks};
+ghost use Rattle.pdb_commands.specs.Show.{Answers, AnswersAt, IsOfText, IsOfTexts};
 ghost use Rattle.pdb_commands.specs.declared.fault.RunFault.{RunFault};
 
 use crate::fault::RunFault;
 use byte_io::{AtFault, ReadAt, ReadFault, Sink, Source, put_all, read_all};
+use msf_blocks::{Layout, MsfFault};
 use std::alloc::Allocator;
 
 /// A command that shows a file: it makes a text from the file's bytes.
@@ -27,21 +31,60 @@ pub trait Show<A: Allocator + Copy> {
 
 /// A command that shows a file, and reads by position only the parts of it that it needs.
 pub trait ShowAt<A: Allocator + Copy>: Show<A> {
-    /// Makes the whole text.
-    fn text_at<R: ReadAt>(&self, alloc: A, input: &mut R) -> Result<String<A>, AtFault<RunFault<A>>>
+    ghost use Rattle.msf_blocks.specs.Layout.{LayoutView, HasLayout};
+
+    /// The command prints this text where texts of this layout were read.
+    ghost shows_read: { Self → LayoutView → List ℕ → Type 0 };
+
+    /// The fault of the command for a file whose container has this fault.
+    fn refuse_layout(&self, fault: MsfFault) -> RunFault<A>
+        ensures first { (file : List ℕ) → AreBytes file → Refuses MsfFault.Memory (first_failing (layout_checks file)) fault → Self.refuses self.now file result ⊎ (result ≡ RunFault.Memory) }
+        ensures pure { IsOfText result };
+
+    /// Makes the whole text of a file with this layout.
+    fn text_of<R: ReadAt>(
+        &self,
+        alloc: A,
+        input: &mut R,
+        layout: &Layout<A>,
+    ) -> Result<String<A>, AtFault<RunFault<A>>>
+        requires bytes { IfKnown (R.bytes input.old) AreBytes }
+        requires layout { IfKnown (R.bytes input.old) (λ file. HasLayout file layout.now) }
         ensures value { IfOk result (λ text. IfKnown (R.bytes input.old) (λ file. Self.shows self.now file (string_bytes text))) }
+        ensures texts { IfOk result (λ text. shows_read self.now layout.now (string_bytes text)) }
         ensures first { IfErr result (IfOf (λ fault. IfKnown (R.bytes input.old) (λ file. Self.refuses self.now file fault ⊎ (fault ≡ RunFault.Memory)))) }
         ensures pure { IfErr result (IfOf IsOfText) }
         ensures read { IfErr result (λ fault. fault ≡ AtFault.Read → Breaks (R.bytes input.old) (R.is_broken input.new)) };
+}
+
+/// Makes the whole text of a file that is read by position. Its layout is read once.
+fn text_at<C: ShowAt<A>, R: ReadAt, A: Allocator + Copy>(
+    alloc: A,
+    command: &C,
+    input: &mut R,
+) -> Result<String<A>, AtFault<RunFault<A>>>
+    ensures value { IfOk result (λ text. IfKnown (R.bytes input.old) (λ file. C.shows command.now file (string_bytes text))) }
+    ensures texts { IfOk result (λ text. IsOfTexts (C.shows_read command.now) (R.told input.old) (string_bytes text)) }
+    ensures first { IfErr result (IfOf (λ fault. IfKnown (R.bytes input.old) (λ file. C.refuses command.now file fault ⊎ (fault ≡ RunFault.Memory)))) }
+    ensures pure { IfErr result (IfOf IsOfText) }
+    ensures read { IfErr result (λ fault. fault ≡ AtFault.Read → Breaks (R.bytes input.old) (R.is_broken input.new)) }
+{
+    let layout = match Layout::read_at(alloc, input) {
+        Ok(layout) => layout,
+        Err(AtFault::Of(fault)) => return Err(AtFault::Of(command.refuse_layout(fault))),
+        Err(AtFault::Read) => return Err(AtFault::Read),
+    };
+    command.text_of(alloc, input, &layout)
 }
 
 /// Runs a command by position: reads what it needs of the input, makes the whole text, then writes
 /// the text.
 ///
 /// `limit` is the greatest number of bytes that the input may have. The faults come in this order:
-/// `TooLong`; those of the command for this file, and `Read` where a read failed; and `Write`, where
-/// the sink did not take the whole text. Only after `Write` has the sink taken anything. It is
-/// broken then, and it has the first bytes of the text.
+/// `TooLong`, by the length that the input says that it has; those of the command for this file,
+/// and `Read` where a read failed; and `Write`, where the sink did not take the whole text. Only
+/// after `Write` has the sink taken anything. It is broken then, and it has the first bytes of the
+/// text.
 pub fn run_at<C: ShowAt<A>, R: ReadAt, W: Sink, A: Allocator + Copy>(
     alloc: A,
     command: &C,
@@ -49,12 +92,12 @@ pub fn run_at<C: ShowAt<A>, R: ReadAt, W: Sink, A: Allocator + Copy>(
     limit: u32,
     out: &mut W,
 ) -> Result<(), RunFault<A>>
-    ensures { AnswersAt (C.shows command.now) (C.refuses command.now) limit (R.bytes input.old) (R.is_broken input.new) W.taken W.is_broken out.old out.new result }
+    ensures { AnswersAt (C.shows command.now) (C.refuses command.now) (C.shows_read command.now) limit (R.bytes input.old) (R.told input.old) (R.is_broken input.new) W.taken W.is_broken out.old out.new result }
 {
     if u64::from(limit) < input.len() {
         return Err(RunFault::Read(ReadFault::TooLong));
     }
-    let text = match command.text_at(alloc, input) {
+    let text = match text_at(alloc, command, input) {
         Ok(text) => text,
         Err(AtFault::Of(fault)) => return Err(fault),
         Err(AtFault::Read) => return Err(RunFault::Read(ReadFault::Read)),

@@ -1,19 +1,23 @@
 //! The commands that show a file, with a limit on what they read.
 
-ghost use Rattle.std.specs.Prelude.{◌≡◌, ◌⊎◌, OnOk, IfErr};
-ghost use Rattle.pdb_commands.specs.Show.{Answers};
-ghost use Rattle.pdb_commands.specs.Shown.{ShowsWithin, RefusesWithin, stream_of, ReadsTooLong};
+ghost use Rattle.std.specs.Prelude.{◌≡◌, ◌⊎◌, ℕ, List, true, false, Err, OnOk, IfErr};
+ghost use Rattle.byte_fields.specs.Bytes.{AreBytes};
+ghost use Rattle.msf_blocks.specs.Layout.{HasLayout};
+ghost use Rattle.pdb_commands.specs.Show.{Answers, AnswersAt, IsByPosition, IsByWhole};
+ghost use Rattle.pdb_commands.specs.Shown.{ShowsItRead, ShowsWithin, RefusesWithin, stream_of, ReadsTooLong};
 
-use crate::bound::{INFO_STREAM, TPI_STREAM, check_stream};
+use crate::bound::{INFO_STREAM, TPI_STREAM, check_size, check_stream};
 use crate::check::Check;
 use crate::fault::RunFault;
 use crate::info::Info;
 use crate::record::Record;
 use crate::records::Records;
-use crate::show::{Show, run};
+use crate::show::{Show, ShowAt, run, run_at};
 use crate::streams::Streams;
 use crate::types::Types;
-use byte_io::{Sink, Source};
+use byte_io::{AtFault, ReadAt, ReadFault, Sink, Source};
+use msf_blocks::{Layout, MsfFault};
+use pdb_merge::PdbFault;
 use std::alloc::Allocator;
 
 /// A command that shows a file.
@@ -66,6 +70,23 @@ impl Within {
     }
 }
 
+impl Within {
+    /// Checks the stream that the command reads, of a file with this layout.
+    fn check_layout<L: Allocator, A: Allocator>(
+        &self,
+        layout: &Layout<L>,
+    ) -> Result<(), RunFault<A>>
+        ensures value { (file : List ℕ) → AreBytes file → HasLayout file layout.now → OnOk result (ReadsTooLong self.now.command self.now.limit file → ⊥) }
+        ensures first { (file : List ℕ) → HasLayout file layout.now → IfErr result (λ fault. ReadsTooLong self.now.command self.now.limit file) }
+        ensures own { IfErr result (λ fault. fault ≡ RunFault.TooLong) }
+    {
+        match self.command.stream() {
+            Some(stream) => check_size(layout, stream, self.limit),
+            None => Ok(()),
+        }
+    }
+}
+
 impl<A: Allocator + Copy> Show<A> for Within {
     ghost shows = { λ s. ShowsWithin s.command s.limit };
 
@@ -80,6 +101,31 @@ impl<A: Allocator + Copy> Show<A> for Within {
             Shown::Check => Check.text(alloc, file),
             Shown::Info => Info.text(alloc, file),
             Shown::Streams => Streams.text(alloc, file),
+        }
+    }
+}
+
+impl<A: Allocator + Copy> ShowAt<A> for Within {
+    ghost shows_read = { λ s. ShowsItRead s.command };
+
+    fn refuse_layout(&self, fault: MsfFault) -> RunFault<A> {
+        RunFault::from(PdbFault::from(fault))
+    }
+
+    fn text_of<R: ReadAt>(
+        &self,
+        alloc: A,
+        input: &mut R,
+        layout: &Layout<A>,
+    ) -> Result<String<A>, AtFault<RunFault<A>>> {
+        self.check_layout(layout)?;
+        match self.command {
+            Shown::Records => Records.text_of(alloc, input, layout),
+            Shown::Record(index) => Record { index }.text_of(alloc, input, layout),
+            Shown::Types => Types.text_of(alloc, input, layout),
+            Shown::Check => Check.text_of(alloc, input, layout),
+            Shown::Info => Info.text_of(alloc, input, layout),
+            Shown::Streams => Streams.text_of(alloc, input, layout),
         }
     }
 }
@@ -101,4 +147,50 @@ pub fn run_shown<R: Source, W: Sink, A: Allocator + Copy>(
     ensures { Answers (ShowsWithin command limit) (RefusesWithin command limit) limit (R.left input.old) (R.left input.new) (R.is_broken input.new) W.taken W.is_broken out.old out.new result }
 {
     run(alloc, &Within { command, limit }, input, limit, out)
+}
+
+/// Runs a command that shows a file by position, as [`run_shown`] does for a whole file, with the
+/// same limits. `TooLong` comes first where the length that the input says that it has is above
+/// `limit`, and `Read` where a read that is needed fails.
+pub fn run_shown_at<R: ReadAt, W: Sink, A: Allocator + Copy>(
+    alloc: A,
+    command: Shown,
+    input: &mut R,
+    limit: u32,
+    out: &mut W,
+) -> Result<(), RunFault<A>>
+    ensures { AnswersAt (ShowsWithin command limit) (RefusesWithin command limit) (ShowsItRead command) limit (R.bytes input.old) (R.told input.old) (R.is_broken input.new) W.taken W.is_broken out.old out.new result }
+{
+    run_at(alloc, &Within { command, limit }, input, limit, out)
+}
+
+/// Whether a command was refused because a read failed.
+fn is_unread<A: Allocator>(answer: &Result<(), RunFault<A>>) -> bool
+    ensures yes { result ≡ true → answer.now ≡ Err (RunFault.Read ReadFault.Read) }
+    ensures no { result ≡ false → answer.now ≡ Err (RunFault.Read ReadFault.Read) → ⊥ }
+{
+    matches!(answer, Err(RunFault::Read(ReadFault::Read)))
+}
+
+/// Runs a command that shows a file by position. Where a read by position fails, it is run on the
+/// whole file, which is read from its start: then nothing was written before.
+///
+/// `input` and `whole` are the same file. The answers are those of [`run_shown_at`], but for `Read`,
+/// and else those of [`run_shown`].
+pub fn run_shown_file<R: ReadAt, S: Source, W: Sink, A: Allocator + Copy>(
+    alloc: A,
+    command: Shown,
+    input: &mut R,
+    whole: &mut S,
+    limit: u32,
+    out: &mut W,
+) -> Result<(), RunFault<A>>
+    ensures { IsByPosition (ShowsWithin command limit) (RefusesWithin command limit) (ShowsItRead command) limit (R.bytes input.old) (R.told input.old) (R.is_broken input.new) whole.old whole.new W.taken W.is_broken out.old out.new result
+        ⊎ IsByWhole (ShowsWithin command limit) (RefusesWithin command limit) limit (R.bytes input.old) (R.told input.old) (R.is_broken input.new) S.left S.is_broken whole.old whole.new W.taken W.is_broken out.old out.new result }
+{
+    let answer = run_shown_at(alloc, command, input, limit, out);
+    if is_unread(&answer) {
+        return run_shown(alloc, command, whole, limit, out);
+    }
+    answer
 }

@@ -1,19 +1,21 @@
 //! The command `streams`: the container of a file, and a line for each stream.
 
-ghost use Rattle.std.specs.Prelude.{◌≡◌, ◌⊎◌, ◌++◌, ◌*◌, ◌<◌, ◌≤◌, length, take, true, Some, OnOk, IfOk, IfErr, IfSome, string_bytes, slice_get};
+ghost use Rattle.std.specs.Prelude.{◌≡◌, ◌⊎◌, ◌++◌, ◌+◌, ◌*◌, ◌/◌, ◌%◌, ◌<◌, ◌≤◌, length, take, true, Some, OnOk, IfOk, IfErr, IfSome, IfNone, string_bytes, slice_get};
 ghost use Rattle.std.specs.List.{flat_map};
 ghost use Rattle.msf_blocks.specs.Directory.{Listed};
 ghost use Rattle.msf_streams.specs.Streams.{blocks_in};
-ghost use Rattle.msf_blocks.specs.FreeMap.{is_free};
+ghost use Rattle.byte_io.specs.At.{Breaks, IfKnown};
+ghost use Rattle.msf_blocks.specs.BlockNumber.{IsBlockSize};
+ghost use Rattle.msf_blocks.specs.FreeMap.{is_free, map_block_of, blocks_per_map_block};
 ghost use Rattle.msf_blocks.specs.Layout.{HasLayout};
-ghost use Rattle.pdb_commands.specs.Show.{Answers};
-ghost use Rattle.pdb_commands.specs.Streams.{ShowsStreams, HasLayoutFault, HasNoLayout, free_blocks, blank_number, container_lines, stream_line, stream_lines};
+ghost use Rattle.pdb_commands.specs.Show.{Answers, AnswersAt};
+ghost use Rattle.pdb_commands.specs.Streams.{ShowsStreams, ShowsStreamsRead, HasLayoutFault, HasNoLayout, HasMap, free_blocks, is_free_by, bit_of, blank_number, container_with, stream_line, stream_lines};
 
 use crate::fault::RunFault;
-use crate::show::{Show, run};
+use crate::show::{Show, ShowAt, run, run_at};
 use crate::text::push_named;
-use byte_io::{Sink, Source};
-use msf_blocks::{Layout, Superblock, blocks_for, free_bit};
+use byte_io::{AtFault, ReadAt, Sink, Source};
+use msf_blocks::{Layout, MsfFault, Superblock, blocks_for, free_bit};
 use pdb_merge::PdbFault;
 use std::alloc::{AllocError, Allocator};
 
@@ -45,6 +47,119 @@ fn free_blocks(file: &[u8], superblock: &Superblock) -> u32
     free
 }
 
+/// The number of the map block with the bit of a block.
+#[tactic(auto, using(msf_blocks::proofs::SizeLaws::size_facts))]
+fn map_block_of(superblock: &Superblock, block: u32) -> u64
+    ensures { result ≡ map_block_of superblock.now block }
+{
+    let block_size = superblock.block_size();
+    let interval = u64::from(block / (8 * block_size));
+    interval * u64::from(block_size) + u64::from(superblock.free_map_block())
+}
+
+/// Whether a bit of a map block is 1. Bit 0 is the lowest bit of the first byte.
+fn is_set(page: &[u8], bit: u32) -> bool
+    requires { bit / 8 < length page.now }
+    ensures { result ≡ bit_of page.now bit }
+{
+    (page[(bit / 8) as usize] >> (bit % 8)) % 2 == 1
+}
+
+/// Whether a block of the file is free, by the page with its map block.
+#[tactic(auto, using(msf_blocks::proofs::SizeLaws::size_facts))]
+fn is_free_by(page: &[u8], superblock: &Superblock, block: u32) -> bool
+    requires { length page.now ≡ superblock.now.block_size }
+    ensures value { result ≡ is_free_by page.now superblock.now block }
+    ensures listed { IsBlockSize superblock.now.block_size }
+{
+    let bit = block % (8 * superblock.block_size());
+    map_block_of(superblock, block) < u64::from(superblock.num_blocks()) && is_set(page, bit)
+}
+
+/// Reads the map block with the bit of a block into the page, if that map block is in the file.
+fn read_map<R: ReadAt>(
+    input: &mut R,
+    superblock: &Superblock,
+    block: u32,
+    page: &mut [u8],
+) -> Option<()>
+    requires whole { IfKnown (R.bytes input.old) (λ file. superblock.now.num_blocks * superblock.now.block_size ≤ length file) }
+    requires room { length page.old ≡ superblock.now.block_size }
+    ensures keeps { R.bytes input.new ≡ R.bytes input.old }
+    ensures room { length page.new ≡ superblock.now.block_size }
+    ensures map { IfSome result (λ _. IfKnown (R.bytes input.old) (λ file. HasMap file superblock.now block page.new)) }
+    ensures read { IfNone result (Breaks (R.bytes input.old) (R.is_broken input.new)) }
+{
+    let map_block = map_block_of(superblock, block);
+    if map_block < u64::from(superblock.num_blocks()) {
+        return input.read_at(map_block * u64::from(superblock.block_size()), page);
+    }
+    Some(())
+}
+
+/// Has the map block with the bit of a block in the page. It is read at the first block of which it
+/// has the bit.
+#[tactic(auto, using(msf_blocks::proofs::SizeLaws::size_facts))]
+fn turn_page<R: ReadAt>(
+    input: &mut R,
+    superblock: &Superblock,
+    block: u32,
+    page: &mut [u8],
+) -> Option<()>
+    requires whole { IfKnown (R.bytes input.old) (λ file. superblock.now.num_blocks * superblock.now.block_size ≤ length file) }
+    requires room { length page.old ≡ superblock.now.block_size }
+    requires map { IfKnown (R.bytes input.old) (λ file. (block % blocks_per_map_block superblock.now ≡ 0 → ⊥) → HasMap file superblock.now block page.old) }
+    ensures keeps { R.bytes input.new ≡ R.bytes input.old }
+    ensures room { length page.new ≡ superblock.now.block_size }
+    ensures map { IfSome result (λ _. IfKnown (R.bytes input.old) (λ file. HasMap file superblock.now block page.new)) }
+    ensures read { IfNone result (Breaks (R.bytes input.old) (R.is_broken input.new)) }
+{
+    if block % (8 * superblock.block_size()) == 0 {
+        read_map(input, superblock, block, page)?;
+    }
+    Some(())
+}
+
+/// Whether a block of the file is free, by the map block in the page.
+fn is_free_at<R: ReadAt>(
+    input: &mut R,
+    superblock: &Superblock,
+    block: u32,
+    page: &mut [u8],
+) -> Option<bool>
+    requires whole { IfKnown (R.bytes input.old) (λ file. superblock.now.num_blocks * superblock.now.block_size ≤ length file) }
+    requires room { length page.old ≡ superblock.now.block_size }
+    requires map { IfKnown (R.bytes input.old) (λ file. (block % blocks_per_map_block superblock.now ≡ 0 → ⊥) → HasMap file superblock.now block page.old) }
+    ensures keeps { R.bytes input.new ≡ R.bytes input.old }
+    ensures room { length page.new ≡ superblock.now.block_size }
+    ensures value { IfSome result (λ free. IfKnown (R.bytes input.old) (λ file. free ≡ is_free file superblock.now block)) }
+    ensures listed { IfSome result (λ _. IsBlockSize superblock.now.block_size) }
+    ensures map { IfSome result (λ _. IfKnown (R.bytes input.old) (λ file. HasMap file superblock.now block page.new)) }
+    ensures read { IfNone result (Breaks (R.bytes input.old) (R.is_broken input.new)) }
+{
+    turn_page(input, superblock, block, page)?;
+    Some(is_free_by(page, superblock, block))
+}
+
+/// How many blocks of a file that is read by position are free, by the map that the superblock
+/// names. Of the file only this map is read, a block at a time into the page.
+fn free_blocks_at<R: ReadAt>(input: &mut R, superblock: &Superblock, page: &mut [u8]) -> Option<u32>
+    requires whole { IfKnown (R.bytes input.old) (λ file. superblock.now.num_blocks * superblock.now.block_size ≤ length file) }
+    requires room { length page.old ≡ superblock.now.block_size }
+    ensures keeps { R.bytes input.new ≡ R.bytes input.old }
+    ensures value { IfSome result (λ free. IfKnown (R.bytes input.old) (λ file. free ≡ free_blocks file superblock.now)) }
+    ensures few { IfSome result (λ free. free ≤ superblock.now.num_blocks) }
+    ensures read { IfNone result (Breaks (R.bytes input.old) (R.is_broken input.new)) }
+{
+    let mut free = 0;
+    for block in 0..superblock.num_blocks() {
+        if is_free_at(input, superblock, block, page)? {
+            free += 1;
+        }
+    }
+    Some(free)
+}
+
 /// Appends a space and a number.
 fn push_number<A: Allocator>(text: &mut String<A>, number: u32) -> Result<(), AllocError>
     ensures { OnOk result (string_bytes text.new ≡ string_bytes text.old ++ blank_number number) }
@@ -52,20 +167,19 @@ fn push_number<A: Allocator>(text: &mut String<A>, number: u32) -> Result<(), Al
     write!(text, " {number}")
 }
 
-/// Appends the lines on the container.
-#[tactic(auto, unfolding(crate::specs::Streams::container_lines))]
+/// Appends the lines on the container, of which this many blocks are free.
+#[tactic(auto, unfolding(crate::specs::Streams::container_with))]
 fn push_container<A: Allocator, L: Allocator>(
     text: &mut String<A>,
-    file: &[u8],
+    free: u32,
     layout: &Layout<L>,
 ) -> Result<(), AllocError>
-    requires { layout.now.superblock.num_blocks * layout.now.superblock.block_size ≤ length file.now }
-    ensures { OnOk result (string_bytes text.new ≡ string_bytes text.old ++ container_lines file.now layout.now) }
+    ensures { OnOk result (string_bytes text.new ≡ string_bytes text.old ++ container_with free layout.now) }
 {
     let superblock = layout.superblock();
     push_named(text, "block-size", superblock.block_size())?;
     push_named(text, "blocks", superblock.num_blocks())?;
-    push_named(text, "free", free_blocks(file, superblock))?;
+    push_named(text, "free", free)?;
     push_named(text, "directory", superblock.directory_bytes())?;
     push_named(text, "streams", layout.streams())?;
     Ok(())
@@ -124,6 +238,20 @@ fn push_streams<A: Allocator, L: Allocator>(
     Ok(())
 }
 
+/// The text of a container, of which this many blocks are free.
+fn layout_text<A: Allocator + Copy>(
+    alloc: A,
+    free: u32,
+    layout: &Layout<A>,
+) -> Result<String<A>, AllocError>
+    ensures { IfOk result (λ text. string_bytes text ≡ container_with free layout.now ++ stream_lines 0 layout.now.streams) }
+{
+    let mut text = String::new(alloc);
+    push_container(&mut text, free, layout)?;
+    push_streams(&mut text, layout)?;
+    Ok(text)
+}
+
 /// Reads the layout of a file. Its faults are those of a file.
 pub fn read_layout<A: Allocator + Copy>(alloc: A, file: &[u8]) -> Result<Layout<A>, PdbFault<A>>
     ensures value { IfOk result (HasLayout file.now) }
@@ -143,10 +271,36 @@ impl<A: Allocator + Copy> Show<A> for Streams {
 
     fn text(&self, alloc: A, file: &[u8]) -> Result<String<A>, RunFault<A>> {
         let layout = read_layout(alloc, file)?;
-        let mut text = String::new(alloc);
-        push_container(&mut text, file, &layout)?;
-        push_streams(&mut text, &layout)?;
-        Ok(text)
+        let free = free_blocks(file, layout.superblock());
+        Ok(layout_text(alloc, free, &layout)?)
+    }
+}
+
+impl<A: Allocator + Copy> ShowAt<A> for Streams {
+    ghost shows_read = { λ _. ShowsStreamsRead };
+
+    fn refuse_layout(&self, fault: MsfFault) -> RunFault<A> {
+        RunFault::from(PdbFault::from(fault))
+    }
+
+    fn text_of<R: ReadAt>(
+        &self,
+        alloc: A,
+        input: &mut R,
+        layout: &Layout<A>,
+    ) -> Result<String<A>, AtFault<RunFault<A>>> {
+        let superblock = layout.superblock();
+        let mut page = Vec::new(alloc);
+        if page.resize(superblock.block_size() as usize, 0).is_err() {
+            return Err(AtFault::Of(RunFault::Memory));
+        }
+        let Some(free) = free_blocks_at(input, superblock, &mut page) else {
+            return Err(AtFault::Read);
+        };
+        match layout_text(alloc, free, layout) {
+            Ok(text) => Ok(text),
+            Err(_) => Err(AtFault::Of(RunFault::Memory)),
+        }
     }
 }
 
@@ -168,4 +322,20 @@ pub fn run_streams<R: Source, W: Sink, A: Allocator + Copy>(
     ensures { Answers ShowsStreams HasNoLayout limit (R.left input.old) (R.left input.new) (R.is_broken input.new) W.taken W.is_broken out.old out.new result }
 {
     run(alloc, &Streams, input, limit, out)
+}
+
+/// Runs the command `streams` by position: of the file only the superblock, the block map, the
+/// directory and the free block map in force are read.
+///
+/// The faults are those of [`run_streams`], in the same order, but for reading: `TooLong` comes
+/// first, by the length of the file, and `Read` where a read that is needed fails.
+pub fn run_streams_at<R: ReadAt, W: Sink, A: Allocator + Copy>(
+    alloc: A,
+    input: &mut R,
+    limit: u32,
+    out: &mut W,
+) -> Result<(), RunFault<A>>
+    ensures { AnswersAt ShowsStreams HasNoLayout ShowsStreamsRead limit (R.bytes input.old) (R.told input.old) (R.is_broken input.new) W.taken W.is_broken out.old out.new result }
+{
+    run_at(alloc, &Streams, input, limit, out)
 }

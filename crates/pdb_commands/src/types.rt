@@ -11,14 +11,15 @@ ghost use Rattle.cv_leaves.specs.Name.{name_of};
 ghost use Rattle.cv_leaves.specs.declared.fault.LeafFault.{LeafFault};
 ghost use Rattle.pdb_commands.specs.Show.{Answers, AnswersAt};
 ghost use Rattle.pdb_commands.specs.Text.{index_text};
-ghost use Rattle.pdb_commands.specs.Types.{ShowsTypes, HasNoTypes, AreTypeLines, HasLeafFault, type_line, reference, quoted_name, leaf_name};
+ghost use Rattle.pdb_commands.specs.Types.{ShowsTypes, ShowsTypesRead, HasNoTypes, AreTypeLines, HasLeafFault, type_line, reference, quoted_name, leaf_name};
 
 use crate::fault::RunFault;
 use crate::show::{Show, ShowAt, run, run_at};
 use crate::text::{push_index, push_quoted};
 use byte_io::{AtFault, ReadAt, Sink, Source};
 use cv_leaves::{check, kind_of, leaf_text, places, ref_at, type_name};
-use pdb_merge::{Buffer, read_records, read_records_at};
+use msf_blocks::{Layout, MsfFault};
+use pdb_merge::{Buffer, PdbFault, read_records, read_records_of};
 use std::alloc::{AllocError, Allocator};
 use tpi_records::{FIRST_INDEX, Records};
 
@@ -149,13 +150,20 @@ impl<A: Allocator + Copy> Show<A> for Types {
 }
 
 impl<A: Allocator + Copy> ShowAt<A> for Types {
-    fn text_at<R: ReadAt>(
+    ghost shows_read = { λ _. ShowsTypesRead };
+
+    fn refuse_layout(&self, fault: MsfFault) -> RunFault<A> {
+        RunFault::from(PdbFault::from(fault))
+    }
+
+    fn text_of<R: ReadAt>(
         &self,
         alloc: A,
         input: &mut R,
+        layout: &Layout<A>,
     ) -> Result<String<A>, AtFault<RunFault<A>>> {
         let mut buffer = Buffer::new(alloc);
-        let records = match read_records_at(alloc, input, &mut buffer) {
+        let records = match read_records_of(alloc, input, layout, &mut buffer) {
             Ok(records) => records,
             Err(AtFault::Of(fault)) => return Err(AtFault::Of(RunFault::from(fault))),
             Err(AtFault::Read) => return Err(AtFault::Read),
@@ -198,7 +206,7 @@ pub fn run_types_at<R: ReadAt, W: Sink, A: Allocator + Copy>(
     limit: u32,
     out: &mut W,
 ) -> Result<(), RunFault<A>>
-    ensures { AnswersAt ShowsTypes HasNoTypes limit (R.bytes input.old) (R.is_broken input.new) W.taken W.is_broken out.old out.new result }
+    ensures { AnswersAt ShowsTypes HasNoTypes ShowsTypesRead limit (R.bytes input.old) (R.told input.old) (R.is_broken input.new) W.taken W.is_broken out.old out.new result }
 {
     run_at(alloc, &Types, input, limit, out)
 }

@@ -1,0 +1,78 @@
+-- A fault of a container is a fault of each command.
+use Rattle.std.proofs.Common.{◌≡◌, ◌⊎◌, ℕ, List, Some, ap, ◌∙◌, inl, inr}
+use Rattle.byte_fields.specs.Bytes.{AreBytes}
+use Rattle.msf_blocks.proofs.FoundLaws.{layout_holds}
+use Rattle.msf_blocks.specs.declared.fault.MsfFault.{MsfFault}
+use Rattle.msf_blocks.specs.declared.fault.MsfFault.TheVariants as msf
+use Rattle.byte_fields.specs.Check.{Refuses, first_failing}
+use Rattle.msf_blocks.specs.Layout.{layout_checks}
+use Rattle.pdb_merge.specs.Fault.{of_msf}
+use Rattle.pdb_merge.specs.declared.fault.PdbFault.{PdbFault}
+use Rattle.pdb_merge.specs.declared.fault.PdbFault.TheVariants as pdb
+use Rattle.pdb_commands.specs.Check.{HasNoAccepted}
+use Rattle.pdb_commands.specs.Fault.{of_pdb}
+use Rattle.pdb_commands.specs.Info.{HasNoInfo}
+use Rattle.pdb_commands.specs.Record.{HasNoRecord}
+use Rattle.pdb_commands.specs.Records.{HasNoTypeRecords}
+use Rattle.pdb_commands.specs.Streams.{HasLayoutFault, HasNoLayout}
+use Rattle.pdb_commands.specs.Types.{HasNoTypes}
+use Rattle.pdb_commands.specs.Shown.{ReadsTooLong, RefusesIt, RefusesWithin}
+use Rattle.pdb_commands.specs.declared.fault.RunFault.{RunFault}
+use Rattle.pdb_commands.specs.declared.fault.RunFault.TheVariants.{Pdb, Memory}
+use Rattle.pdb_commands.specs.declared.shown.Shown.{Shown}
+use Rattle.pdb_commands.specs.declared.shown.Shown.TheVariants as shown
+
+-- a fault of a layout that is read by position is one of the layout
+layout_refused : {A : Type 0} (file : List ℕ) (inner : MsfFault) (outer : PdbFault A) → outer ≡ of_msf inner → Refuses msf.Memory (first_failing (layout_checks file)) inner → HasLayoutFault file outer ⊎ (outer ≡ pdb.Memory)
+layout_refused file msf.Memory outer made refused = inr made
+layout_refused file inner outer made (inl first) = inl (rw made first)
+layout_refused file inner outer made (inr want) = inr (made ∙ ap of_msf want.0)
+
+-- what holds of each fault of the container holds of the refusal by it
+refused_by : {A : Type 0} (P : RunFault A → Type 0) (file : List ℕ) (inner : PdbFault A) (outer : RunFault A) → outer ≡ of_pdb inner
+    → ((fault : MsfFault) → first_failing (layout_checks file) ≡ Some fault → P (Pdb (pdb.Msf fault))) → HasLayoutFault file inner ⊎ (inner ≡ pdb.Memory) → P outer ⊎ (outer ≡ Memory)
+refused_by P file (pdb.Msf fault) outer made each (inl first) = inl (rw made (each fault first))
+refused_by P file inner outer made each (inl first) = absurd first
+refused_by P file inner outer made each (inr want) = inr (made ∙ ap of_pdb want)
+
+refused : {A : Type 0} (P : RunFault A → Type 0) (file : List ℕ) (fault : MsfFault) (inner : PdbFault A) (outer : RunFault A) → inner ≡ of_msf fault → outer ≡ of_pdb inner
+    → ((f : MsfFault) → first_failing (layout_checks file) ≡ Some f → P (Pdb (pdb.Msf f))) → Refuses msf.Memory (first_failing (layout_checks file)) fault → P outer ⊎ (outer ≡ Memory)
+refused P file fault inner outer is made each first = refused_by P file inner outer made each (layout_refused file fault inner is first)
+
+-- so of each command
+pub no_layout : {A : Type 0} (file : List ℕ) (fault : MsfFault) (inner : PdbFault A) (outer : RunFault A) → inner ≡ of_msf fault → outer ≡ of_pdb inner → Refuses msf.Memory (first_failing (layout_checks file)) fault → HasNoLayout file outer ⊎ (outer ≡ Memory)
+no_layout file fault inner outer is made = refused (HasNoLayout file) file fault inner outer is made (λ f first. first)
+
+pub no_type_records : {A : Type 0} (file : List ℕ) (fault : MsfFault) (inner : PdbFault A) (outer : RunFault A) → inner ≡ of_msf fault → outer ≡ of_pdb inner → Refuses msf.Memory (first_failing (layout_checks file)) fault → HasNoTypeRecords file outer ⊎ (outer ≡ Memory)
+no_type_records file fault inner outer is made = refused (HasNoTypeRecords file) file fault inner outer is made (λ f first. first)
+
+pub no_record : {A : Type 0} (index : ℕ) (file : List ℕ) (fault : MsfFault) (inner : PdbFault A) (outer : RunFault A) → inner ≡ of_msf fault → outer ≡ of_pdb inner → Refuses msf.Memory (first_failing (layout_checks file)) fault → HasNoRecord index file outer ⊎ (outer ≡ Memory)
+no_record index file fault inner outer is made = refused (HasNoRecord index file) file fault inner outer is made (λ f first. first)
+
+pub no_types : {A : Type 0} (file : List ℕ) (fault : MsfFault) (inner : PdbFault A) (outer : RunFault A) → inner ≡ of_msf fault → outer ≡ of_pdb inner → Refuses msf.Memory (first_failing (layout_checks file)) fault → HasNoTypes file outer ⊎ (outer ≡ Memory)
+no_types file fault inner outer is made = refused (HasNoTypes file) file fault inner outer is made (λ f first. first)
+
+pub no_accepted : {A : Type 0} (file : List ℕ) (fault : MsfFault) (inner : PdbFault A) (outer : RunFault A) → inner ≡ of_msf fault → outer ≡ of_pdb inner → Refuses msf.Memory (first_failing (layout_checks file)) fault → HasNoAccepted file outer ⊎ (outer ≡ Memory)
+no_accepted file fault inner outer is made = refused (HasNoAccepted file) file fault inner outer is made (λ f first. first)
+
+pub no_info : {A : Type 0} (file : List ℕ) (fault : MsfFault) (inner : PdbFault A) (outer : RunFault A) → inner ≡ of_msf fault → outer ≡ of_pdb inner → Refuses msf.Memory (first_failing (layout_checks file)) fault → HasNoInfo file outer ⊎ (outer ≡ Memory)
+no_info file fault inner outer is made = refused (HasNoInfo file) file fault inner outer is made (λ f first. first)
+
+-- ---- with a limit on the stream that the command reads
+
+-- a file whose container has a fault has no stream that is too long
+short_without_layout : (command : Shown) (limit : ℕ) (file : List ℕ) (fault : MsfFault) → AreBytes file → first_failing (layout_checks file) ≡ Some fault → ReadsTooLong command limit file → ⊥
+short_without_layout command limit file fault bytes first (s, reads, long) = let none = layout_holds file long.layout bytes long.has_layout in absurd cc
+
+of_command : (A : Type 0) (command : Shown) (file : List ℕ) (fault : MsfFault) → first_failing (layout_checks file) ≡ Some fault → RefusesIt {A = A} command file (Pdb (pdb.Msf fault))
+of_command A shown.Records file fault first = first
+of_command A (shown.Record index) file fault first = first
+of_command A shown.Types file fault first = first
+of_command A shown.Check file fault first = first
+of_command A shown.Info file fault first = first
+of_command A shown.Streams file fault first = first
+
+pub none_within : {A : Type 0} (command : Shown) (limit : ℕ) (file : List ℕ) (fault : MsfFault) (inner : PdbFault A) (outer : RunFault A) → AreBytes file → inner ≡ of_msf fault → outer ≡ of_pdb inner
+    → Refuses msf.Memory (first_failing (layout_checks file)) fault → RefusesWithin command limit file outer ⊎ (outer ≡ Memory)
+none_within {A = A} command limit file fault inner outer bytes is made =
+    refused (RefusesWithin command limit file) file fault inner outer is made (λ f first. inr (short_without_layout command limit file f bytes first, of_command A command file f first))

@@ -1,0 +1,4 @@
+use Rattle.pdb_commands.proofs.record.RecordShowAt.text_of.Goals as goal
+
+pub returns-clause-first : goal.returns-clause-first
+returns-clause-first g c = λ file known. c.in-Err.ensures.first file (c.in-Ok.ensures.value file known)

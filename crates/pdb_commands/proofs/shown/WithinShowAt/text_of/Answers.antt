@@ -1,0 +1,70 @@
+use Rattle.std.proofs.Common.{inl}
+use Rattle.std.proofs.lemmas.Result.{err_from_is_err_and}
+use Rattle.std.specs.Prelude.{string_bytes}
+use Rattle.pdb_commands.specs.Check.{ShowsChecked, HasNoAccepted}
+use Rattle.pdb_commands.specs.Info.{ShowsInfo, HasNoInfo}
+use Rattle.pdb_commands.specs.Record.{ShowsRecord, HasNoRecord}
+use Rattle.pdb_commands.specs.Records.{ShowsRecords, HasNoTypeRecords}
+use Rattle.pdb_commands.specs.Types.{ShowsTypes, HasNoTypes}
+use Rattle.pdb_commands.proofs.ShownLaws.{shows_within, refuses_within, record_read}
+use Rattle.pdb_commands.proofs.shown.WithinShowAt.text_of.Goals as goal
+
+pub returns-in_err-check_layout-clause-first : goal.returns-in_err-check_layout-clause-first
+returns-in_err-check_layout-clause-first g c =
+    let p = err_from_is_err_and c.from_residual.result c.from_residual.ensures.1 in
+    let long = c.in_err-check_layout.ensures in
+    rw (p.1, p.2) (λ file known. inl (inl (long.own, long.first file (c.requires.layout file known))))
+
+pub returns-in-Records-clause-value : goal.returns-in-Records-clause-value
+returns-in-Records-clause-value g c =
+    shows_within string_bytes ShowsRecords c.args.self.now.command c.args.self.now.limit (g.R.ReadAt.bytes c.args.input.now) c.text_of.result (λ file text shows. rw c.in-Records.is shows)
+    (λ file known. c.in_ok-check_layout.ensures.value file (c.requires.bytes file known) (c.requires.layout file known)) c.text_of.ensures.value
+
+pub returns-in-Records-clause-first : goal.returns-in-Records-clause-first
+returns-in-Records-clause-first g c =
+    refuses_within HasNoTypeRecords c.args.self.now.command c.args.self.now.limit (g.R.ReadAt.bytes c.args.input.now) c.text_of.result (λ file fault refused. rw c.in-Records.is refused)
+    (λ file known. c.in_ok-check_layout.ensures.value file (c.requires.bytes file known) (c.requires.layout file known)) c.text_of.ensures.first
+
+pub returns-in-Record-clause-value : goal.returns-in-Record-clause-value
+returns-in-Record-clause-value g c =
+    shows_within string_bytes (ShowsRecord c.in-Record.index) c.args.self.now.command c.args.self.now.limit (g.R.ReadAt.bytes c.args.input.now) c.text_of-in-Record.result (λ file text shows. rw c.in-Record.is shows)
+    (λ file known. c.in_ok-check_layout.ensures.value file (c.requires.bytes file known) (c.requires.layout file known)) c.text_of-in-Record.ensures.value
+
+pub returns-in-Record-clause-first : goal.returns-in-Record-clause-first
+returns-in-Record-clause-first g c =
+    refuses_within (HasNoRecord c.in-Record.index) c.args.self.now.command c.args.self.now.limit (g.R.ReadAt.bytes c.args.input.now) c.text_of-in-Record.result (λ file fault refused. rw c.in-Record.is refused)
+    (λ file known. c.in_ok-check_layout.ensures.value file (c.requires.bytes file known) (c.requires.layout file known)) c.text_of-in-Record.ensures.first
+
+pub returns-in-Types-clause-value : goal.returns-in-Types-clause-value
+returns-in-Types-clause-value g c =
+    shows_within string_bytes ShowsTypes c.args.self.now.command c.args.self.now.limit (g.R.ReadAt.bytes c.args.input.now) c.text_of-in-Types.result (λ file text shows. rw c.in-Types.is shows)
+    (λ file known. c.in_ok-check_layout.ensures.value file (c.requires.bytes file known) (c.requires.layout file known)) c.text_of-in-Types.ensures.value
+
+pub returns-in-Types-clause-first : goal.returns-in-Types-clause-first
+returns-in-Types-clause-first g c =
+    refuses_within HasNoTypes c.args.self.now.command c.args.self.now.limit (g.R.ReadAt.bytes c.args.input.now) c.text_of-in-Types.result (λ file fault refused. rw c.in-Types.is refused)
+    (λ file known. c.in_ok-check_layout.ensures.value file (c.requires.bytes file known) (c.requires.layout file known)) c.text_of-in-Types.ensures.first
+
+pub returns-in-Check-clause-value : goal.returns-in-Check-clause-value
+returns-in-Check-clause-value g c =
+    shows_within string_bytes ShowsChecked c.args.self.now.command c.args.self.now.limit (g.R.ReadAt.bytes c.args.input.now) c.text_of-in-Check.result (λ file text shows. rw c.in-Check.is shows)
+    (λ file known. c.in_ok-check_layout.ensures.value file (c.requires.bytes file known) (c.requires.layout file known)) c.text_of-in-Check.ensures.value
+
+pub returns-in-Check-clause-first : goal.returns-in-Check-clause-first
+returns-in-Check-clause-first g c =
+    refuses_within HasNoAccepted c.args.self.now.command c.args.self.now.limit (g.R.ReadAt.bytes c.args.input.now) c.text_of-in-Check.result (λ file fault refused. rw c.in-Check.is refused)
+    (λ file known. c.in_ok-check_layout.ensures.value file (c.requires.bytes file known) (c.requires.layout file known)) c.text_of-in-Check.ensures.first
+
+pub returns-in-Info-clause-value : goal.returns-in-Info-clause-value
+returns-in-Info-clause-value g c =
+    shows_within string_bytes ShowsInfo c.args.self.now.command c.args.self.now.limit (g.R.ReadAt.bytes c.args.input.now) c.text_of-in-Info.result (λ file text shows. rw c.in-Info.is shows)
+    (λ file known. c.in_ok-check_layout.ensures.value file (c.requires.bytes file known) (c.requires.layout file known)) c.text_of-in-Info.ensures.value
+
+pub returns-in-Info-clause-first : goal.returns-in-Info-clause-first
+returns-in-Info-clause-first g c =
+    refuses_within HasNoInfo c.args.self.now.command c.args.self.now.limit (g.R.ReadAt.bytes c.args.input.now) c.text_of-in-Info.result (λ file fault refused. rw c.in-Info.is refused)
+    (λ file known. c.in_ok-check_layout.ensures.value file (c.requires.bytes file known) (c.requires.layout file known)) c.text_of-in-Info.ensures.first
+
+pub returns-in-Record-clause-texts : goal.returns-in-Record-clause-texts
+returns-in-Record-clause-texts g c =
+    record_read string_bytes c.args.self.now.command c.in-Record.index c.args.layout.now c.text_of-in-Record.result c.in-Record.is c.text_of-in-Record.ensures.texts

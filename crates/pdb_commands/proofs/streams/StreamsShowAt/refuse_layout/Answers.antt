@@ -1,0 +1,5 @@
+use Rattle.pdb_commands.proofs.LayoutLaws.{no_layout}
+use Rattle.pdb_commands.proofs.streams.StreamsShowAt.refuse_layout.Goals as goal
+
+pub returns-clause-first : goal.returns-clause-first
+returns-clause-first g c = λ file bytes. no_layout file c.args.fault c.from.result c.from-2.result c.from.ensures c.from-2.ensures

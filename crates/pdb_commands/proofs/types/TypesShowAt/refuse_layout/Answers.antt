@@ -1,0 +1,5 @@
+use Rattle.pdb_commands.proofs.LayoutLaws.{no_types}
+use Rattle.pdb_commands.proofs.types.TypesShowAt.refuse_layout.Goals as goal
+
+pub returns-clause-first : goal.returns-clause-first
+returns-clause-first g c = λ file bytes. no_types file c.args.fault c.from.result c.from-2.result c.from.ensures c.from-2.ensures
