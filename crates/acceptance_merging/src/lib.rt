@@ -13,4 +13,6 @@ mod growth;
 #[cfg(test)]
 mod merging;
 #[cfg(test)]
+mod positions;
+#[cfg(test)]
 mod scattered;

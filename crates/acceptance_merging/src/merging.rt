@@ -18,13 +18,13 @@ use std::test::Fail;
 use type_trees::Canon;
 
 /// The records of two files, and the expected records of their merge.
-type Row = (
+pub(super) type Row = (
     &'static [&'static [u8]],
     &'static [&'static [u8]],
     &'static [&'static [u8]],
 );
 
-const ROWS: [Row; 16] = [
+pub(super) const ROWS: [Row; 16] = [
     (&[], &[], &[]),
     (&[TO_INT, CONST], &[TO_INT, CONST], &[CONST, TO_INT]),
     (&[TO_INT, CONST], &[CONST, TO_INT], &[CONST, TO_INT]),
@@ -83,14 +83,14 @@ const ROWS: [Row; 16] = [
 /// What a merge has to give: the bytes of its list, the file that is written, and what is said of
 /// it.
 #[derive(Drop)]
-struct Want {
+pub(super) struct Want {
     list: Vec<u8>,
     file: Vec<u8>,
     said: Summary,
 }
 
 /// What a merge has to give whose list has these records.
-fn wanted(alloc: Global, records: &[&[u8]]) -> Result<Want, Fail> {
+pub(super) fn wanted(alloc: Global, records: &[&[u8]]) -> Result<Want, Fail> {
     let list = bytes_of(alloc, records)?;
     let said = Summary {
         types: u32::try_from(records.len())?,
@@ -105,7 +105,7 @@ fn wanted(alloc: Global, records: &[&[u8]]) -> Result<Want, Fail> {
 }
 
 /// Whether a list is the one that is wanted.
-fn is_listed(canon: &Canon, want: &Want) -> bool {
+pub(super) fn is_listed(canon: &Canon, want: &Want) -> bool {
     canon.bytes() == want.list.as_slice() && canon.len() == want.said.types as usize
 }
 
@@ -184,7 +184,7 @@ fn no_files_and_an_empty_list(rt: HostRuntime) -> Result<(), Fail> {
 }
 
 /// 56 zero bytes, which are no container.
-fn zeros(alloc: Global) -> Result<Vec<u8>, Fail> {
+pub(super) fn zeros(alloc: Global) -> Result<Vec<u8>, Fail> {
     Ok(vec![in alloc; 0u8; 56]?)
 }
 

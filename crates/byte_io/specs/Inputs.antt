@@ -1,6 +1,8 @@
 -- What reading each of several inputs gives.
 use Rattle.std.specs.Prelude.{ℕ, ◌≡◌, ◌<◌, List, Option, Some, Result, Ok, Err, map, slice_get}
 use Rattle.byte_io.specs.declared.inputs.InputFault.{InputFault}
+use Rattle.byte_io.specs.declared.inputs.Opened.{Opened}
+use Rattle.byte_io.specs.declared.inputs.Opened.TheVariants.{Whole, At}
 
 -- every input can be read, and these are the bytes of each
 abbrev pub Give : Option (List (Result (List ℕ) InputFault)) → List (List ℕ) → Type 0
@@ -13,3 +15,8 @@ CanRead each end = (i : ℕ) → i < end → (bytes : List ℕ) × (slice_get ea
 -- this input is the first that cannot be read, and this is why
 abbrev pub IsFirstUnread : List (Result (List ℕ) InputFault) → ℕ → InputFault → Type 0
 IsFirstUnread each input fault = CanRead each input × (slice_get each input ≡ Some (Err fault))
+
+-- an input that was opened has these bytes
+abbrev pub HasBytes : {F : Type 0} → (F → Option (List ℕ)) → Opened F → List ℕ → Type 0
+HasBytes bytes (Whole file) given = file.now ≡ given
+HasBytes bytes (At input) given = bytes input ≡ Some given

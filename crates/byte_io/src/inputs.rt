@@ -1,8 +1,10 @@
 //! Several inputs, which are read one after the other.
 
 ghost use Rattle.std.specs.Prelude.{◌≡◌, ◌⊎◌, ◌<◌, ℕ, List, Option, Some, Result, Ok, Err, length, map, slice_get, IfOk, IfErr, IfSome};
+ghost use Rattle.byte_io.specs.Inputs.{HasBytes};
 ghost use Rattle.byte_io.specs.declared.input.ReadFault.TheVariants as reads;
 
+use crate::at::ReadAt;
 use crate::input::ReadFault;
 use std::alloc::Allocator;
 use thiserror::Error;
@@ -18,6 +20,15 @@ pub enum InputFault {
     Read(ReadFault),
 }
 
+/// An input that was opened.
+#[derive(Drop)]
+pub enum Opened<'a, F> {
+    /// It was read to its end, and these are its bytes.
+    Whole(&'a [u8]),
+    /// It can be read by position. Nothing of it was read yet.
+    At(F),
+}
+
 /// Several inputs, which are read one at a time.
 ///
 /// A slice of slices has the bytes of its inputs in memory. The inputs of a program are files. The
@@ -27,6 +38,9 @@ pub trait Inputs {
 
     /// What reading each input gives, its bytes or a fault, where this is known.
     ghost known: { Self → Option (List (Result (List ℕ) InputFault)) };
+
+    /// An input that is read by position.
+    type File: ReadAt + Drop;
 
     /// How many inputs there are.
     fn count(&self) -> usize
@@ -43,6 +57,17 @@ pub trait Inputs {
         ensures value { IfSome (known self.now) (λ each. IfOk result (λ bytes. slice_get each input ≡ Some (Ok bytes.now))) }
         ensures fault { IfSome (known self.now) (λ each. IfErr result (λ fault. (slice_get each input ≡ Some (Err fault)) ⊎ (fault ≡ InputFault.Read reads.Memory))) };
 
+    /// Opens the input at a position, from 0. One that is not read by position is read to its end,
+    /// as `read` does.
+    fn open<'a, A: Allocator>(
+        &'a self,
+        input: usize,
+        buffer: &'a mut Vec<u8, A>,
+    ) -> Result<Opened<'a, Self::File>, InputFault>
+        requires inside { IfSome (known self.now) (λ each. input < length each) }
+        ensures value { IfSome (known self.now) (λ each. IfOk result (λ opened. (bytes : List ℕ) × (slice_get each input ≡ Some (Ok bytes)) × HasBytes Self.File.bytes opened bytes)) }
+        ensures fault { IfSome (known self.now) (λ each. IfErr result (λ fault. (slice_get each input ≡ Some (Err fault)) ⊎ (fault ≡ InputFault.Read reads.Memory))) };
+
     /// Checks that the input at a position, from 0, can be read to its end. This does not allocate.
     fn check(&self, input: usize) -> Result<(), InputFault>
         requires inside { IfSome (known self.now) (λ each. input < length each) }
@@ -52,6 +77,8 @@ pub trait Inputs {
 
 impl<'f> Inputs for &'f [&'f [u8]] {
     ghost known = { λ s. Some (map Ok (map (λ file. file.now) s.now)) };
+
+    type File = &'f [u8];
 
     fn count(&self) -> usize {
         self.len()
@@ -63,6 +90,14 @@ impl<'f> Inputs for &'f [&'f [u8]] {
         _buffer: &'a mut Vec<u8, A>,
     ) -> Result<&'a [u8], InputFault> {
         Ok(self[input])
+    }
+
+    fn open<'a, A: Allocator>(
+        &'a self,
+        input: usize,
+        _buffer: &'a mut Vec<u8, A>,
+    ) -> Result<Opened<'a, &'f [u8]>, InputFault> {
+        Ok(Opened::Whole(self[input]))
     }
 
     fn check(&self, _input: usize) -> Result<(), InputFault> {

@@ -9,7 +9,8 @@
 //!   source.
 //! - [`ReadAt`] gives bytes from any position. [`Seeking`] makes it of any file that can be sought
 //!   in; a slice is one by itself.
-//! - [`Inputs`] are several inputs that are read one after the other.
+//! - [`Inputs`] are several inputs that are read one after the other. An input is [`Opened`] to be
+//!   read by position, or read to its end.
 //!
 //! What is proved: a sink took just the bytes that its calls say, in order. After [`NotTaken`] it
 //! took a proper prefix of the bytes. A sink or a source that broke stays broken. All of this says
@@ -28,6 +29,6 @@ mod source;
 pub use at::{AtFault, ReadAt, Seeking, read_more};
 pub use fault::NotTaken;
 pub use input::{ReadFault, read_all, read_into, skip_all};
-pub use inputs::{InputFault, Inputs};
+pub use inputs::{InputFault, Inputs, Opened};
 pub use sink::{Out, Sink, put_all};
 pub use source::{In, Source};

@@ -1,9 +1,10 @@
 -- Files that are given by inputs, one after the other.
 use Rattle.std.proofs.Common.{◌≡◌, ◌∙◌, ◌<◌, ◌+◌, ◌⊎◌, ℕ, List, [], Option, Some, None, length, map, get_or, refl, sym, ap, subst, arith, inl, inr}
 use Rattle.std.proofs.lemmas.Bool.{cases_lt}
-use Rattle.std.specs.Prelude.{Result, Ok, Err, IfSome, slice_get, option_map}
+use Rattle.std.specs.Prelude.{Result, Ok, Err, IfOk, OnOk, IfSome, slice_get, option_map}
 use Rattle.std.proofs.lemmas.Option.{slice_get-map, slice_get_cases, get_or_from_slice_get}
-use Rattle.byte_io.specs.Inputs.{Give, CanRead}
+use Rattle.byte_io.specs.Inputs.{Give, CanRead, HasBytes}
+use Rattle.byte_io.specs.declared.inputs.Opened.{Opened}
 use Rattle.byte_io.specs.declared.inputs.InputFault.{InputFault}
 use Rattle.byte_io.specs.declared.inputs.InputFault.TheVariants as inputs
 use Rattle.byte_io.specs.declared.input.ReadFault.TheVariants as reads
@@ -108,3 +109,25 @@ pub add_named : {A : Type 0} (file : ℕ) (inner : AddFault A) (outer : MergeFau
 add_named file (add.Refused fault) outer named made = rw made named
 add_named file (add.TooLarge bytes) outer named made = rw made tt
 add_named file add.Memory outer named made = rw made tt
+
+-- ---- inputs that were opened
+
+-- an input that was opened is the file at its position
+pub opened_file : {F : Type 0} (known : Option (List (Result (List ℕ) InputFault))) (files : List (List ℕ)) (i : ℕ) (bytes : F → Option (List ℕ)) (opened : Opened F) → Give known files
+    → IfSome known (λ each. (b : List ℕ) × (slice_get each i ≡ Some (Ok b)) × HasBytes bytes opened b) → (i < length files) × HasBytes bytes opened (get_or files i [])
+opened_file known files i bytes opened given is =
+    let here = rw given at is in
+    let there = file_read files i (Ok here.0) here.1 in
+    let same : get_or files i [] ≡ here.0 = let e = there.1 in cc in
+    (there.0, rw same here.2)
+
+-- it can be read
+pub opened_read : {F : Type 0} (known : Option (List (Result (List ℕ) InputFault))) (i : ℕ) (bytes : F → Option (List ℕ)) (opened : Opened F)
+    → IfSome known (λ each. (b : List ℕ) × (slice_get each i ≡ Some (Ok b)) × HasBytes bytes opened b) → IfSome known (λ each. (b : List ℕ) × (slice_get each i ≡ Some (Ok b)))
+opened_read None i bytes opened is = tt
+opened_read (Some each) i bytes opened is = (is.0, is.1)
+
+-- what holds of each value holds where there is one
+pub on_ok : {T E : Type 0} (P : Type 0) (answer : Result T E) → IfOk answer (λ _. P) → OnOk answer P
+on_ok P (Ok done) is = is
+on_ok P (Err fault) is = tt

@@ -1,15 +1,18 @@
 -- Out of memory comes only where the container has no fault.
-use Rattle.std.proofs.Common.{◌≡◌, ◌<◌, ◌∙◌, ℕ, List, Some, None, get_or, refl, sym, ap, inl, inr}
+use Rattle.std.proofs.Common.{◌≡◌, ◌<◌, ◌∙◌, ℕ, List, Option, Some, None, get_or, refl, sym, ap, inl, inr}
 use Rattle.std.specs.Prelude.{Result, Ok, Err, IfErr}
+use Rattle.byte_io.specs.At.{IfKnown}
 use Rattle.byte_fields.specs.Check.{Refuses, first_failing}
 use Rattle.msf_blocks.specs.Layout.{LayoutView, HasLayout, layout_checks}
 use Rattle.msf_blocks.specs.declared.fault.MsfFault.{MsfFault}
 use Rattle.msf_blocks.specs.declared.fault.MsfFault.TheVariants as msf
 use Rattle.msf_blocks.proofs.FoundLaws.{layout_holds}
 use Rattle.msf_blocks.proofs.MemoryLaws.{layout_wants_none}
-use Rattle.pdb_merge.specs.Fault.{of_msf, of_pdb, AddNamesFault}
+use Rattle.pdb_merge.specs.Fault.{of_msf, of_pdb, of_join, AddNamesFault}
 use Rattle.pdb_merge.specs.Read.{HasPdbFault}
 use Rattle.pdb_merge.specs.Union.{Hinders}
+use Rattle.type_trees.specs.declared.fault.JoinFault.{JoinFault}
+use Rattle.type_trees.specs.declared.fault.JoinFault.TheVariants as join
 use Rattle.pdb_merge.specs.declared.fault.AddFault.{AddFault}
 use Rattle.pdb_merge.specs.declared.fault.AddFault.TheVariants as add
 use Rattle.pdb_merge.specs.declared.fault.PdbFault.{PdbFault}
@@ -42,6 +45,11 @@ of_pdb_want inner is = absurd cc
 pub pdb_want : {A : Type 0} (file : List ℕ) (inner : PdbFault A) (outer : AddFault A) → outer ≡ of_pdb inner → (inner ≡ Memory → first_failing (layout_checks file) ≡ None) → outer ≡ add.Memory → first_failing (layout_checks file) ≡ None
 pdb_want file inner outer made want is = want (of_pdb_want inner (sym made ∙ is))
 
+-- so where it is read by position
+pub pdb_want_at : {A : Type 0} (known : Option (List ℕ)) (inner : PdbFault A) (outer : AddFault A) → outer ≡ of_pdb inner → (inner ≡ Memory → IfKnown known (λ file. first_failing (layout_checks file) ≡ None))
+    → outer ≡ add.Memory → IfKnown known (λ file. first_failing (layout_checks file) ≡ None)
+pdb_want_at known inner outer made want is = want (of_pdb_want inner (sym made ∙ is))
+
 -- a container that was read has no fault
 pub added_sound : {T A : Type 0} (file : List ℕ) (layout : LayoutView) (result : Result T (AddFault A)) → ((i : ℕ) → get_or file i 0 < 256) → HasLayout file layout → IfErr result (λ fault. fault ≡ add.Memory → first_failing (layout_checks file) ≡ None)
 added_sound file layout (Ok value) bytes has = tt
@@ -61,3 +69,12 @@ hinders_named before limit file (Ok value) is = tt
 hinders_named before limit file (Err (add.Refused inner)) is = file_named file inner is
 hinders_named before limit file (Err (add.TooLarge bytes)) is = tt
 hinders_named before limit file (Err add.Memory) is = tt
+
+-- nor is a fault that is made of one of the file or of the union
+pub pdb_named : {A : Type 0} (inner : PdbFault A) (outer : AddFault A) → outer ≡ of_pdb inner → AddNamesFault outer
+pdb_named pdb.Memory outer made = rw made tt
+pdb_named inner outer made = rw made (λ is. cc)
+
+pub join_named : {A : Type 0} (inner : JoinFault) (outer : AddFault A) → outer ≡ of_join inner → AddNamesFault outer
+join_named (join.TooLarge bytes) outer made = rw made tt
+join_named join.Memory outer made = rw made tt

@@ -5,7 +5,8 @@ use Rattle.byte_io.specs.Inputs.{CanRead, IsFirstUnread}
 use Rattle.byte_io.specs.declared.inputs.InputFault.{InputFault}
 use Rattle.type_trees.specs.Tree.{Tree, IsType}
 use Rattle.type_trees.specs.Canon.{weight}
-use Rattle.pdb_merge.specs.Read.{IsAccepted, HasPdbFault}
+use Rattle.msf_blocks.specs.Layout.{LayoutView, HasTexts}
+use Rattle.pdb_merge.specs.Read.{IsAccepted, TypesWereRead, HasPdbFault}
 use Rattle.pdb_merge.specs.declared.fault.AddFault.{AddFault}
 use Rattle.pdb_merge.specs.declared.fault.AddFault.TheVariants as add
 use Rattle.pdb_merge.specs.declared.fault.MergeFault.{MergeFault}
@@ -58,6 +59,14 @@ Within P limit = (bytes : ℕ) × Weighs P bytes × (bytes ≤ limit)
 pub record Takes (before after : List (List ℕ)) (file : List ℕ) : Type 0 where
   pub records : List (List ℕ)
   pub accepted : IsAccepted file records
+  pub types : (t : Tree) → IsType after t ↔ (IsType before t ⊎ IsType records t)
+
+-- `after` has the types of `before` and those that were read, of a container that is said to have so many bytes: the texts of a layout, and the records of its stream 2
+pub record TakesRead (before after : List (List ℕ)) (told : ℕ) : Type 0 where
+  pub layout : LayoutView
+  pub has_texts : HasTexts told layout
+  pub records : List (List ℕ)
+  pub were_read : TypesWereRead layout records
   pub types : (t : Tree) → IsType after t ↔ (IsType before t ⊎ IsType records t)
 
 -- this is why the file is not added to the types of `before`: it is not accepted, or the union has `bytes` bytes, more than the limit, or it is out of memory

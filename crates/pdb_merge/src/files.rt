@@ -1,19 +1,20 @@
 //! The types of several files, each once.
 
-ghost use Rattle.std.specs.Prelude.{◌≡◌, ◌≢◌, ◌<◌, ◌≤◌, ◌+◌, ◌^◌, [], ℕ, List, length, take, OnOk, IfOk, IfErr, IfSome};
+ghost use Rattle.std.specs.Prelude.{◌≡◌, ◌≢◌, ◌<◌, ◌≤◌, ◌+◌, ◌^◌, ◌++◌, ◌∷◌, [], ℕ, List, length, take, OnOk, IfOk, IfErr, IfSome};
 ghost use Rattle.std.specs.List.{concat};
-ghost use Rattle.byte_io.specs.Inputs.{Give, CanRead};
+ghost use Rattle.byte_io.specs.At.{IfOf};
+ghost use Rattle.byte_io.specs.Inputs.{Give, CanRead, HasBytes};
 ghost use Rattle.type_trees.specs.Tree.{IsType};
 ghost use Rattle.type_trees.specs.Finish.{IsCanonOf};
 ghost use Rattle.pdb_info.specs.Settings.{record_limit};
-ghost use Rattle.pdb_merge.specs.Fault.{of_add, of_input, NamesFault};
+ghost use Rattle.pdb_merge.specs.Fault.{of_add, of_input, AddNamesFault, NamesFault};
 ghost use Rattle.pdb_merge.specs.Union.{HasType, Within, SameFiles, CanMerge, Stops, ReadsFirst};
 ghost use Rattle.pdb_merge.specs.Merging.{HasTaken};
 
 use crate::buffer::Buffer;
 use crate::fault::{AddFault, MergeFault};
 use crate::merge::Merge;
-use byte_io::{InputFault, Inputs, ReadFault};
+use byte_io::{AtFault, InputFault, Inputs, Opened, ReadAt, ReadFault};
 use pdb_info::Settings;
 use std::alloc::Allocator;
 use std::hash::BuildHasher;
@@ -56,9 +57,36 @@ fn check_rest<I: Inputs, A: Allocator>(inputs: &I, first: usize) -> Result<(), M
     Ok(())
 }
 
-/// Adds the types of the file at a position. After a fault of its own the files after it are read
-/// too, because a file that cannot be read is refused first.
-fn add_input<I: Inputs, S: BuildHasher, A: Allocator + Copy>(
+/// Adds the types of a file that was opened. The merge is unchanged after a fault.
+fn add_opened<F: ReadAt + Drop, S: BuildHasher, A: Allocator + Copy>(
+    alloc: A,
+    opened: Opened<'_, F>,
+    buffer: &mut Buffer<A>,
+    merge: &mut Merge<S, A>,
+) -> Result<(), AtFault<AddFault<A>>>
+    ensures taken { OnOk result ((file : List ℕ) → HasBytes F.bytes opened.entry file → (files : List (List ℕ)) → HasTaken merge.old files → HasTaken merge.new (files ++ file ∷ [])) }
+    ensures within { OnOk result (Within (IsType merge.new.types) merge.new.limit) }
+    ensures limit { merge.new.limit ≡ merge.old.limit }
+    ensures kept { IfErr result (λ _. merge.new ≡ merge.old) }
+    ensures stops { IfErr result (IfOf (λ fault. (file : List ℕ) → HasBytes F.bytes opened.entry file → (files : List (List ℕ)) → HasTaken merge.old files → Stops (files ++ file ∷ []) merge.old.limit (of_add (length files) fault))) }
+    ensures found { IfErr result (IfOf (λ fault. (file : List ℕ) → HasBytes F.bytes opened.entry file → (files more : List (List ℕ)) → HasTaken merge.old files → CanMerge ((files ++ file ∷ []) ++ more) merge.old.limit → fault ≡ AddFault.Memory)) }
+    ensures named { IfErr result (IfOf AddNamesFault) }
+{
+    match opened {
+        Opened::Whole(file) => match merge.add(alloc, file, buffer) {
+            Ok(()) => Ok(()),
+            Err(fault) => Err(AtFault::Of(fault)),
+        },
+        Opened::At(input) => {
+            let mut input = input;
+            merge.add_at(alloc, &mut input, buffer)
+        }
+    }
+}
+
+/// Reads the file at a position to its end, and adds its types. After a fault of its own the files
+/// after it are checked too, because a file that cannot be read is refused first.
+fn add_read<I: Inputs, S: BuildHasher, A: Allocator + Copy>(
     alloc: A,
     inputs: &I,
     input: usize,
@@ -89,7 +117,43 @@ fn add_input<I: Inputs, S: BuildHasher, A: Allocator + Copy>(
     Ok(())
 }
 
-/// Adds the types of all files, in order. The bytes of one file are in memory at a time.
+/// Adds the types of the file at a position. Where a read by position fails, the file is read to
+/// its end, from its start. After a fault of its own the files after it are checked too.
+fn add_input<I: Inputs, S: BuildHasher, A: Allocator + Copy>(
+    alloc: A,
+    inputs: &I,
+    input: usize,
+    bytes: &mut Vec<u8, A>,
+    buffer: &mut Buffer<A>,
+    merge: &mut Merge<S, A>,
+) -> Result<(), MergeFault<A>>
+    requires few { input + 1 < 2 ^ 64 }
+    requires inside { IfSome (I.known inputs.now) (λ each. input < length each) }
+    requires before { IfSome (I.known inputs.now) (λ each. CanRead each input) }
+    ensures value { (files : List (List ℕ)) → Give (I.known inputs.now) files → HasTaken merge.old (take input files) → OnOk result (HasTaken merge.new (take (input + 1) files)) }
+    ensures within { OnOk result (Within (IsType merge.new.types) merge.new.limit) }
+    ensures read { OnOk result (IfSome (I.known inputs.now) (λ each. CanRead each (input + 1))) }
+    ensures limit { merge.new.limit ≡ merge.old.limit }
+    ensures found { (files : List (List ℕ)) → Give (I.known inputs.now) files → HasTaken merge.old (take input files) → CanMerge files merge.old.limit → IfErr result (λ fault. fault ≡ MergeFault.Memory) }
+    ensures first { (files : List (List ℕ)) → Give (I.known inputs.now) files → HasTaken merge.old (take input files) → IfErr result (Stops files merge.old.limit) }
+    ensures reads { IfErr result (λ fault. IfSome (I.known inputs.now) (λ each. ReadsFirst each fault)) }
+    ensures named { IfErr result NamesFault }
+{
+    let opened = match inputs.open(input, bytes) {
+        Ok(opened) => opened,
+        Err(fault) => return Err(unread(input, fault)),
+    };
+    match add_opened(alloc, opened, buffer, merge) {
+        Ok(()) => Ok(()),
+        Err(AtFault::Of(fault)) => {
+            check_rest(inputs, input + 1)?;
+            Err(at_file(input, fault))
+        }
+        Err(AtFault::Read) => add_read(alloc, inputs, input, bytes, buffer, merge),
+    }
+}
+
+/// Adds the types of all files, in order. At most the bytes of one file are in memory at a time.
 fn add_all<I: Inputs, S: BuildHasher, A: Allocator + Copy>(
     alloc: A,
     inputs: &I,
@@ -143,7 +207,10 @@ fn list_all<I: Inputs, S: BuildHasher + Drop, A: Allocator + Copy>(
 /// even if one before it has a fault of its own. Then comes the fault of a file, `Refused`. Then
 /// comes `TooLarge`, where the types so far, with those of this file, have more bytes than the limit
 /// of the settings. All three name the file by its position, from 0. `Memory` is out of memory.
-/// Beside the types of all files so far, only one file is in memory.
+///
+/// Beside the types of all files so far, at most one file is in memory. A file that the inputs open
+/// by position is read only as far as its types need it. A read by position that fails is no fault:
+/// the file is then read whole, from its start.
 pub fn merge_files<I: Inputs + Drop, S: BuildHasher + Drop, A: Allocator + Copy>(
     alloc: A,
     files: I,

@@ -14,7 +14,7 @@
 //!   [`read_types_of`] do so where the layout of the file was read before.
 //! - [`merge_to`] merges files: it writes one file with the types of all of them, each once, into
 //!   a sink. [`merge_files`] returns their canonical list, and [`write_merged`] writes the file of
-//!   such a list. [`Merge`] takes files one after the other.
+//!   such a list. [`Merge`] takes files one after the other, whole or by position.
 //! - [`MergeFault`] names the first file that is at fault, by its position, from 0.
 //!
 //! What is proved: a file is read exactly where it is accepted (`IsAccepted` of `specs/Read`),

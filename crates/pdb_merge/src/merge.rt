@@ -1,27 +1,32 @@
 //! A merge in progress.
 
-ghost use Rattle.std.specs.Prelude.{◌≡◌, ◌++◌, [], ◌∷◌, ℕ, List, None, length, IfOk, IfErr};
+ghost use Rattle.std.specs.Prelude.{◌≡◌, ◌⊎◌, ◌↔◌, ◌++◌, [], ◌∷◌, ℕ, List, None, length, IfOk, IfErr};
 ghost use Rattle.byte_fields.specs.Check.{first_failing};
+ghost use Rattle.byte_io.specs.At.{Breaks, IfKnown, IfOf};
 ghost use Rattle.msf_blocks.specs.Layout.{layout_checks};
-ghost use Rattle.type_trees.specs.Tree.{IsType};
+ghost use Rattle.type_trees.specs.Check.{AreTypes};
+ghost use Rattle.type_trees.specs.Tree.{Tree, IsType};
 ghost use Rattle.type_trees.specs.Finish.{IsCanonOf};
 ghost use Rattle.pdb_merge.specs.Fault.{of_add, AddNamesFault};
-ghost use Rattle.pdb_merge.specs.Union.{HasType, Within, Takes, Hinders, CanMerge, Stops};
+ghost use Rattle.pdb_merge.specs.Union.{HasType, Within, Takes, TakesRead, Hinders, CanMerge, Stops};
 ghost use Rattle.pdb_merge.specs.Merging.{HasTaken};
+ghost use Rattle.pdb_merge.specs.Read.{IsListed};
 
 use crate::buffer::Buffer;
 use crate::fault::AddFault;
 use crate::read::check_types;
+use byte_io::{AtFault, ReadAt};
 use std::alloc::{Allocator, Global};
 use std::hash::BuildHasher;
 use std::marker::Model;
+use tpi_records::Records;
 use type_trees::{Canon, JoinFault, Table};
 
 /// The types of the files so far, and the limit: how many bytes they may have together.
 ///
 /// The files are added one after the other, so no two of them need be in memory at once. In
 /// contracts `HasTaken merge files` says which files were taken: [`Merge::new`] has taken none, and
-/// each [`Merge::add`] takes one more.
+/// each [`Merge::add`] or [`Merge::add_at`] takes one more.
 #[derive(Drop)]
 pub struct Merge<S: BuildHasher, A: Allocator = Global> {
     table: Table<S, A>,
@@ -49,8 +54,26 @@ impl<S: BuildHasher, A: Allocator + Copy> Merge<S, A> {
         }
     }
 
-    /// Adds the types of a file to the table. Where the records can't be added as they stand, they
-    /// are checked for a fault and for an order first.
+    /// Adds the types of a file that lists these records to the table. Where the records can't be
+    /// added as they stand, they are checked for a fault and for an order first.
+    fn add_listed(&mut self, alloc: A, records: Records<'_, A>) -> Result<(), AddFault<A>>
+        ensures value { (file : List ℕ) → IsListed file records.entry → IfOk result (λ _. Takes self.old.types self.new.types file) }
+        ensures union { IfOk result (λ _. AreTypes records.entry × ((t : Tree) → IsType self.new.types t ↔ (IsType self.old.types t ⊎ IsType records.entry t))) }
+        ensures within { IfOk result (λ _. Within (IsType self.new.types) self.new.limit) }
+        ensures limit { self.new.limit ≡ self.old.limit }
+        ensures kept { IfErr result (λ _. self.new ≡ self.old) }
+        ensures first { (file : List ℕ) → IsListed file records.entry → IfErr result (Hinders self.old.types self.old.limit file) }
+        ensures named { IfErr result AddNamesFault }
+    {
+        if self.table.add_records(alloc, &records, self.limit) {
+            return Ok(());
+        }
+        let types = check_types(alloc, records)?;
+        self.table.add(alloc, &types, self.limit)?;
+        Ok(())
+    }
+
+    /// Adds the types of a file to the table.
     fn add_types(
         &mut self,
         alloc: A,
@@ -65,12 +88,36 @@ impl<S: BuildHasher, A: Allocator + Copy> Merge<S, A> {
         ensures memory { IfErr result (λ fault. fault ≡ AddFault.Memory → first_failing (layout_checks file.now) ≡ None) }
     {
         let records = buffer.listed(alloc, file)?;
-        if self.table.add_records(alloc, &records, self.limit) {
-            return Ok(());
+        self.add_listed(alloc, records)
+    }
+
+    /// Adds the types of a file that is read by position to the table.
+    fn add_types_at<R: ReadAt>(
+        &mut self,
+        alloc: A,
+        input: &mut R,
+        buffer: &mut Buffer<A>,
+    ) -> Result<(), AtFault<AddFault<A>>>
+        ensures keeps { R.bytes input.new ≡ R.bytes input.old }
+        ensures value { IfOk result (λ _. IfKnown (R.bytes input.old) (λ file. Takes self.old.types self.new.types file)) }
+        ensures texts { IfOk result (λ _. TakesRead self.old.types self.new.types (R.told input.old)) }
+        ensures within { IfOk result (λ _. Within (IsType self.new.types) self.new.limit) }
+        ensures limit { self.new.limit ≡ self.old.limit }
+        ensures kept { IfErr result (λ _. self.new ≡ self.old) }
+        ensures first { IfErr result (IfOf (λ fault. IfKnown (R.bytes input.old) (λ file. Hinders self.old.types self.old.limit file fault))) }
+        ensures named { IfErr result (IfOf AddNamesFault) }
+        ensures memory { IfErr result (IfOf (λ fault. fault ≡ AddFault.Memory → IfKnown (R.bytes input.old) (λ file. first_failing (layout_checks file) ≡ None))) }
+        ensures read { IfErr result (λ fault. fault ≡ AtFault.Read → Breaks (R.bytes input.old) (R.is_broken input.new)) }
+    {
+        let records = match buffer.listed_at(alloc, input) {
+            Ok(records) => records,
+            Err(AtFault::Of(fault)) => return Err(AtFault::Of(AddFault::from(fault))),
+            Err(AtFault::Read) => return Err(AtFault::Read),
+        };
+        match self.add_listed(alloc, records) {
+            Ok(()) => Ok(()),
+            Err(fault) => Err(AtFault::Of(fault)),
         }
-        let types = check_types(alloc, records)?;
-        self.table.add(alloc, &types, self.limit)?;
-        Ok(())
     }
 
     /// Adds the types of a file. They are read through the buffer.
@@ -97,6 +144,43 @@ impl<S: BuildHasher, A: Allocator + Copy> Merge<S, A> {
         ensures found { IfErr result (λ fault. (files more : List (List ℕ)) → HasTaken self.old files → CanMerge ((files ++ file.now ∷ []) ++ more) self.old.limit → fault ≡ AddFault.Memory) }
     {
         self.add_types(alloc, file, buffer)
+    }
+
+    /// Adds the types of a file that is read by position. Of the file only the superblock, the
+    /// block map, the directory and the blocks of stream 2 are read. Stream 2 is read into the
+    /// buffer.
+    ///
+    /// The faults are those of [`Merge::add`], in the same order, and `AtFault::Read` where a read
+    /// failed. `Memory` comes only where the container has no fault. After a fault the merge is
+    /// unchanged, and the next file may be added.
+    pub fn add_at<R: ReadAt>(
+        &mut self,
+        alloc: A,
+        input: &mut R,
+        buffer: &mut Buffer<A>,
+    ) -> Result<(), AtFault<AddFault<A>>>
+        ensures keeps { R.bytes input.new ≡ R.bytes input.old }
+        ensures value { IfOk result (λ _. IfKnown (R.bytes input.old) (λ file. Takes self.old.types self.new.types file)) }
+        // Whatever is known of the file, the merge has taken the types of the texts that were read.
+        ensures texts { IfOk result (λ _. TakesRead self.old.types self.new.types (R.told input.old)) }
+        ensures within { IfOk result (λ _. Within (IsType self.new.types) self.new.limit) }
+        ensures limit { self.new.limit ≡ self.old.limit }
+        ensures kept { IfErr result (λ _. self.new ≡ self.old) }
+        ensures first { IfErr result (IfOf (λ fault. IfKnown (R.bytes input.old) (λ file. Hinders self.old.types self.old.limit file fault))) }
+        ensures named { IfErr result (IfOf AddNamesFault) }
+        // Out of memory comes only where the container has no fault.
+        ensures memory { IfErr result (IfOf (λ fault. fault ≡ AddFault.Memory → IfKnown (R.bytes input.old) (λ file. first_failing (layout_checks file) ≡ None))) }
+        ensures read { IfErr result (λ fault. fault ≡ AtFault.Read → Breaks (R.bytes input.old) (R.is_broken input.new)) }
+
+        // The merge has taken the files so far, and this one.
+        ensures taken { IfOk result (λ _. IfKnown (R.bytes input.old) (λ file. (files : List (List ℕ)) → HasTaken self.old files → HasTaken self.new (files ++ file ∷ []))) }
+        // The fault is the first fault of the list of all these files.
+        ensures stops { IfErr result (IfOf (λ fault. IfKnown (R.bytes input.old) (λ file. (files : List (List ℕ)) → HasTaken self.old files → Stops (files ++ file ∷ []) self.old.limit (of_add (length files) fault)))) }
+        // A file that can be merged with them, and with others after it, is refused only when out
+        // of memory.
+        ensures found { IfErr result (IfOf (λ fault. IfKnown (R.bytes input.old) (λ file. (files more : List (List ℕ)) → HasTaken self.old files → CanMerge ((files ++ file ∷ []) ++ more) self.old.limit → fault ≡ AddFault.Memory))) }
+    {
+        self.add_types_at(alloc, input, buffer)
     }
 
     /// The canonical list of the types so far. The merge is unchanged. The only fault is `Memory`.

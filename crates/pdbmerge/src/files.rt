@@ -1,23 +1,119 @@
 //! Files that are opened to be read.
 
-use byte_io::{InputFault, ReadFault};
+ghost use Rattle.std.specs.Prelude.{◌≡◌, None, false};
+
+use byte_io::{In, InputFault, ReadFault, Seeking, Source};
 use std::fs;
 use std::fs::OpenFile;
 use std::rt::Files;
 
-/// Whether the system says that a regular file has more bytes than the limit.
-fn is_longer<F: OpenFile>(file: &F, limit: u32) -> bool {
-    file.metadata().map_or(false, |metadata| {
-        metadata.is_file() && u64::from(limit) < metadata.len()
-    })
+/// A file that is open, and how it is read.
+#[derive(Drop)]
+pub enum Reading<F> {
+    /// By position: a regular file whose length the system tells.
+    At(Seeking<F>),
+    /// To its end: a pipe, a device, a folder, or a file of no length that is told.
+    Whole(F),
 }
 
-/// Opens a file to read it. `Open` where it cannot be opened, and `TooLong` where the system says
-/// that it has more than `limit` bytes; nothing is read or reserved then.
-pub fn open_within<R: Files>(rt: &R, path: &str, limit: u32) -> Result<R::File, InputFault> {
+/// How many bytes the system says that a regular file has. `None` for all others.
+fn regular_length<F: OpenFile>(file: &F) -> Option<u64> {
+    match file.metadata() {
+        Ok(metadata) if metadata.is_file() => Some(metadata.len()),
+        _ => None,
+    }
+}
+
+/// Opens a file to read it, and tells the length of a regular file. `Open` where it cannot be
+/// opened, and `TooLong` where the system says that it has more than `limit` bytes; nothing is read
+/// or reserved then.
+pub fn open_told<R: Files>(
+    rt: &R,
+    path: &str,
+    limit: u32,
+) -> Result<(R::File, Option<u64>), InputFault> {
     let file = fs::open(rt, path).map_err(|_| InputFault::Open)?;
-    if is_longer(&file, limit) {
+    let length = regular_length(&file);
+    if u64::from(limit) < length.unwrap_or(0) {
         return Err(InputFault::Read(ReadFault::TooLong));
     }
-    Ok(file)
+    Ok((file, length))
+}
+
+/// Opens a file to read it as far as that is needed. The faults are those of [`open_told`].
+pub fn open_within<R: Files>(
+    rt: &R,
+    path: &str,
+    limit: u32,
+) -> Result<Reading<R::File>, InputFault> {
+    match open_told(rt, path, limit)? {
+        (file, Some(length)) if 0 < length => Ok(Reading::At(Seeking::new(file, length))),
+        (file, _) => Ok(Reading::Whole(file)),
+    }
+}
+
+/// The state of a file that is opened at its first read.
+#[derive(Drop)]
+enum State<F> {
+    Closed,
+    Opened(In<F>),
+    Refused,
+}
+
+/// The bytes of a file from its start. It is opened at the first read.
+#[derive(Drop)]
+pub struct WholeFile<'a, R: Files> {
+    rt: &'a R,
+    path: &'a str,
+    state: State<R::File>,
+    broken: bool,
+}
+
+impl<'a, R: Files> WholeFile<'a, R> {
+    /// The file at this path. It is not opened yet. The source is not broken.
+    pub fn new(rt: &'a R, path: &'a str) -> WholeFile<'a, R>
+        ensures { ⟦<WholeFile<'a, R> as Source>⟧.is_broken result ≡ false }
+    {
+        WholeFile {
+            rt,
+            path,
+            state: State::Closed,
+            broken: false,
+        }
+    }
+
+    /// Whether the file could not be opened.
+    pub fn is_refused(&self) -> bool {
+        matches!(&self.state, State::Refused)
+    }
+
+    /// Opens the file, unless that was tried before.
+    fn open(&mut self)
+        ensures { ⟦<WholeFile<'a, R> as Source>⟧.is_broken self.new ≡ ⟦<WholeFile<'a, R> as Source>⟧.is_broken self.old }
+    {
+        if let State::Closed = &self.state {
+            self.state = match fs::open(self.rt, self.path) {
+                Ok(file) => State::Opened(In::new(file)),
+                Err(_) => State::Refused,
+            };
+        }
+    }
+}
+
+impl<R: Files> Source for WholeFile<'_, R> {
+    ghost left = { λ _. None };
+
+    ghost is_broken = { λ s. s.broken };
+
+    fn fetch(&mut self, into: &mut [u8]) -> Option<usize> {
+        self.open();
+        let fetched = match &mut self.state {
+            State::Opened(input) => input.fetch(into),
+            _ => None,
+        };
+        if fetched.is_none() {
+            self.broken = true;
+        }
+        fetched
+    }
 }

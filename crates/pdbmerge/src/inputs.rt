@@ -2,11 +2,10 @@
 
 ghost use Rattle.std.specs.Prelude.{◌≡◌, None, Some, length, slice_get, IfSome, IfNone};
 
-use crate::files::open_within;
-use byte_io::{In, InputFault, Inputs, ReadFault, read_into, skip_all};
-use pdb_commands::{RunFault, check_type_stream};
+use crate::files::{Reading, open_told, open_within};
+use byte_io::{AtFault, In, InputFault, Inputs, Opened, ReadFault, Seeking, read_into, skip_all};
+use pdb_commands::{RunFault, check_type_stream, check_type_stream_at};
 use std::alloc::Allocator;
-use std::fs::OpenFile;
 use std::rt::Files;
 
 /// The files with these names. One of them is open at a time.
@@ -39,31 +38,45 @@ impl<'a, R: Files + AllocGlobal> InputFiles<'a, R> {
         self.names.get(input)
     }
 
-    /// Opens the file at a position, from 0.
-    fn open(&self, input: usize) -> Result<R::File, InputFault> {
+    /// The path of the file at a position, from 0. `Open` where there is none.
+    fn path(&self, input: usize) -> Result<&'a str, InputFault> {
         let name = self.name(input).ok_or(InputFault::Open)?;
-        open_within(self.rt, name.as_str(), self.max_bytes)
+        Ok(name.as_str())
     }
 
-    /// Checks that the stream of types of a file is not too long.
-    fn check_types(&self, file: &[u8]) -> Result<(), InputFault> {
-        match check_type_stream(self.rt.alloc(), file, self.max_bytes) {
-            Ok(()) => Ok(()),
-            Err(RunFault::Memory) => Err(InputFault::Read(ReadFault::Memory)),
-            Err(_) => Err(InputFault::Read(ReadFault::TooLong)),
-        }
+    /// Reads a file that is open to its end, and checks that its stream of types is not too long.
+    /// `length` is what the system says that the file has.
+    fn read_whole<'b, A: Allocator>(
+        &self,
+        file: R::File,
+        length: Option<u64>,
+        buffer: &'b mut Vec<u8, A>,
+    ) -> Result<&'b [u8], InputFault> {
+        let length = u32::try_from(length.unwrap_or(0)).unwrap_or(0) as usize;
+        buffer.clear();
+        // One allocation serves a whole file, and later files of at most its length. The last byte
+        // is room in which the end of the file is seen.
+        buffer
+            .reserve_exact(length.saturating_add(1))
+            .map_err(|_| InputFault::Read(ReadFault::Memory))?;
+        read_into(&mut In::new(file), self.max_bytes, buffer).map_err(InputFault::Read)?;
+        check_type_stream(self.rt.alloc(), buffer, self.max_bytes).map_err(unread)?;
+        Ok(buffer)
     }
 }
 
-/// How many bytes the system says that a file has. 0 where it does not say, or where they are more
-/// than can be read.
-fn told_length<F: OpenFile>(file: &F) -> usize {
-    let length = file.metadata().map_or(0, |metadata| metadata.len());
-    u32::try_from(length).unwrap_or(0) as usize
+/// The fault of a file whose stream of types was held against the limit.
+fn unread<A: Allocator>(fault: RunFault<A>) -> InputFault {
+    match fault {
+        RunFault::Memory => InputFault::Read(ReadFault::Memory),
+        _ => InputFault::Read(ReadFault::TooLong),
+    }
 }
 
 impl<R: Files + AllocGlobal> Inputs for InputFiles<'_, R> {
     ghost known = { λ _. None };
+
+    type File = Seeking<R::File>;
 
     fn count(&self) -> usize
         ensures { result ≡ length self.now.names.now }
@@ -76,20 +89,36 @@ impl<R: Files + AllocGlobal> Inputs for InputFiles<'_, R> {
         input: usize,
         buffer: &'b mut Vec<u8, A>,
     ) -> Result<&'b [u8], InputFault> {
-        let file = self.open(input)?;
-        buffer.clear();
-        // One allocation serves a whole file, and later files of at most its length. The last byte
-        // is room in which the end of the file is seen.
-        buffer
-            .reserve_exact(told_length(&file).saturating_add(1))
-            .map_err(|_| InputFault::Read(ReadFault::Memory))?;
-        read_into(&mut In::new(file), self.max_bytes, buffer).map_err(InputFault::Read)?;
-        self.check_types(buffer)?;
-        Ok(buffer)
+        let (file, length) = open_told(self.rt, self.path(input)?, self.max_bytes)?;
+        self.read_whole(file, length, buffer)
+    }
+
+    fn open<'b, A: Allocator>(
+        &'b self,
+        input: usize,
+        buffer: &'b mut Vec<u8, A>,
+    ) -> Result<Opened<'b, Seeking<R::File>>, InputFault> {
+        match open_within(self.rt, self.path(input)?, self.max_bytes)? {
+            Reading::At(file) => {
+                let mut file = file;
+                match check_type_stream_at(self.rt.alloc(), &mut file, self.max_bytes) {
+                    Ok(()) => Ok(Opened::At(file)),
+                    Err(AtFault::Of(fault)) => Err(unread(fault)),
+                    // Where a read by position fails, the file is read whole, from its start.
+                    Err(AtFault::Read) => Ok(Opened::Whole(self.read(input, buffer)?)),
+                }
+            }
+            Reading::Whole(file) => Ok(Opened::Whole(self.read_whole(file, None, buffer)?)),
+        }
     }
 
     fn check(&self, input: usize) -> Result<(), InputFault> {
-        let file = self.open(input)?;
-        skip_all(&mut In::new(file), self.max_bytes).map_err(InputFault::Read)
+        match open_within(self.rt, self.path(input)?, self.max_bytes)? {
+            // Its types are not needed, so nothing of it is read.
+            Reading::At(_) => Ok(()),
+            Reading::Whole(file) => {
+                skip_all(&mut In::new(file), self.max_bytes).map_err(InputFault::Read)
+            }
+        }
     }
 }

@@ -19,12 +19,12 @@ mod report;
 
 use byte_io::{In, Out, put_all};
 use fault::{LineFault, ProgramFault};
-use files::open_within;
+use files::{Reading, WholeFile, open_within};
 use hold::hold;
 use inputs::InputFiles;
 use line::{Line, USAGE, read_line};
 use output::NewFile;
-use pdb_commands::{RunFault, Shown, run_merge, run_shown};
+use pdb_commands::{RunFault, Shown, run_merge, run_shown, run_shown_file};
 use pdb_info::Settings;
 use report::{REPORT_LENGTH, is_standard_output, print};
 use std::env;
@@ -104,11 +104,37 @@ fn merge_into(
     }
 }
 
-/// Runs a command that shows a file. What it prints goes to standard output.
+/// Runs a command that shows a file. What it prints goes to standard output. A regular file is read
+/// only as far as the command needs it.
 fn show(rt: &HostRuntime, command: Shown, file: &str, max_bytes: u32) -> Result<(), ProgramFault> {
-    let mut input = In::new(open_within(rt, file, max_bytes)?);
     let mut out = Out::new(writer(rt));
-    run_shown(rt.alloc(), command, &mut input, max_bytes, &mut out)?;
+    match open_within(rt, file, max_bytes)? {
+        Reading::At(input) => {
+            let mut input = input;
+            let mut whole = WholeFile::new(rt, file);
+            let shown = run_shown_file(
+                rt.alloc(),
+                command,
+                &mut input,
+                &mut whole,
+                max_bytes,
+                &mut out,
+            );
+            if whole.is_refused() {
+                return Err(ProgramFault::Open);
+            }
+            shown?;
+        }
+        Reading::Whole(input) => {
+            run_shown(
+                rt.alloc(),
+                command,
+                &mut In::new(input),
+                max_bytes,
+                &mut out,
+            )?;
+        }
+    }
     Ok(())
 }
 

@@ -1,4 +1,0 @@
-use Rattle.pdb_commands.proofs.record.RecordShowAt.text_at.Goals as goal
-
-pub returns-clause-first : goal.returns-clause-first
-returns-clause-first g c = λ file known. c.in-Err.ensures.first file (c.in-Ok.ensures.value file known)

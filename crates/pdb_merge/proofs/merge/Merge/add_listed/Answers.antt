@@ -1,0 +1,68 @@
+use Rattle.std.proofs.Common.{◌≡◌, ap}
+use Rattle.std.proofs.lemmas.Result.{err_from_is_err_and}
+use Rattle.pdb_merge.specs.Merging.{MergeView}
+use Rattle.pdb_merge.proofs.MemoryLaws.{pdb_named, join_named}
+use Rattle.pdb_merge.proofs.ReadLaws.{listed_accepted}
+use Rattle.pdb_merge.proofs.UnionLaws.{union_within, join_hinders, not_added}
+use Rattle.pdb_merge.proofs.MergingLaws.{pdb_hinders_at}
+use Rattle.pdb_merge.proofs.merge.Merge.add_listed.Goals as goal
+
+pub returns-then-add_records-clause-value : goal.returns-then-add_records-clause-value
+returns-then-add_records-clause-value g c = λ file lists.
+    let types : c.self.inside.table ≡ c.args.self.now.types = ap (λ (m : MergeView). m.types) c.self.view_is in
+    record {
+      records = c.args.records;
+      accepted = listed_accepted file c.args.records lists (c.add_records.ensures.types c.if-add_records.true);
+      types = rw types at (c.add_records.ensures.value c.if-add_records.true);
+    }
+
+pub returns-then-add_records-clause-within : goal.returns-then-add_records-clause-within
+returns-then-add_records-clause-within g c =
+    union_within c.self.inside.table c.args.records c.add_records.new.self c.self.inside.limit (c.add_records.ensures.within c.if-add_records.true) (c.add_records.ensures.value c.if-add_records.true)
+
+pub returns-in_err-add-clause-first : goal.returns-in_err-add-clause-first
+returns-in_err-add-clause-first g c = λ file lists.
+    let types : c.self.inside.table ≡ c.args.self.now.types = ap (λ (m : MergeView). m.types) c.self.view_is in
+    let limit : c.self.inside.limit ≡ c.args.self.now.limit = ap (λ (m : MergeView). m.limit) c.self.view_is in
+    let same = not_added c.add_records.result c.self.inside.table c.add_records.new.self c.add_records.ensures.kept c.if-add_records.false in
+    let accepted = c.in_ok-types.ensures.value file lists in
+    let p = err_from_is_err_and c.from_residual-in_err-add.result c.from_residual-in_err-add.ensures.1 in
+    rw (p.1, ← types, ← limit) (join_hinders c.self.inside.table c.in_ok-types.types c.self.inside.limit file c.in_err-add.field-0.0 p.0 accepted p.2 (rw same at c.in_err-add.ensures.large))
+
+pub returns-in_err-add-clause-named : goal.returns-in_err-add-clause-named
+returns-in_err-add-clause-named g c =
+    let p = err_from_is_err_and c.from_residual-in_err-add.result c.from_residual-in_err-add.ensures.1 in
+    rw p.1 (join_named c.in_err-add.field-0.0 p.0 p.2)
+
+pub returns-clause-value : goal.returns-clause-value
+returns-clause-value g c = λ file lists.
+    let types : c.self.inside.table ≡ c.args.self.now.types = ap (λ (m : MergeView). m.types) c.self.view_is in
+    let same = not_added c.add_records.result c.self.inside.table c.add_records.new.self c.add_records.ensures.kept c.if-add_records.false in
+    record { records = c.in_ok-types.types; accepted = c.in_ok-types.ensures.value file lists; types = rw types at (rw same at c.in_ok-add.ensures.value) }
+
+pub returns-clause-within : goal.returns-clause-within
+returns-clause-within g c =
+    let same = not_added c.add_records.result c.self.inside.table c.add_records.new.self c.add_records.ensures.kept c.if-add_records.false in
+    union_within c.self.inside.table c.in_ok-types.types c.add.new.self c.self.inside.limit (rw same at c.in_ok-add.ensures.within) (rw same at c.in_ok-add.ensures.value)
+
+pub returns-in_err-types-clause-first : goal.returns-in_err-types-clause-first
+returns-in_err-types-clause-first g c = λ file lists.
+    let p = err_from_is_err_and c.from_residual.result c.from_residual.ensures.1 in
+    rw p.1 (pdb_hinders_at c.args.self.now.types c.args.self.now.limit file c.in_err-types.field-0.0 p.0 p.2 (c.in_err-types.ensures.first file lists))
+
+pub returns-in_err-types-clause-named : goal.returns-in_err-types-clause-named
+returns-in_err-types-clause-named g c =
+    let p = err_from_is_err_and c.from_residual.result c.from_residual.ensures.1 in
+    rw p.1 (pdb_named c.in_err-types.field-0.0 p.0 p.2)
+
+pub returns-then-add_records-clause-union : goal.returns-then-add_records-clause-union
+returns-then-add_records-clause-union g c =
+    let types : c.self.inside.table ≡ c.args.self.now.types = ap (λ (m : MergeView). m.types) c.self.view_is in
+    (c.add_records.ensures.types c.if-add_records.true, rw types at (c.add_records.ensures.value c.if-add_records.true))
+
+pub returns-clause-union : goal.returns-clause-union
+returns-clause-union g c =
+    let types : c.self.inside.table ≡ c.args.self.now.types = ap (λ (m : MergeView). m.types) c.self.view_is in
+    let same = not_added c.add_records.result c.self.inside.table c.add_records.new.self c.add_records.ensures.kept c.if-add_records.false in
+    let were = c.in_ok-types.ensures.types in
+    (rw were.0 at were.1, rw (types, were.0) at (rw same at c.in_ok-add.ensures.value))
