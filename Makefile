@@ -42,6 +42,7 @@ test:
 	tests/answers $(PROGRAM)
 	tests/rows $(PROGRAM)
 	tests/failures $(PROGRAM)
+	tests/position $(PROGRAM)
 	tests/surroundings $(PROGRAM)
 	tests/faults $(PROGRAM)
 	tests/cookbook $(PROGRAM)

@@ -94,6 +94,41 @@ def pdb(stream, order=lambda blocks: blocks, info=b'', block=BLOCK):
     return bytes(file)
 
 
+def taken(free, count):
+    """The first numbers of this list, which are removed from it."""
+    numbers = free[:count]
+    del free[:count]
+    return numbers
+
+
+def write_beside(path, streams, count, fill=b'', block=BLOCK):
+    """Writes a file of so many blocks with these streams, and with one more that has all blocks that
+    are left. Each block of this last stream holds `fill`. Without it they are holes, as are the free
+    block maps, and the file is sparse. Returns how many bytes the directory has."""
+    free = [n for n in range(3, count) if n % block not in (1, 2)]
+    blocks = lambda size: -(-size // block)
+    placed = [(stream, taken(free, blocks(len(stream)))) for stream in streams]
+    # There is room for the numbers of all these blocks. The directory may end one block earlier.
+    room = taken(free, blocks(4 * (2 + len(streams) + sum(len(numbers) for _, numbers in placed) + len(free))))
+    [block_map] = taken(free, 1)
+    sizes = [*map(len, streams), len(free) * block]
+    words = [len(sizes), *sizes, *(n for _, numbers in placed for n in numbers), *free]
+    directory = struct.pack(f'<{len(words)}I', *words)
+    listed = room[:blocks(len(directory))]
+    superblock = b'Microsoft C/C++ MSF 7.00\r\n\x1aDS\0\0\0' + struct.pack('<6I', block, 1, count, len(directory), 0, block_map)
+    placed += [(superblock, [0]), (struct.pack(f'<{len(listed)}I', *listed), [block_map]), (directory, listed)]
+    with open(path, 'wb') as file:
+        file.truncate(count * block)
+        for n in free if fill else []:
+            file.seek(n * block)
+            file.write(fill)
+        for text, numbers in placed:
+            for k, n in enumerate(numbers):
+                file.seek(n * block)
+                file.write(text[k * block:(k + 1) * block])
+    return len(directory)
+
+
 def write_pdb(path, body, count, block=BLOCK):
     """Writes a file with so many records."""
     with open(path, 'wb') as file:

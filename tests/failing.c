@@ -1,8 +1,8 @@
 /* A library that lets one call of a process fail, for tests/failures. It is loaded by LD_PRELOAD.
  *
- * FAILING names the call: memory, open, stat, read, write, sync or random. FAILING_AT is its number, counted from 1
- * over the calls of this kind; that call fails, and all others are passed on. A write to standard
- * error is not counted. If FAILING_ZERO is set, the write doesn't fail, but takes no bytes.
+ * FAILING names the call: memory, open, stat, seek, read, write, sync or random. FAILING_AT is its number,
+ * counted from 1 over the calls of this kind; that call fails, and all others are passed on. Where
+ * FAILING is `reads`, all reads after it fail too. A write to standard error is not counted. If FAILING_ZERO is set, the write doesn't fail, but takes no bytes.
  * FAILING_TOLD names a file that is made when the call comes. FAILING_MOST is the most bytes that a
  * read or a write takes, where it is set. */
 #define _GNU_SOURCE
@@ -16,9 +16,10 @@
 #include <sys/syscall.h>
 #include <unistd.h>
 
-enum kind { MEMORY, OPEN, STAT, READ, WRITE, SYNC, RANDOM, KINDS };
-static const char *const names[KINDS] = {"memory", "open", "stat", "read", "write", "sync", "random"};
+enum kind { MEMORY, OPEN, STAT, SEEK, READ, WRITE, SYNC, RANDOM, KINDS };
+static const char *const names[KINDS] = {"memory", "open", "stat", "seek", "read", "write", "sync", "random"};
 static unsigned long counts[KINDS], fails_at[KINDS];
+static int all_reads;
 static const char *told;
 static size_t most = -1;
 
@@ -27,8 +28,9 @@ extern void *__libc_realloc(void *, size_t);
 
 __attribute__((constructor)) static void begin(void) {
     const char *name = getenv("FAILING"), *at = getenv("FAILING_AT"), *bytes = getenv("FAILING_MOST");
+    all_reads = name && !strcmp(name, "reads");
     for (int kind = 0; name && at && kind < KINDS; kind++)
-        if (!strcmp(name, names[kind]))
+        if (!strcmp(all_reads ? "read" : name, names[kind]))
             fails_at[kind] = strtoul(at, NULL, 10);
     if (bytes)
         most = strtoul(bytes, NULL, 10);
@@ -38,7 +40,8 @@ __attribute__((constructor)) static void begin(void) {
 
 /* Counts a call, and says whether it fails. */
 static int fails(enum kind kind) {
-    if (++counts[kind] != fails_at[kind])
+    unsigned long count = ++counts[kind];
+    if (all_reads && kind == READ ? count < fails_at[kind] : count != fails_at[kind])
         return 0;
     if (told)
         syscall(SYS_close, syscall(SYS_openat, AT_FDCWD, told, O_CREAT | O_WRONLY, 0600));
@@ -76,6 +79,14 @@ int open(const char *path, int flags, ...) {
 
 int statx(int folder, const char *path, int flags, unsigned mask, struct statx *answer) {
     return fails(STAT) ? failed(EIO) : syscall(SYS_statx, folder, path, flags, mask, answer);
+}
+
+off_t lseek(int file, off_t offset, int whence) {
+    return fails(SEEK) ? failed(EIO) : syscall(SYS_lseek, file, offset, whence);
+}
+
+off_t lseek64(int file, off_t offset, int whence) {
+    return lseek(file, offset, whence);
 }
 
 ssize_t read(int file, void *bytes, size_t size) {

@@ -23,11 +23,13 @@ class Runs:
         (self.folder / name).write_bytes(data)
         return name
 
-    def run(self, *arguments):
-        """Status, standard output and standard error of a run, and the bytes of OUT, if it is there."""
+    def run(self, *arguments, **settings):
+        """Status, standard output and standard error of a run, and the bytes of OUT, if it is there. The
+        settings are those of `subprocess.run`."""
         out = self.folder / 'out.pdb'
         out.unlink(missing_ok=True)
-        ended = subprocess.run([self.program, *arguments], cwd=self.folder, stdin=subprocess.DEVNULL, capture_output=True, text=True)
+        settings = {'stdin': subprocess.DEVNULL, **settings}
+        ended = subprocess.run([self.program, *arguments], cwd=self.folder, capture_output=True, text=True, **settings)
         return ended.returncode, ended.stdout, ended.stderr, out.read_bytes() if out.exists() else None
 
     def shows(self, what, text, *arguments):
