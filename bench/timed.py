@@ -75,6 +75,28 @@ def run(words, out=None, status=0):
     return Run(seconds, usage.ru_utime + usage.ru_stime, usage.ru_maxrss * 1024, text)
 
 
+# Starts a program from a process that holds little, and prints the greatest memory of it in kilobytes.
+STARTER = '''import os, sys
+child = os.fork()
+if child == 0:
+    os.execv(sys.argv[1], sys.argv[1:])
+_, ended, usage = os.wait4(child, 0)
+os.write(2, b'%d' % usage.ru_maxrss)
+os._exit(ended != 0)'''
+
+
+def peak(words, out):
+    """The greatest resident memory of a run in bytes. Standard output goes to this file. The memory of
+    a process begins with what the one holds that starts it. So a small one starts it, which holds
+    about 5 MB; `run` can't tell less than the script itself holds."""
+    with open(out, 'wb') as to:
+        words = [sys.executable, '-I', '-S', '-c', STARTER, *words]
+        ended = subprocess.run(words, stdout=to, stderr=subprocess.PIPE, text=True)
+    if ended.returncode:
+        sys.exit(f'{" ".join(words[5:])}: {ended.stderr}')
+    return int(ended.stderr.split()[-1]) * 1024
+
+
 def best_of(runs, out=None, times=5, status=0):
     """For each name the best of some runs: the least seconds and processor seconds, the greatest
     memory, the last text. Each command is run once in a turn, so that none has a quieter machine."""
