@@ -1,6 +1,8 @@
 //! Files that are read by position: what is read, reads that fail, a file that changes, and refused
 //! memory.
 
+ghost use Rattle.std.specs.Prelude.{None, length};
+
 use byte_io::{AtFault, ReadAt};
 use linked_list_allocator::LocalHeap;
 use msf_blocks::{Layout, MsfFault};
@@ -138,5 +140,110 @@ fn the_streams_of_the_sample(rt: HostRuntime) -> Result<(), Fail> {
     }
     let none = stream_of(rt.alloc(), &mut Positions::new(&file, usize::MAX), 5)?;
     assert_eq!(rt; none.err(), Some(AtFault::Of(StreamFault::NoStream(5))));
+    Ok(())
+}
+
+/// A file that has another length after some reads. Clauses do not see its bytes.
+#[derive(Drop)]
+struct Changing<'a> {
+    bytes: &'a [u8],
+    /// how many reads see these bytes, and what the others see
+    reads: usize,
+    then: &'a [u8],
+    broken: bool,
+}
+
+impl Changing<'_> {
+    /// Fills a slice with the bytes that are there now. `None` where there are fewer.
+    fn fill(&self, offset: u64, into: &mut [u8]) -> Option<()> {
+        let now = if self.reads == 0 {
+            self.then
+        } else {
+            self.bytes
+        };
+        let start = usize::try_from(offset).ok()?;
+        let part = now.get(start..start.checked_add(into.len())?)?;
+        for (place, byte) in into.iter_mut().zip(part) {
+            *place = *byte;
+        }
+        Some(())
+    }
+}
+
+impl ReadAt for Changing<'_> {
+    ghost bytes = { λ _. None };
+
+    ghost told = { λ s. length s.bytes.now };
+
+    ghost is_broken = { λ s. s.broken };
+
+    fn len(&self) -> u64 {
+        self.bytes.len() as u64
+    }
+
+    fn read_at(&mut self, offset: u64, into: &mut [u8]) -> Option<()> {
+        let filled = self.fill(offset, into);
+        self.reads = self.reads.saturating_sub(1);
+        if filled.is_none() {
+            self.broken = true;
+        }
+        filled
+    }
+}
+
+/// Stream 2 of a file that has another length after some reads. `None` where a read failed.
+fn changed_stream(
+    alloc: Global,
+    bytes: &[u8],
+    reads: usize,
+    then: &[u8],
+) -> Result<Option<Vec<u8>>, Fail> {
+    let mut input = Changing {
+        bytes,
+        reads,
+        then,
+        broken: false,
+    };
+    let layout = match layout_of(alloc, &mut input) {
+        Ok(layout) => layout,
+        Err(AtFault::Read) => return Ok(None),
+        Err(AtFault::Of(_)) => return Err("the file is refused".into()),
+    };
+    let mut stream = Vec::new(alloc);
+    match gather_at(&mut input, &layout, 2, &mut stream) {
+        Ok(()) => Ok(Some(stream)),
+        Err(AtFault::Read) => Ok(None),
+        Err(AtFault::Of(_)) => Err("the stream is refused".into()),
+    }
+}
+
+#[test]
+fn a_file_that_is_cut_or_grows_while_it_is_read(rt: HostRuntime) -> Result<(), Fail> {
+    let file = sample(rt.alloc())?;
+    let mut longer = sample(rt.alloc())?;
+    longer.resize(file.len().saturating_add(512), 0xFF)?;
+    for reads in 0..5usize {
+        let grown = changed_stream(rt.alloc(), &file, reads, &longer)?;
+        assert_eq!(rt;
+            grown.as_deref(),
+            file.get(3072..3152),
+            "after {reads} reads"
+        );
+        for end in [0, 56, 1540, 2080, 3151, 3152] {
+            let front = file.get(..end).ok_or("the sample is short")?;
+            let cut = changed_stream(rt.alloc(), &file, reads, front)?;
+            // All reads but the last are in front of the cut, or came before it.
+            let is_whole = cut.as_deref() == file.get(3072..3152);
+            assert!(rt;
+                is_whole || cut.is_none(),
+                "after {reads} reads, cut at {end}"
+            );
+            assert_eq!(rt;
+                is_whole,
+                reads == 4 || end == 3152,
+                "after {reads} reads, cut at {end}"
+            );
+        }
+    }
     Ok(())
 }
