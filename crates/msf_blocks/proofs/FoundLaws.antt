@@ -33,6 +33,37 @@ pub fields_are : (file : List ℕ) (fields : Fields) → IsSuperblock file field
 fields_are file fields s =
     rw (s.block_size_is, s.free_map_block_is, s.num_blocks_is, s.directory_bytes_is, s.unknown_is, s.block_map_addr_is) refl
 
+-- the contents begin with these sizes of streams, as many as are announced, and then these numbers of blocks
+pub record Spells (contents sizes blocks : List ℕ) : Type 0 where
+  pub rest : List ℕ
+  pub parts : contents ≡ u32s (length sizes ∷ sizes ++ blocks) ++ rest
+  pub few : length sizes < 2 ^ 32
+  pub short : (t : ℕ) → t < length sizes → get_or sizes t 0 < 2 ^ 32
+
+-- the number of streams comes first
+pub spelled_count : (contents sizes blocks : List ℕ) → Spells contents sizes blocks → nth_u32 contents 0 ≡ length sizes
+spelled_count contents sizes blocks h =
+    ap (λ (x : List ℕ). nth_u32 x 0) h.parts ∙ nth_u32-u32s (length sizes ∷ sizes ++ blocks) h.rest 0 (omega arith) h.few
+
+-- the sizes come next
+pub spelled_size : (contents sizes blocks : List ℕ) (t : ℕ) → Spells contents sizes blocks → t < length sizes → nth_u32 contents (1 + t) ≡ get_or sizes t 0
+spelled_size contents sizes blocks t h lt =
+    let numbers = length sizes ∷ sizes ++ blocks in
+    let one : 1 + t ≡ suc t = omega arith in
+    let here : get_or numbers (1 + t) 0 ≡ get_or sizes t 0 = rw one (get_or_append_left sizes blocks 0 t lt) in
+    ap (λ (x : List ℕ). nth_u32 x (1 + t)) h.parts
+    ∙ nth_u32-u32s numbers h.rest (1 + t) (omega (arith, length-append sizes blocks)) (rw here (h.short t lt)) ∙ here
+
+-- the numbers of blocks come next
+pub spelled_block : (contents sizes blocks : List ℕ) (j : ℕ) → Spells contents sizes blocks → j < length blocks → get_or blocks j 0 < 2 ^ 32 → nth_u32 contents (1 + length sizes + j) ≡ get_or blocks j 0
+spelled_block contents sizes blocks j h lt small =
+    let numbers = length sizes ∷ sizes ++ blocks in
+    let at = 1 + length sizes + j in
+    let is : at ≡ suc (length sizes + j) = omega arith in
+    let here : get_or numbers at 0 ≡ get_or blocks j 0 = rw is (get_or-append-add sizes blocks j 0) in
+    ap (λ (x : List ℕ). nth_u32 x at) h.parts
+    ∙ nth_u32-u32s numbers h.rest at (omega (arith, length-append sizes blocks)) (rw here small) ∙ here
+
 -- the contents of a directory with a list of streams
 record IsText (fields : Fields) (contents : List ℕ) (streams : List Listed) : Type 0 where
   lists : ListsStreams fields contents streams
@@ -45,46 +76,43 @@ section_len fields contents streams h =
     ap length h.parts ∙ length-append (u32s numbers) h.rest
     ∙ rw (length-u32s numbers) (omega (arith, length-append (map (λ (s : Listed). s.size) streams) (flat_map (λ s. s.blocks) streams), length-map streams (λ (s : Listed). s.size)))
 
--- the number of streams comes first
-count_is : (fields : Fields) (contents : List ℕ) (streams : List Listed) → IsText fields contents streams → nth_u32 contents 0 ≡ length streams
-count_is fields contents streams h =
-    let numbers = length streams ∷ map (λ s. s.size) streams ++ flat_map (λ s. s.blocks) streams in
-    ap (λ (t : List ℕ). nth_u32 t 0) h.lists.parts
-    ∙ nth_u32-u32s numbers h.lists.rest 0 (omega arith) (omega (arith, h.short, section_len fields contents streams h.lists))
+text_spells : (fields : Fields) (contents : List ℕ) (streams : List Listed) → IsText fields contents streams → Spells contents (map (λ s. s.size) streams) (flat_map (λ s. s.blocks) streams)
+text_spells fields contents streams h =
+    let sizes = map (λ (s : Listed). s.size) streams in
+    let counted : length sizes ≡ length streams = length-map streams (λ (s : Listed). s.size) in
+    record {
+      rest = h.lists.rest;
+      parts = rw counted h.lists.parts;
+      few = omega (arith, counted, h.short, section_len fields contents streams h.lists);
+      short = λ t lt.
+          let below : t < length streams = omega (arith, lt, counted) in
+          rw (get_or-map (λ (s : Listed). s.size) streams t no_stream 0 below) (All-get_or (IsListed fields) streams t no_stream below h.lists.each).short;
+    }
 
--- the sizes come next
+-- how many streams are listed
+count_is : (fields : Fields) (contents : List ℕ) (streams : List Listed) → IsText fields contents streams → nth_u32 contents 0 ≡ length streams
+count_is fields contents streams h = spelled_count contents _ _ (text_spells fields contents streams h) ∙ length-map streams (λ (s : Listed). s.size)
+
+-- the size of a stream
 size_is : (fields : Fields) (contents : List ℕ) (streams : List Listed) (t : ℕ) → IsText fields contents streams → t < length streams → nth_u32 contents (1 + t) ≡ (get_or streams t no_stream).size
 size_is fields contents streams t h lt =
-    let sizes = map (λ (s : Listed). s.size) streams in
-    let blocks = flat_map (λ (s : Listed). s.blocks) streams in
-    let numbers = length streams ∷ sizes ++ blocks in
-    let counted : length sizes ≡ length streams = length-map streams (λ (s : Listed). s.size) in
-    let one : 1 + t ≡ suc t = omega arith in
-    let here : get_or numbers (1 + t) 0 ≡ (get_or streams t no_stream).size =
-    rw one (get_or_append_left sizes blocks 0 t (omega (arith, counted)) ∙ get_or-map (λ (s : Listed). s.size) streams t no_stream 0 lt) in
-    let small : (get_or streams t no_stream).size < 2 ^ 32 = (All-get_or (IsListed fields) streams t no_stream lt h.lists.each).short in
-    ap (λ (x : List ℕ). nth_u32 x (1 + t)) h.lists.parts
-    ∙ nth_u32-u32s numbers h.lists.rest (1 + t) (omega (arith, length-append sizes blocks, counted)) (rw here small) ∙ here
+    let counted : length (map (λ (s : Listed). s.size) streams) ≡ length streams = length-map streams (λ (s : Listed). s.size) in
+    spelled_size contents _ _ t (text_spells fields contents streams h) (omega (arith, counted, lt)) ∙ get_or-map (λ (s : Listed). s.size) streams t no_stream 0 lt
 
--- the lists come next: the k-th number of the list of the t-th stream
+-- the k-th number of the list of the t-th stream
 list_is : (fields : Fields) (contents : List ℕ) (streams : List Listed) (t k : ℕ) → IsText fields contents streams → t < length streams → k < length (get_or streams t no_stream).blocks
     → nth_u32 contents (1 + length streams + length (flat_map (λ s. s.blocks) (take t streams)) + k) ≡ get_or (get_or streams t no_stream).blocks k 0
 list_is fields contents streams t k h lt below =
-    let sizes = map (λ (s : Listed). s.size) streams in
     let blocks_of = λ (s : Listed). s.blocks in
     let blocks = flat_map blocks_of streams in
-    let numbers = length streams ∷ sizes ++ blocks in
-    let counted : length sizes ≡ length streams = length-map streams (λ (s : Listed). s.size) in
+    let counted : length (map (λ (s : Listed). s.size) streams) ≡ length streams = length-map streams (λ (s : Listed). s.size) in
     let start = length (flat_map blocks_of (take t streams)) in
-    let at = 1 + length streams + start + k in
     let within : start + length (get_or streams t no_stream).blocks ≤ length blocks = length-flat_map-take blocks_of streams t no_stream lt in
-    let is : at ≡ suc (length sizes + (start + k)) = omega (arith, counted) in
-    let here : get_or numbers at 0 ≡ get_or (get_or streams t no_stream).blocks k 0 =
-    rw is (get_or-append-add sizes blocks (start + k) 0 ∙ get_or-flat_map blocks_of streams t k no_stream 0 lt below) in
+    let here : get_or blocks (start + k) 0 ≡ get_or (get_or streams t no_stream).blocks k 0 = get_or-flat_map blocks_of streams t k no_stream 0 lt below in
     let o : IsOrdinary fields.num_blocks (get_or (get_or streams t no_stream).blocks k 0) = All-get_or (IsOrdinary fields.num_blocks) (get_or streams t no_stream).blocks k 0 below (All-get_or (IsListed fields) streams t no_stream lt h.lists.each).ordinary in
-    let small : get_or (get_or streams t no_stream).blocks k 0 < 2 ^ 32 = omega (arith, o.1, h.few_blocks) in
-    ap (λ (x : List ℕ). nth_u32 x at) h.lists.parts
-    ∙ nth_u32-u32s numbers h.lists.rest at (omega (arith, length-append sizes blocks, counted, within)) (rw here small) ∙ here
+    let small : get_or blocks (start + k) 0 < 2 ^ 32 = rw here (omega (arith, o.1, h.few_blocks)) in
+    let at : 1 + length streams + start + k ≡ 1 + length streams + (start + k) = omega arith in
+    rw at (rw counted at (spelled_block contents _ _ (start + k) (text_spells fields contents streams h) (omega (arith, within, below)) small) ∙ here)
 
 -- a stream has as many blocks as its list has numbers
 blocks_is : (fields : Fields) (contents : List ℕ) (streams : List Listed) (t : ℕ) → IsText fields contents streams → t < length streams → stream_blocks fields.block_size contents t ≡ length (get_or streams t no_stream).blocks

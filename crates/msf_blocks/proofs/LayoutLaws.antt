@@ -52,6 +52,11 @@ stream_answer file fields contents n is contents_is a b l e =
     let here : first_failing (length_checks fields.block_size (directory_contents file fields)) ≡ None = rw (← contents_is) l in
     after_blocks file fields is a b ∙ first_failing-append_none (length_checks fields.block_size (directory_contents file fields)) _ here ∙ rw (e, contents_is) refl
 
+-- after the checks of its length, the first fault of a directory is the first fault of its streams
+pub directory_answer : (fields : Fields) (contents : List ℕ) (n : ℕ) → first_failing (length_checks fields.block_size contents) ≡ None → n ≡ nth_u32 contents 0
+    → first_failing (directory_checks fields contents) ≡ first_failing (checks_below n (stream_checks fields contents))
+directory_answer fields contents n long e = first_failing-append_none (length_checks fields.block_size contents) _ long ∙ rw e refl
+
 -- after a superblock without a fault, the first fault of the directory is that of the layout, and so is out of memory where there is none
 pub contents_fault : (file : List ℕ) (fields : Fields) (fault : MsfFault) → fields ≡ fields_of file → first_failing (superblock_checks file) ≡ None
     → (first_failing (directory_block_checks file fields) ≡ Some fault) ⊎ ((first_failing (directory_block_checks file fields) ≡ None) × Refuses Memory (first_failing (directory_checks fields (directory_contents file fields))) fault)

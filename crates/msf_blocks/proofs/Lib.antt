@@ -8,6 +8,7 @@ pub mod AtLaws
 pub mod LayoutLaws
 pub mod ListsLaws
 pub mod FoundLaws
+pub mod RefusedLaws
 pub mod AtLayoutLaws
 pub mod BlockLaws
 pub mod FreeMapLaws

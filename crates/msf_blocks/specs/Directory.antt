@@ -1,6 +1,6 @@
 -- The stream directory: where its blocks are, and what it lists ("The MSF File Format", "The Stream Directory").
-use Rattle.std.specs.Prelude.{ℕ, zero, suc, Some, None, if◌then◌else◌, ◌==◌, ◌≡◌, ◌⊎◌, ◌+◌, ◌-◌, ◌*◌, ◌/◌, ◌%◌, ◌<◌, ◌≤◌, ◌^◌, nat_le, List, [], ◌∷◌, ◌++◌, length, slice_index, get_or, map, All}
-use Rattle.std.specs.List.{range_with_len, flat_map}
+use Rattle.std.specs.Prelude.{ℕ, zero, suc, false, Some, None, if◌then◌else◌, ◌==◌, ◌≡◌, ◌⊎◌, ◌+◌, ◌-◌, ◌*◌, ◌/◌, ◌%◌, ◌<◌, ◌≤◌, ◌^◌, nat_le, List, [], ◌∷◌, ◌++◌, length, slice_index, get_or, map, All}
+use Rattle.std.specs.List.{range_with_len, flat_map, sum_by}
 use Rattle.byte_fields.specs.Number.{number_at, nth_u32, u32s}
 use Rattle.byte_fields.specs.Check.{Check, Refuses, checks_below, first_failing}
 use Rattle.msf_blocks.specs.BlockNumber.{blocks_for, IsOrdinary, is_ordinary}
@@ -125,9 +125,45 @@ number_check numbers fields k = record { holds = is_ordinary fields.num_blocks (
 unfoldable pub number_checks : List ℕ → Fields → List (Check MsfFault)
 number_checks numbers fields = checks_below (directory_blocks fields) (number_check numbers fields)
 
--- a block map was read for this superblock: as many numbers as the directory has blocks, and all of them are ordinary
+-- there is a block map for this superblock: as many numbers as the directory has blocks, and all of them are ordinary
 abbrev pub HasBlockMap : Fields → Type 0
 HasBlockMap fields = (numbers : List ℕ) × (length numbers ≡ directory_blocks fields) × (first_failing (number_checks numbers fields) ≡ None)
+
+-- there is a block map for this superblock with this fault: its first number that is not ordinary
+abbrev pub BlockMapRefuses : Fields → MsfFault → Type 0
+BlockMapRefuses fields fault = (numbers : List ℕ) × (length numbers ≡ directory_blocks fields) × (first_failing (number_checks numbers fields) ≡ Some fault)
+
+-- how many blocks streams of these listed sizes have together
+unfoldable pub blocks_together : ℕ → List ℕ → ℕ
+blocks_together block_size sizes = sum_by (λ size. blocks_for block_size (bytes_of size)) sizes
+
+-- a stream of some listed size has this many blocks
+abbrev pub HasSize : ℕ → ℕ → Type 0
+HasSize block_size blocks = (size : ℕ) × (size < 2 ^ 32) × (blocks ≡ blocks_for block_size (bytes_of size))
+
+-- there are sizes of the first `count` of these streams, with which the lists of their blocks end at this position
+pub record HasSizes (block_size streams count end : ℕ) : Type 0 where
+  pub sizes : List ℕ
+  pub many : length sizes ≡ count
+  pub short : All (λ size. size < 2 ^ 32) sizes
+  pub end_is : end ≡ 1 + streams + blocks_together block_size sizes
+
+-- this is a fault of a list of so many blocks of this stream: one of its numbers is not ordinary
+pub record ListRefuses (fields : Fields) (stream count : ℕ) (fault : MsfFault) : Type 0 where
+  pub at : ℕ
+  pub n : ℕ
+  pub below : at < count
+  pub short : n < 2 ^ 32
+  pub bad : is_ordinary fields.num_blocks n ≡ false
+  pub fault_is : fault ≡ StreamBlock stream at n
+
+-- there are contents of a directory for this superblock whose first fault this is; where they have none it is out of memory
+abbrev pub ContentsRefuse : Fields → MsfFault → Type 0
+ContentsRefuse fields fault = (contents : List ℕ) × (length contents ≡ fields.directory_bytes) × Refuses Memory (first_failing (directory_checks fields contents)) fault
+
+-- there is a directory for this superblock with this fault: the block map has it, or else the contents
+abbrev pub DirectoryRefuses : Fields → MsfFault → Type 0
+DirectoryRefuses fields fault = BlockMapRefuses fields fault ⊎ (HasBlockMap fields × ContentsRefuse fields fault)
 
 -- this is the first fault of the directory of a file that begins with this superblock: that of a number of the block map, else one of what the directory lists, else it is out of memory
 abbrev pub IsDirectoryFault : List ℕ → Fields → MsfFault → Type 0

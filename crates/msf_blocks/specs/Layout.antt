@@ -1,10 +1,10 @@
 -- The layout of a container: its superblock, and its streams as the directory lists them.
-use Rattle.std.specs.Prelude.{ℕ, ◌≡◌, ◌<◌, ◌^◌, ◌++◌, List, Option, Some, None, length, slice_get, All}
+use Rattle.std.specs.Prelude.{ℕ, ◌≡◌, ◌⊎◌, ◌<◌, ◌^◌, ◌++◌, List, Option, Some, None, length, slice_get, All}
 use Rattle.byte_fields.specs.Number.{nth_u32}
 use Rattle.byte_fields.specs.Check.{Check, checks_below}
 use Rattle.msf_blocks.specs.BlockNumber.{IsBlockSize}
-use Rattle.msf_blocks.specs.Superblock.{Fields, IsSuperblock, HasFront, fields_of, superblock_checks}
-use Rattle.msf_blocks.specs.Directory.{Listed, IsListed, IsDirectory, ListsStreams, HasBlockMap, directory_contents, directory_block_checks, length_checks, stream_checks}
+use Rattle.msf_blocks.specs.Superblock.{Fields, IsSuperblock, HasFront, FrontRefuses, fields_of, superblock_checks}
+use Rattle.msf_blocks.specs.Directory.{Listed, IsListed, IsDirectory, ListsStreams, HasBlockMap, DirectoryRefuses, directory_contents, directory_block_checks, length_checks, stream_checks}
 use Rattle.msf_blocks.specs.declared.fault.MsfFault.{MsfFault}
 
 -- contracts see a layout as the values of the superblock and the list of streams
@@ -26,6 +26,10 @@ pub record HasTexts (told : ℕ) (layout : LayoutView) : Type 0 where
   pub contents : List ℕ
   pub count : length contents ≡ layout.superblock.directory_bytes
   pub lists : ListsStreams layout.superblock contents layout.streams
+
+-- there are texts of a container, which is said to have so many bytes, with this fault: the front has it, or else the directory; where they have no fault it is out of memory
+abbrev pub TextsRefuse : ℕ → MsfFault → Type 0
+TextsRefuse told fault = FrontRefuses told fault ⊎ ((fields : Fields) × HasFront told fields × DirectoryRefuses fields fault)
 
 -- what holds of every layout
 pub record IsLayout (layout : LayoutView) : Type 0 where

@@ -1,5 +1,5 @@
 -- The superblock: the first 56 bytes of a container ("The MSF File Format", "The Superblock").
-use Rattle.std.specs.Prelude.{ℕ, None, ◌≡◌, ◌*◌, ◌/◌, ◌%◌, ◌≤◌, ◌⊎◌, ◌==◌, ◌&&◌, ◌||◌, nat_le, nat_eq, List, [], ◌∷◌, ◌++◌, length, take, codes}
+use Rattle.std.specs.Prelude.{ℕ, Some, None, ◌≡◌, ◌<◌, ◌*◌, ◌/◌, ◌%◌, ◌≤◌, ◌⊎◌, ◌==◌, ◌&&◌, ◌||◌, nat_le, nat_eq, List, [], ◌∷◌, ◌++◌, length, take, codes}
 use Rattle.std.specs.List.{starts_with}
 use Rattle.byte_fields.specs.Number.{number_at}
 use Rattle.byte_fields.specs.Check.{Check, first_failing}
@@ -83,6 +83,10 @@ pub record IsFront (front : List ℕ) (told : ℕ) (fields : Fields) : Type 0 wh
   pub fields_are : fields ≡ fields_of front
   pub sound : first_failing (front_checks front told) ≡ None
 
--- a front was read for this superblock
+-- there is a front with this superblock
 abbrev pub HasFront : ℕ → Fields → Type 0
 HasFront told fields = (front : List ℕ) × IsFront front told fields
+
+-- there is a front with this fault: the container is said to be too short for one, or this is the first check of the front that fails
+abbrev pub FrontRefuses : ℕ → MsfFault → Type 0
+FrontRefuses told fault = ((told < 56) × (fault ≡ Short)) ⊎ ((front : List ℕ) × (length front ≡ 56) × (first_failing (front_checks front told) ≡ Some fault))

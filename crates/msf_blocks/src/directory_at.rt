@@ -6,7 +6,7 @@ ghost use Rattle.std.specs.List.{range_with_len};
 ghost use Rattle.byte_fields.specs.Number.{number_at, nth_u32};
 ghost use Rattle.byte_fields.specs.Check.{Makes, first_failing, checks_below};
 ghost use Rattle.byte_io.specs.At.{Breaks, IfKnown, IfOf};
-ghost use Rattle.msf_blocks.specs.Directory.{IsReadable, IsDirectoryFault, HasBlockMap, map_number, map_numbers, number_checks, directory_blocks, directory_block_checks, directory_checks, directory_contents, list_start, length_checks, stream_blocks, stream_checks};
+ghost use Rattle.msf_blocks.specs.Directory.{IsReadable, IsDirectoryFault, HasSize, HasSizes, HasBlockMap, BlockMapRefuses, ListRefuses, ContentsRefuse, DirectoryRefuses, map_number, map_numbers, number_checks, directory_blocks, directory_block_checks, directory_checks, directory_contents, list_start, length_checks, stream_blocks, stream_checks};
 
 use crate::block_number::{blocks_for, is_ordinary};
 use crate::blocks::read_blocks;
@@ -48,6 +48,9 @@ fn check_map<R: ReadAt>(input: &mut R, superblock: &Superblock) -> Result<(), At
     ensures keeps { R.bytes input.new ≡ R.bytes input.old }
     ensures held { OnOk result (IfKnown (R.bytes input.old) (λ file. first_failing (directory_block_checks file superblock.now) ≡ None)) }
     ensures first { IfErr result (IfOf (λ fault. IfKnown (R.bytes input.old) (λ file. first_failing (directory_block_checks file superblock.now) ≡ Some fault))) }
+    // Whatever is known of the file, there is a block map without a fault, or one with this fault.
+    ensures map { OnOk result (HasBlockMap superblock.now) }
+    ensures refused { IfErr result (IfOf (BlockMapRefuses superblock.now)) }
     ensures read { IfErr result (λ fault. fault ≡ AtFault.Read → Breaks (R.bytes input.old) (R.is_broken input.new)) }
 {
     for at in 0..blocks_for(superblock.block_size(), superblock.directory_bytes()) {
@@ -88,6 +91,7 @@ fn read_stream_blocks<R: ReadAt>(input: &mut R, superblock: &Superblock, stream:
     ensures keeps { R.bytes input.new ≡ R.bytes input.old }
     ensures value { IfSome result (λ n. IfKnown (R.bytes input.old) (λ file. n ≡ stream_blocks superblock.now.block_size (directory_contents file superblock.now) stream)) }
     ensures few { IfSome result (λ n. n ≤ 2 ^ 23) }
+    ensures size { IfSome result (HasSize superblock.now.block_size) }
     ensures refuses { IfNone result (Breaks (R.bytes input.old) (R.is_broken input.new)) }
 {
     let block_size = superblock.block_size();
@@ -103,6 +107,7 @@ fn read_lists_end<R: ReadAt>(input: &mut R, superblock: &Superblock, streams: u3
     ensures keeps { R.bytes input.new ≡ R.bytes input.old }
     ensures value { IfSome result (λ n. IfKnown (R.bytes input.old) (λ file. n ≡ list_start superblock.now.block_size (directory_contents file superblock.now) streams)) }
     ensures few { IfSome result (λ n. n < 2 ^ 60) }
+    ensures sizes { IfSome result (HasSizes superblock.now.block_size streams streams) }
     ensures refuses { IfNone result (Breaks (R.bytes input.old) (R.is_broken input.new)) }
 {
     let mut end = 1 + u64::from(streams);
@@ -122,6 +127,7 @@ fn check_length<R: ReadAt>(input: &mut R, superblock: &Superblock) -> Result<u32
     ensures room { IfOk result (λ n. IfKnown (R.bytes input.old) (λ file. 4 * list_start superblock.now.block_size (directory_contents file superblock.now) n ≤ superblock.now.directory_bytes)) }
     ensures held { OnOk result (IfKnown (R.bytes input.old) (λ file. first_failing (length_checks superblock.now.block_size (directory_contents file superblock.now)) ≡ None)) }
     ensures first { IfErr result (IfOf (λ fault. IfKnown (R.bytes input.old) (λ file. first_failing (length_checks superblock.now.block_size (directory_contents file superblock.now)) ≡ Some fault))) }
+    ensures refused { IfErr result (IfOf (ContentsRefuse superblock.now)) }
     ensures read { IfErr result (λ fault. fault ≡ AtFault.Read → Breaks (R.bytes input.old) (R.is_broken input.new)) }
 {
     let have = u64::from(superblock.directory_bytes());
@@ -163,6 +169,7 @@ fn check_stream<R: ReadAt>(
     ensures keeps { R.bytes input.new ≡ R.bytes input.old }
     ensures held { OnOk result (IfKnown (R.bytes input.old) (λ file. first_failing (stream_checks superblock.now (directory_contents file superblock.now) stream) ≡ None)) }
     ensures first { IfErr result (IfOf (λ fault. IfKnown (R.bytes input.old) (λ file. first_failing (stream_checks superblock.now (directory_contents file superblock.now) stream) ≡ Some fault))) }
+    ensures refused { IfErr result (IfOf (ListRefuses superblock.now stream count)) }
     ensures read { IfErr result (λ fault. fault ≡ AtFault.Read → Breaks (R.bytes input.old) (R.is_broken input.new)) }
 {
     for at in 0..count {
@@ -189,6 +196,9 @@ fn check_streams<R: ReadAt>(
     ensures keeps { R.bytes input.new ≡ R.bytes input.old }
     ensures held { OnOk result (IfKnown (R.bytes input.old) (λ file. first_failing (checks_below streams (stream_checks superblock.now (directory_contents file superblock.now))) ≡ None)) }
     ensures first { IfErr result (IfOf (λ fault. IfKnown (R.bytes input.old) (λ file. first_failing (checks_below streams (stream_checks superblock.now (directory_contents file superblock.now))) ≡ Some fault))) }
+    // Whatever is known of the file, there are contents without a fault, or some with this fault.
+    ensures sound { OnOk result (ContentsRefuse superblock.now MsfFault.Memory) }
+    ensures refused { IfErr result (IfOf (ContentsRefuse superblock.now)) }
     ensures read { IfErr result (λ fault. fault ≡ AtFault.Read → Breaks (R.bytes input.old) (R.is_broken input.new)) }
 {
     let have = u64::from(superblock.directory_bytes());
@@ -217,6 +227,8 @@ fn check_directory<R: ReadAt>(
     ensures keeps { R.bytes input.new ≡ R.bytes input.old }
     ensures held { OnOk result (IfKnown (R.bytes input.old) (λ file. first_failing (directory_checks superblock.now (directory_contents file superblock.now)) ≡ None)) }
     ensures first { IfErr result (IfOf (λ fault. IfKnown (R.bytes input.old) (λ file. first_failing (directory_checks superblock.now (directory_contents file superblock.now)) ≡ Some fault))) }
+    ensures sound { OnOk result (ContentsRefuse superblock.now MsfFault.Memory) }
+    ensures refused { IfErr result (IfOf (ContentsRefuse superblock.now)) }
     ensures read { IfErr result (λ fault. fault ≡ AtFault.Read → Breaks (R.bytes input.old) (R.is_broken input.new)) }
 {
     let streams = check_length(input, superblock)?;
@@ -230,6 +242,7 @@ fn fault_without_memory<R: ReadAt>(input: &mut R, superblock: &Superblock) -> At
     requires { IfKnown (R.bytes input.old) (λ file. superblock.now.num_blocks * superblock.now.block_size ≤ length file) }
     ensures keeps { R.bytes input.new ≡ R.bytes input.old }
     ensures first { IfOf (λ fault. IfKnown (R.bytes input.old) (λ file. IsDirectoryFault file superblock.now fault)) result }
+    ensures refused { IfOf (DirectoryRefuses superblock.now) result }
     ensures read { result ≡ AtFault.Read → Breaks (R.bytes input.old) (R.is_broken input.new) }
 {
     if let Err(fault) = check_map(input, superblock) {
@@ -303,6 +316,7 @@ fn read_numbers<R: ReadAt, A: Allocator + Copy>(
     ensures sound { IfOk result (λ v. first_failing (number_checks v.items superblock.now) ≡ None) }
     ensures held { OnOk result (IfKnown (R.bytes input.old) (λ file. first_failing (directory_block_checks file superblock.now) ≡ None)) }
     ensures first { IfErr result (IfOf (λ fault. IfKnown (R.bytes input.old) (λ file. IsDirectoryFault file superblock.now fault))) }
+    ensures refused { IfErr result (IfOf (DirectoryRefuses superblock.now)) }
     ensures read { IfErr result (λ fault. fault ≡ AtFault.Read → Breaks (R.bytes input.old) (R.is_broken input.new)) }
 {
     let numbers = match read_map(alloc, input, superblock) {
@@ -333,6 +347,7 @@ pub fn read_contents<R: ReadAt, A: Allocator + Copy>(
     ensures map { OnOk result (HasBlockMap superblock.now) }
     ensures held { OnOk result (IfKnown (R.bytes input.old) (λ file. first_failing (directory_block_checks file superblock.now) ≡ None)) }
     ensures first { IfErr result (IfOf (λ fault. IfKnown (R.bytes input.old) (λ file. IsDirectoryFault file superblock.now fault))) }
+    ensures refused { IfErr result (IfOf (DirectoryRefuses superblock.now)) }
     ensures read { IfErr result (λ fault. fault ≡ AtFault.Read → Breaks (R.bytes input.old) (R.is_broken input.new)) }
 {
     let blocks = read_numbers(alloc, input, superblock)?;

@@ -7,7 +7,7 @@ ghost use Rattle.byte_fields.specs.Check.{Makes, Refuses, first_failing};
 ghost use Rattle.byte_io.specs.At.{Breaks, IfKnown, IfOf};
 ghost use Rattle.msf_blocks.specs.Superblock.{IsSuperblock, fields_of};
 ghost use Rattle.msf_blocks.specs.Directory.{directory_contents, list_start, listed_below, bytes_of};
-ghost use Rattle.msf_blocks.specs.Layout.{LayoutView, HasLayout, HasTexts, IsLayout, block_of, layout_checks};
+ghost use Rattle.msf_blocks.specs.Layout.{LayoutView, HasLayout, HasTexts, TextsRefuse, IsLayout, block_of, layout_checks};
 ghost use Rattle.msf_blocks.specs.Stream.{listed_of};
 
 use crate::directory::{Directory, bytes_of};
@@ -134,6 +134,7 @@ fn layout_at<R: ReadAt, A: Allocator + Copy>(
     ensures value { IfOk result (λ layout. IfKnown (R.bytes input.old) (λ file. HasLayout file layout)) }
     ensures texts { IfOk result (HasTexts (R.told input.old)) }
     ensures first { IfErr result (IfOf (λ fault. IfKnown (R.bytes input.old) (λ file. Refuses MsfFault.Memory (first_failing (layout_checks file)) fault))) }
+    ensures refused { IfErr result (IfOf (TextsRefuse (R.told input.old))) }
     ensures read { IfErr result (λ fault. fault ≡ AtFault.Read → Breaks (R.bytes input.old) (R.is_broken input.new)) }
 {
     let superblock = Superblock::read_at(input)?;
@@ -163,6 +164,8 @@ impl<A: Allocator + Copy> Layout<A> {
         ensures texts { IfOk result (HasTexts (R.told input.old)) }
         ensures found { IfErr result (λ fault. IfKnown (R.bytes input.old) (λ file. (layout : LayoutView) → HasLayout file layout → fault ≡ AtFault.Of MsfFault.Memory)) }
         ensures first { IfErr result (IfOf (λ fault. IfKnown (R.bytes input.old) (λ file. Refuses MsfFault.Memory (first_failing (layout_checks file)) fault))) }
+        // Whatever is known of the file, a fault is that of the texts that were read.
+        ensures refused { IfErr result (IfOf (TextsRefuse (R.told input.old))) }
         ensures read { IfErr result (λ fault. fault ≡ AtFault.Read → Breaks (R.bytes input.old) (R.is_broken input.new)) }
     {
         layout_at(alloc, input)

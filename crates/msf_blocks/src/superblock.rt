@@ -1,12 +1,12 @@
 //! The superblock of a container.
 
-ghost use Rattle.std.specs.Prelude.{◌≡◌, ◌*◌, ◌/◌, ◌%◌, ◌≤◌, ◌⊎◌, ◌≢◌, [], ◌∷◌, ◌++◌, length, take, true, Some, None, IfOk, OnOk, IfErr, IsOk};
+ghost use Rattle.std.specs.Prelude.{◌≡◌, ◌*◌, ◌/◌, ◌%◌, ◌<◌, ◌≤◌, ◌⊎◌, ◌≢◌, [], ◌∷◌, ◌++◌, length, take, true, Some, None, IfOk, OnOk, IfErr, IsOk};
 ghost use Rattle.byte_fields.specs.Bytes.{AreBytes};
 ghost use Rattle.byte_fields.specs.Check.{Makes, first_failing};
 ghost use Rattle.byte_io.specs.At.{Breaks, IfKnown, IfOf};
 ghost use Rattle.byte_fields.specs.Number.{u32s};
 ghost use Rattle.msf_blocks.specs.BlockNumber.{IsBlockSize, IsOrdinary, blocks_for};
-ghost use Rattle.msf_blocks.specs.Superblock.{Fields, IsFit, IsSuperblock, fields_of, magic, front_checks, superblock_checks, HasFront};
+ghost use Rattle.msf_blocks.specs.Superblock.{Fields, IsFit, IsSuperblock, fields_of, magic, front_checks, superblock_checks, HasFront, FrontRefuses};
 
 use crate::block_number::{blocks_for, is_block_size, is_ordinary};
 use crate::fault::MsfFault;
@@ -167,6 +167,7 @@ impl Superblock {
         // Whatever is known of the file, this holds of the bytes that were read.
         ensures front { IfOk result (HasFront (R.told input.old)) }
         ensures held { OnOk result (IfKnown (R.bytes input.old) (λ file. first_failing (superblock_checks file) ≡ None)) }
+        ensures refused { IfErr result (IfOf (FrontRefuses (R.told input.old))) }
         ensures first { IfErr result (IfOf (λ fault. IfKnown (R.bytes input.old) (λ file. first_failing (superblock_checks file) ≡ Some fault))) }
         ensures read { IfErr result (λ fault. fault ≡ AtFault.Read → Breaks (R.bytes input.old) (R.is_broken input.new)) }
     {
@@ -212,6 +213,8 @@ impl Superblock {
         ensures value { result ≡ self.now.directory_bytes }
         ensures multiple { result % 4 ≡ 0 }
         ensures fits { blocks_for self.now.block_size result ≤ self.now.block_size / 4 }
+        // A block other than block 0 lists its blocks, so there are two.
+        ensures map { 1 < self.now.num_blocks }
     {
         self.directory_bytes
     }

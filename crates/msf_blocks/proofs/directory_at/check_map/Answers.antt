@@ -1,8 +1,9 @@
-use Rattle.std.proofs.Common.{◌≡◌, ◌∙◌, refl, sym, ap, arith}
+use Rattle.std.proofs.Common.{◌≡◌, ◌<◌, false, ◌∙◌, refl, sym, ap, arith}
 use Rattle.byte_fields.proofs.CheckLaws.{checks_below-more, checks_below-stop, check_fails, check_holds}
 use Rattle.msf_blocks.specs.BlockNumber.{is_ordinary}
 use Rattle.msf_blocks.specs.Directory.{directory_block_checks, directory_block_check, directory_blocks, map_number}
 use Rattle.msf_blocks.specs.declared.fault.MsfFault.TheVariants.{DirectoryBlock}
+use Rattle.msf_blocks.proofs.RefusedLaws.{map_refuses, map_holds}
 use Rattle.msf_blocks.proofs.directory_at.check_map.Goals as goal
 
 pub returns-then-not-is_ordinary-clause-first : goal.returns-then-not-is_ordinary-clause-first
@@ -37,3 +38,14 @@ returns-clause-held g c = λ file known.
     let end : c.blocks_for-at-end.result ≡ directory_blocks fields = c.blocks_for-at-end.ensures.value ∙ rw (c.block_size.ensures.value, c.directory_bytes.ensures.value) refl in
     let all : c.loop-at.at ≡ directory_blocks fields = omega (arith, end, c.loop-at-test.false, c.loop-at.auto.at-end) in
     rw all at (c.loop-at.invariant.held file known)
+
+pub returns-then-not-is_ordinary-clause-refused : goal.returns-then-not-is_ordinary-clause-refused
+returns-then-not-is_ordinary-clause-refused g c =
+    let fields = c.args.superblock.now in
+    let end : c.blocks_for-at-end.result ≡ directory_blocks fields = c.blocks_for-at-end.ensures.value ∙ rw (c.block_size.ensures.value, c.directory_bytes.ensures.value) refl in
+    let below : c.loop-at.at < directory_blocks fields = omega (arith, end, c.loop-at-test.true) in
+    let bad : is_ordinary fields.num_blocks c.in-Some.n ≡ false = grind arith in
+    map_refuses fields c.loop-at.at c.in-Some.n c.directory_bytes.ensures.map below bad
+
+pub returns-clause-map : goal.returns-clause-map
+returns-clause-map g c = map_holds c.args.superblock.now c.directory_bytes.ensures.map

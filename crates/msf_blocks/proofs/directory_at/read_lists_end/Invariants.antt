@@ -1,6 +1,6 @@
 use Rattle.std.proofs.Common.{◌≡◌, ◌+◌, ◌*◌, ◌≤◌, ◌^◌}
 use Rattle.byte_io.specs.At.{IfKnown}
-use Rattle.msf_blocks.specs.Directory.{directory_contents, list_start}
+use Rattle.msf_blocks.specs.Directory.{HasSizes, directory_contents, list_start}
 use Rattle.msf_blocks.proofs.directory_at.read_lists_end.Given as goal
 
 abbrev pub invariant-loop-stream : goal.invariant-loop-stream
@@ -8,4 +8,5 @@ invariant-loop-stream g l = record {
   keeps : g.R.ReadAt.bytes l.input ≡ g.R.ReadAt.bytes l.initial.input;
   few : l.end ≤ 2 ^ 33 + l.stream * 2 ^ 23;
   value : IfKnown (g.R.ReadAt.bytes l.initial.input) (λ file. l.end ≡ list_start l.superblock.block_size (directory_contents file l.superblock) l.stream);
+  sizes : HasSizes l.superblock.block_size l.streams l.stream l.end;
 }

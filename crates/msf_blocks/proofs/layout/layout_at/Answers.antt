@@ -1,9 +1,12 @@
-use Rattle.std.proofs.Common.{◌∙◌, inl, inr, map}
+use Rattle.std.proofs.Common.{◌≡◌, Some, ◌∙◌, inl, inr, map}
 use Rattle.std.proofs.lemmas.Result.{err_from_is_err_and}
 use Rattle.byte_fields.specs.Bytes.{AreBytes}
+use Rattle.byte_fields.specs.Check.{first_failing}
+use Rattle.byte_fields.proofs.CheckLaws.{first_failing-append_some}
 use Rattle.byte_io.proofs.AtLaws.{of_more}
+use Rattle.msf_blocks.specs.Directory.{directory_checks, length_checks}
 use Rattle.msf_blocks.specs.Stream.{listed_of}
-use Rattle.msf_blocks.proofs.LayoutLaws.{superblock_fault, contents_fault, length_fault, stream_answer}
+use Rattle.msf_blocks.proofs.LayoutLaws.{superblock_fault, contents_fault, length_fault, stream_answer, directory_answer}
 use Rattle.msf_blocks.proofs.ListsLaws.{layout_is, lists_are_read, layout_fits_at}
 use Rattle.msf_blocks.proofs.layout.layout_at.Goals as goal
 
@@ -111,3 +114,39 @@ returns-clause-texts g c =
       lists = lists_are_read superblock contents c.in_ok-streams.streams (map listed_of c.in_ok-streams-2.streams.items) (rw c.deref.ensures.value at d.small) (rw is_contents at l.streams) (rw (d.superblock, is_contents) at l.room)
           (rw (d.superblock, is_contents) at c.in_ok-check_streams.ensures) (rw (d.superblock, is_contents) at c.in_ok-streams-2.ensures.value);
     }
+
+pub returns-in_err-streams-clause-refused : goal.returns-in_err-streams-clause-refused
+returns-in_err-streams-clause-refused g c =
+    let superblock = c.in_ok-superblock.superblock in
+    let t = c.in_ok-contents.ensures in
+    let d = c.gathered-directory.ensures in
+    let contents = c.in_ok-contents.contents.items in
+    let is_contents = d.contents ∙ c.deref.ensures.value in
+    let inner = c.in_err-streams.field-0.0 in
+    let p = err_from_is_err_and c.from_residual-in_err-streams.result c.from_residual-in_err-streams.ensures.1 in
+    let first : first_failing (directory_checks superblock contents) ≡ Some inner = first_failing-append_some (length_checks superblock.block_size contents) _ inner (rw (d.superblock, is_contents) at c.in_err-streams.ensures.first) in
+    rw (p.1, p.2) (inr (superblock, c.in_ok-superblock.ensures.front, inr (t.map, (contents, t.len, inl first))))
+
+pub returns-in_err-check_streams-clause-refused : goal.returns-in_err-check_streams-clause-refused
+returns-in_err-check_streams-clause-refused g c =
+    let superblock = c.in_ok-superblock.superblock in
+    let t = c.in_ok-contents.ensures in
+    let d = c.gathered-directory.ensures in
+    let contents = c.in_ok-contents.contents.items in
+    let is_contents = d.contents ∙ c.deref.ensures.value in
+    let p = err_from_is_err_and c.from_residual-in_err-check_streams.result c.from_residual-in_err-check_streams.ensures.1 in
+    let l = c.in_ok-streams.ensures in
+    let first = directory_answer superblock contents c.in_ok-streams.streams (rw (d.superblock, is_contents) at l.first) (rw is_contents at l.streams) ∙ rw (d.superblock, is_contents) at c.in_err-check_streams.ensures in
+    rw (p.1, p.2) (inr (superblock, c.in_ok-superblock.ensures.front, inr (t.map, (contents, t.len, inl first))))
+
+pub returns-in_err-streams-2-clause-refused : goal.returns-in_err-streams-2-clause-refused
+returns-in_err-streams-2-clause-refused g c =
+    let superblock = c.in_ok-superblock.superblock in
+    let t = c.in_ok-contents.ensures in
+    let d = c.gathered-directory.ensures in
+    let contents = c.in_ok-contents.contents.items in
+    let is_contents = d.contents ∙ c.deref.ensures.value in
+    let l = c.in_ok-streams.ensures in
+    let p = err_from_is_err_and c.from_residual-in_err-streams-2.result c.from_residual-in_err-streams-2.ensures.1 in
+    let none = directory_answer superblock contents c.in_ok-streams.streams (rw (d.superblock, is_contents) at l.first) (rw is_contents at l.streams) ∙ rw (d.superblock, is_contents) at c.in_ok-check_streams.ensures in
+    rw (p.1, p.2) (inr (superblock, c.in_ok-superblock.ensures.front, inr (t.map, (contents, t.len, inr (c.in_err-streams-2.ensures.memory, none)))))
