@@ -8,3 +8,4 @@ pub mod FitLaws
 pub mod BytesLaws
 pub mod ReadBackLaws
 pub mod FileLaws
+pub mod RefusedLaws

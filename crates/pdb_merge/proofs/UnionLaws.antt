@@ -46,7 +46,7 @@ one_weight P some other (l, lists_l, is_l) (m, lists_m, is_m) =
     omega (arith, up, down, is_l, is_m)
 
 -- the weight of a union that a table has
-union_weighs : (before types : List (List ℕ)) (l : List Tree) (bytes : ℕ) → IsUnion l before types → weight l ≡ bytes → Weighs (λ t. IsType before t ⊎ IsType types t) bytes
+pub union_weighs : (before types : List (List ℕ)) (l : List Tree) (bytes : ℕ) → IsUnion l before types → weight l ≡ bytes → Weighs (λ t. IsType before t ⊎ IsType types t) bytes
 union_weighs before types l bytes union heavy = (l, record { distinct = union.distinct; members = union.members }, heavy)
 
 pub union_within : (before types after : List (List ℕ)) (limit : ℕ) → (l : List Tree) × IsUnion l before types × (weight l ≤ limit) → ((t : Tree) → IsType after t ↔ (IsType before t ⊎ IsType types t)) → Within (IsType after) limit

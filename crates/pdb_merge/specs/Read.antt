@@ -4,7 +4,7 @@ use Rattle.msf_streams.specs.declared.fault.StreamFault.TheVariants.{NoStream}
 use Rattle.byte_fields.specs.Bytes.{AreBytes}
 use Rattle.byte_fields.specs.Check.{first_failing}
 use Rattle.msf_blocks.specs.Directory.{Listed, bytes_of}
-use Rattle.msf_blocks.specs.Layout.{LayoutView, HasLayout, layout_checks}
+use Rattle.msf_blocks.specs.Layout.{LayoutView, HasLayout, HasTexts, TextsRefuse, layout_checks}
 use Rattle.msf_streams.specs.Streams.{WasRead, stream_contents}
 use Rattle.pdb_info.specs.declared.fault.InfoFault.TheVariants.{InfoShort}
 use Rattle.tpi_records.specs.Records.{HasRecords, IsFirstFault}
@@ -84,3 +84,35 @@ abbrev pub HasPdbFault : {A : Type 0} → List ℕ → PdbFault A → Type 0
 HasPdbFault file (fault.Msf inner) = first_failing (layout_checks file) ≡ Some inner
 HasPdbFault file (fault.Type inner) = (records : List (List ℕ)) × (has : HasTypeRecords file records) × HasLongInfo file has.layout × HasTypeFault records inner
 HasPdbFault file inner = (layout : LayoutView) × HasLayout file layout × (HasInfoFault file layout inner ⊎ (HasLongInfo file layout × HasStreamFault file layout inner))
+
+-- ---- files whose bytes need not be known: the first faults of texts
+
+-- the layout refuses its stream 1: it is missing, or it is too short
+abbrev pub RefusesInfo : {A : Type 0} → LayoutView → PdbFault A → Type 0
+RefusesInfo layout (fault.Stream inner) = (length layout.streams ≤ 1) × (inner ≡ NoStream 1)
+RefusesInfo layout (fault.Info inner) = (info : Listed) × (slice_get layout.streams 1 ≡ Some info) × (bytes_of info.size < 28) × (inner ≡ InfoShort)
+RefusesInfo layout _ = ⊥
+
+-- stream 2 of this layout has this fault: it is missing, or it is the first fault of bytes that are as many as it has
+abbrev pub RefusesRecords : {A : Type 0} → LayoutView → PdbFault A → Type 0
+RefusesRecords layout (fault.Stream inner) = (length layout.streams ≤ 2) × (inner ≡ NoStream 2)
+RefusesRecords layout (fault.Tpi inner) = (stream : List ℕ) × WasRead layout 2 stream × IsFirstFault stream inner
+RefusesRecords layout _ = ⊥
+
+-- there are records for this layout whose first fault this is, as types
+abbrev pub HasTypeFaultRead : {A : Type 0} → LayoutView → PdbFault A → Type 0
+HasTypeFaultRead layout (fault.Type inner) = (records : List (List ℕ)) × RecordsWereRead layout records × HasTypeFault records inner
+HasTypeFaultRead layout _ = ⊥
+
+-- this is the first fault on the way to the types of this layout: one of stream 1, else of stream 2, else of a record, else a cycle of records
+abbrev pub RefusesTypes : {A : Type 0} → LayoutView → PdbFault A → Type 0
+RefusesTypes layout inner = RefusesInfo layout inner ⊎ (ListsLongInfo layout × (RefusesRecords layout inner ⊎ HasTypeFaultRead layout inner))
+
+-- there are texts of a container, which is said to have so many bytes, with this fault of its layout
+abbrev pub RefusesLayout : {A : Type 0} → ℕ → PdbFault A → Type 0
+RefusesLayout told (fault.Msf inner) = TextsRefuse told inner
+RefusesLayout told _ = ⊥
+
+-- there are texts with this fault: those of a layout have it, or else what was read for that layout
+abbrev pub RefusesTexts : {A : Type 0} → (LayoutView → PdbFault A → Type 0) → ℕ → PdbFault A → Type 0
+RefusesTexts Refuses told inner = RefusesLayout told inner ⊎ ((layout : LayoutView) × HasTexts told layout × Refuses layout inner)

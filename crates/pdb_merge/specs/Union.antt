@@ -6,7 +6,7 @@ use Rattle.byte_io.specs.declared.inputs.InputFault.{InputFault}
 use Rattle.type_trees.specs.Tree.{Tree, IsType}
 use Rattle.type_trees.specs.Canon.{weight}
 use Rattle.msf_blocks.specs.Layout.{LayoutView, HasTexts}
-use Rattle.pdb_merge.specs.Read.{IsAccepted, TypesWereRead, HasPdbFault}
+use Rattle.pdb_merge.specs.Read.{IsAccepted, TypesWereRead, HasPdbFault, RefusesTypes, RefusesLayout}
 use Rattle.pdb_merge.specs.declared.fault.AddFault.{AddFault}
 use Rattle.pdb_merge.specs.declared.fault.AddFault.TheVariants as add
 use Rattle.pdb_merge.specs.declared.fault.MergeFault.{MergeFault}
@@ -75,6 +75,23 @@ Hinders before limit file (add.Refused fault) = HasPdbFault file fault
 Hinders before limit file (add.TooLarge bytes) =
     (records : List (List ℕ)) × IsAccepted file records × Weighs (λ t. IsType before t ⊎ IsType records t) bytes × (limit < bytes)
 Hinders before limit file add.Memory = Unit {0}
+
+-- this is why what was read for this layout is not added to the types of `before`: it has this fault, or the union has `bytes` bytes, more than the limit, or it is out of memory
+abbrev pub HindersLayout : {A : Type 0} → List (List ℕ) → ℕ → LayoutView → AddFault A → Type 0
+HindersLayout before limit layout (add.Refused fault) = RefusesTypes layout fault
+HindersLayout before limit layout (add.TooLarge bytes) =
+    (records : List (List ℕ)) × TypesWereRead layout records × Weighs (λ t. IsType before t ⊎ IsType records t) bytes × (limit < bytes)
+HindersLayout before limit layout add.Memory = Unit {0}
+
+-- there are texts of a container, which is said to have so many bytes, with this fault of its layout
+abbrev pub HindersTexts : {A : Type 0} → ℕ → AddFault A → Type 0
+HindersTexts told (add.Refused fault) = RefusesLayout told fault
+HindersTexts told (add.TooLarge bytes) = ⊥
+HindersTexts told add.Memory = Unit {0}
+
+-- this is why texts are not added to the types of `before`: those of a layout have this fault, or else what was read for that layout
+abbrev pub HindersRead : {A : Type 0} → List (List ℕ) → ℕ → ℕ → AddFault A → Type 0
+HindersRead before limit told fault = HindersTexts told fault ⊎ ((layout : LayoutView) × HasTexts told layout × HindersLayout before limit layout fault)
 
 -- ---- a list of files
 

@@ -3,14 +3,14 @@
 ghost use Rattle.std.specs.Prelude.{◌≡◌, ◌⊎◌, ◌↔◌, ◌++◌, [], ◌∷◌, ℕ, List, None, length, IfOk, IfErr};
 ghost use Rattle.byte_fields.specs.Check.{first_failing};
 ghost use Rattle.byte_io.specs.At.{Breaks, IfKnown, IfOf};
-ghost use Rattle.msf_blocks.specs.Layout.{layout_checks};
+ghost use Rattle.msf_blocks.specs.Layout.{LayoutView, layout_checks};
 ghost use Rattle.type_trees.specs.Check.{AreTypes};
 ghost use Rattle.type_trees.specs.Tree.{Tree, IsType};
 ghost use Rattle.type_trees.specs.Finish.{IsCanonOf};
 ghost use Rattle.pdb_merge.specs.Fault.{of_add, AddNamesFault};
-ghost use Rattle.pdb_merge.specs.Union.{HasType, Within, Takes, TakesRead, Hinders, CanMerge, Stops};
+ghost use Rattle.pdb_merge.specs.Union.{HasType, Within, Takes, TakesRead, Hinders, HindersLayout, HindersRead, CanMerge, Stops};
 ghost use Rattle.pdb_merge.specs.Merging.{HasTaken};
-ghost use Rattle.pdb_merge.specs.Read.{IsListed};
+ghost use Rattle.pdb_merge.specs.Read.{IsListed, RecordsWereRead, ListsLongInfo};
 
 use crate::buffer::Buffer;
 use crate::fault::AddFault;
@@ -63,6 +63,7 @@ impl<S: BuildHasher, A: Allocator + Copy> Merge<S, A> {
         ensures limit { self.new.limit ≡ self.old.limit }
         ensures kept { IfErr result (λ _. self.new ≡ self.old) }
         ensures first { (file : List ℕ) → IsListed file records.entry → IfErr result (Hinders self.old.types self.old.limit file) }
+        ensures refused { (layout : LayoutView) → RecordsWereRead layout records.entry → ListsLongInfo layout → IfErr result (HindersLayout self.old.types self.old.limit layout) }
         ensures named { IfErr result AddNamesFault }
     {
         if self.table.add_records(alloc, &records, self.limit) {
@@ -105,6 +106,7 @@ impl<S: BuildHasher, A: Allocator + Copy> Merge<S, A> {
         ensures limit { self.new.limit ≡ self.old.limit }
         ensures kept { IfErr result (λ _. self.new ≡ self.old) }
         ensures first { IfErr result (IfOf (λ fault. IfKnown (R.bytes input.old) (λ file. Hinders self.old.types self.old.limit file fault))) }
+        ensures refused { IfErr result (IfOf (HindersRead self.old.types self.old.limit (R.told input.old))) }
         ensures named { IfErr result (IfOf AddNamesFault) }
         ensures memory { IfErr result (IfOf (λ fault. fault ≡ AddFault.Memory → IfKnown (R.bytes input.old) (λ file. first_failing (layout_checks file) ≡ None))) }
         ensures read { IfErr result (λ fault. fault ≡ AtFault.Read → Breaks (R.bytes input.old) (R.is_broken input.new)) }
@@ -167,6 +169,8 @@ impl<S: BuildHasher, A: Allocator + Copy> Merge<S, A> {
         ensures limit { self.new.limit ≡ self.old.limit }
         ensures kept { IfErr result (λ _. self.new ≡ self.old) }
         ensures first { IfErr result (IfOf (λ fault. IfKnown (R.bytes input.old) (λ file. Hinders self.old.types self.old.limit file fault))) }
+        // Whatever is known of the file, a fault is that of the texts that were read.
+        ensures refused { IfErr result (IfOf (HindersRead self.old.types self.old.limit (R.told input.old))) }
         ensures named { IfErr result (IfOf AddNamesFault) }
         // Out of memory comes only where the container has no fault.
         ensures memory { IfErr result (IfOf (λ fault. fault ≡ AddFault.Memory → IfKnown (R.bytes input.old) (λ file. first_failing (layout_checks file) ≡ None))) }

@@ -2,9 +2,9 @@
 
 ghost use Rattle.std.specs.Prelude.{◌≡◌, ◌⊎◌, ◌*◌, ◌≤◌, ℕ, List, None, length, OnOk, IfOk, IfErr};
 ghost use Rattle.byte_fields.specs.Check.{first_failing};
-ghost use Rattle.msf_blocks.specs.Layout.{layout_checks};
+ghost use Rattle.msf_blocks.specs.Layout.{LayoutView, layout_checks};
 ghost use Rattle.type_trees.specs.Check.{AreTypes};
-ghost use Rattle.pdb_merge.specs.Read.{IsListed, IsAccepted, HasPdbFault, HasTypeRecords, ListsRecords, HasRecordsFault, HasStreamFault, HasLongInfo, HasInfoFault};
+ghost use Rattle.pdb_merge.specs.Read.{IsListed, IsAccepted, HasPdbFault, HasTypeRecords, ListsRecords, HasRecordsFault, HasStreamFault, HasLongInfo, HasInfoFault, RecordsWereRead, HasTypeFaultRead};
 
 use crate::buffer::Buffer;
 use crate::fault::PdbFault;
@@ -95,6 +95,7 @@ pub(crate) fn check_types<'a, A: Allocator + Copy>(
     ensures value { (file : List ℕ) → IsListed file records.entry → IfOk result (IsAccepted file) }
     ensures types { IfOk result (λ types. (types ≡ records.entry) × AreTypes types) }
     ensures first { (file : List ℕ) → IsListed file records.entry → IfErr result (λ fault. HasPdbFault file fault ⊎ (fault ≡ PdbFault.Memory)) }
+    ensures refused { (layout : LayoutView) → RecordsWereRead layout records.entry → IfErr result (λ fault. HasTypeFaultRead layout fault ⊎ (fault ≡ PdbFault.Memory)) }
 {
     Ok(Types::check(alloc, records)?)
 }
