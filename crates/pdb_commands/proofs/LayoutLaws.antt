@@ -5,7 +5,7 @@ use Rattle.msf_blocks.proofs.FoundLaws.{layout_holds}
 use Rattle.msf_blocks.specs.declared.fault.MsfFault.{MsfFault}
 use Rattle.msf_blocks.specs.declared.fault.MsfFault.TheVariants as msf
 use Rattle.byte_fields.specs.Check.{Refuses, first_failing}
-use Rattle.msf_blocks.specs.Layout.{layout_checks}
+use Rattle.msf_blocks.specs.Layout.{TextsRefuse, layout_checks}
 use Rattle.pdb_merge.specs.Fault.{of_msf}
 use Rattle.pdb_merge.specs.declared.fault.PdbFault.{PdbFault}
 use Rattle.pdb_merge.specs.declared.fault.PdbFault.TheVariants as pdb
@@ -14,7 +14,7 @@ use Rattle.pdb_commands.specs.Fault.{of_pdb}
 use Rattle.pdb_commands.specs.Info.{HasNoInfo}
 use Rattle.pdb_commands.specs.Record.{HasNoRecord}
 use Rattle.pdb_commands.specs.Records.{HasNoTypeRecords}
-use Rattle.pdb_commands.specs.Streams.{HasLayoutFault, HasNoLayout}
+use Rattle.pdb_commands.specs.Streams.{HasLayoutFault, HasNoLayout, HasNoLayoutRead}
 use Rattle.pdb_commands.specs.Types.{HasNoTypes}
 use Rattle.pdb_commands.specs.Shown.{ReadsTooLong, RefusesIt, RefusesWithin}
 use Rattle.pdb_commands.specs.declared.fault.RunFault.{RunFault}
@@ -76,3 +76,10 @@ pub none_within : {A : Type 0} (command : Shown) (limit : ℕ) (file : List ℕ)
     → Refuses msf.Memory (first_failing (layout_checks file)) fault → RefusesWithin command limit file outer ⊎ (outer ≡ Memory)
 none_within {A = A} command limit file fault inner outer bytes is made =
     refused (RefusesWithin command limit file) file fault inner outer is made (λ f first. inr (short_without_layout command limit file f bytes first, of_command A command file f first))
+
+-- ---- of the texts that were read
+
+-- a fault of the texts of a layout is a refusal by them
+pub texts_refused : {A : Type 0} (told : ℕ) (fault : MsfFault) (inner : PdbFault A) (outer : RunFault A) → inner ≡ of_msf fault → outer ≡ of_pdb inner → TextsRefuse told fault → HasNoLayoutRead told outer ⊎ (outer ≡ Memory)
+texts_refused told msf.Memory inner outer is made refused = inr (made ∙ ap of_pdb is)
+texts_refused told fault inner outer is made refused = inl (rw (made, is) refused)

@@ -15,18 +15,18 @@ pub record Failed {W : Type 0} (limit : ℕ) (known : Option (List ℕ)) (told :
   pub within : told ≤ limit
   pub untouched : after ≡ before
 
-at_read : {A W T : Type 0} (Shows : List ℕ → List ℕ → Type 0) (Refuses : List ℕ → RunFault A → Type 0) (ShowsRead : LayoutView → List ℕ → Type 0) (limit : ℕ) (known : Option (List ℕ)) (told : ℕ) (broken : Bool) (taken : W → Option (List ℕ)) (is_broken : W → Bool) (before after : W)
-    → AnswersAt {T = T} Shows Refuses ShowsRead limit known told broken taken is_broken before after (Err (Read reads.Read)) → Failed limit known told broken before after
-at_read {A = A} Shows Refuses ShowsRead limit known told broken taken is_broken before after answers = record {
+at_read : {A W T : Type 0} (Shows : List ℕ → List ℕ → Type 0) (Refuses : List ℕ → RunFault A → Type 0) (ShowsRead : LayoutView → List ℕ → Type 0) (RefusesRead : LayoutView → RunFault A → Type 0) (limit : ℕ) (known : Option (List ℕ)) (told : ℕ) (broken : Bool) (taken : W → Option (List ℕ)) (is_broken : W → Bool) (before after : W)
+    → AnswersAt {T = T} Shows Refuses ShowsRead RefusesRead limit known told broken taken is_broken before after (Err (Read reads.Read)) → Failed limit known told broken before after
+at_read {A = A} Shows Refuses ShowsRead RefusesRead limit known told broken taken is_broken before after answers = record {
   breaks = answers.read;
   within = elim (cases_lt limit told) [ inl lt ↦ (let bad = answers.long lt in absurd cc) | inr le ↦ le ];
   untouched = elim answers.untouched [ inl bad ↦ absurd cc | inr same ↦ same ];
 }
 
-pub failed : {A W T : Type 0} (Shows : List ℕ → List ℕ → Type 0) (Refuses : List ℕ → RunFault A → Type 0) (ShowsRead : LayoutView → List ℕ → Type 0) (limit : ℕ) (known : Option (List ℕ)) (told : ℕ) (broken : Bool) (taken : W → Option (List ℕ)) (is_broken : W → Bool) (before after : W)
-    (result : Result T (RunFault A)) → result ≡ Err (Read reads.Read) → AnswersAt Shows Refuses ShowsRead limit known told broken taken is_broken before after result → Failed limit known told broken before after
-failed {T = T} Shows Refuses ShowsRead limit known told broken taken is_broken before after result is answers =
-    at_read {T = T} Shows Refuses ShowsRead limit known told broken taken is_broken before after (rw is at answers)
+pub failed : {A W T : Type 0} (Shows : List ℕ → List ℕ → Type 0) (Refuses : List ℕ → RunFault A → Type 0) (ShowsRead : LayoutView → List ℕ → Type 0) (RefusesRead : LayoutView → RunFault A → Type 0) (limit : ℕ) (known : Option (List ℕ)) (told : ℕ) (broken : Bool) (taken : W → Option (List ℕ)) (is_broken : W → Bool) (before after : W)
+    (result : Result T (RunFault A)) → result ≡ Err (Read reads.Read) → AnswersAt Shows Refuses ShowsRead RefusesRead limit known told broken taken is_broken before after result → Failed limit known told broken before after
+failed {T = T} Shows Refuses ShowsRead RefusesRead limit known told broken taken is_broken before after result is answers =
+    at_read {T = T} Shows Refuses ShowsRead RefusesRead limit known told broken taken is_broken before after (rw is at answers)
 
 -- any other answer is no read that failed
 pub not_read : {A T : Type 0} (answer : Result T (RunFault A)) → (answer ≡ Err (Read reads.Read) → ⊥) → IfErr answer (λ fault. fault ≡ Read reads.Read → ⊥)

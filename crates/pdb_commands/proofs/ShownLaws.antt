@@ -5,8 +5,8 @@ use Rattle.byte_io.specs.At.{IfKnown, IfOf}
 use Rattle.byte_io.specs.declared.at.AtFault.{AtFault}
 use Rattle.byte_io.specs.declared.at.AtFault.TheVariants as at
 use Rattle.msf_blocks.specs.Layout.{LayoutView}
-use Rattle.pdb_commands.specs.Record.{ShowsRecord, ShowsRecordRead}
-use Rattle.pdb_commands.specs.Shown.{HasLongStream, ReadsTooLong, ShowsIt, ShowsItRead, RefusesIt, ShowsWithin, RefusesWithin, stream_of}
+use Rattle.pdb_commands.specs.Record.{ShowsRecord}
+use Rattle.pdb_commands.specs.Shown.{HasLongStream, ListsLongStream, ReadsTooLong, ListsTooLong, ShowsIt, ShowsItRead, RefusesIt, RefusesItRead, ShowsWithin, ShowsWithinRead, RefusesWithin, RefusesWithinRead, stream_of}
 use Rattle.pdb_commands.specs.declared.fault.RunFault.{RunFault}
 use Rattle.pdb_commands.specs.declared.fault.RunFault.TheVariants.{Memory}
 use Rattle.pdb_commands.specs.declared.shown.Shown.{Shown}
@@ -44,8 +44,29 @@ refuses_within Refuses command limit known (Err (at.Of fault)) each short refuse
   | inr want ↦ inr want
 ]
 
--- the text of a record, where texts of this layout were read
-pub record_read : {T F : Type 0} (bytes_of : T → List ℕ) (command : Shown) (index : ℕ) (layout : LayoutView) (answer : Result T F) → command ≡ Record index
-    → IfOk answer (λ text. ShowsRecordRead index layout (bytes_of text)) → IfOk answer (λ text. ShowsItRead command layout (bytes_of text))
-record_read bytes_of command index layout (Ok text) is shows = rw is shows
-record_read bytes_of command index layout (Err fault) is shows = tt
+-- ---- of the texts that were read
+
+-- the stream that a command reads is the one that was held against the limit
+pub lists_short : {T F : Type 0} (answer : Result T F) (command : Shown) (limit s : ℕ) (layout : LayoutView) → stream_of command ≡ Some s → OnOk answer (ListsLongStream limit s layout → ⊥) → OnOk answer (ListsTooLong command limit layout → ⊥)
+lists_short (Ok done) command limit s layout is short = λ long. let there = long.1 in let same : long.0 ≡ s = cc in short (rw same at long.2)
+lists_short (Err fault) command limit s layout is short = tt
+
+pub lists_long : {T F : Type 0} (answer : Result T F) (command : Shown) (limit s : ℕ) (layout : LayoutView) → stream_of command ≡ Some s → IfErr answer (λ _. ListsLongStream limit s layout) → IfErr answer (λ _. ListsTooLong command limit layout)
+lists_long (Ok done) command limit s layout is long = tt
+lists_long (Err fault) command limit s layout is long = (s, is, long)
+
+-- the text of a command whose stream is within the limit
+pub read_within : {T F : Type 0} (bytes_of : T → List ℕ) (ShowsRead : LayoutView → List ℕ → Type 0) (command : Shown) (limit : ℕ) (layout : LayoutView) (answer : Result T F) → ((text : List ℕ) → ShowsRead layout text → ShowsItRead command layout text)
+    → (ListsTooLong command limit layout → ⊥) → IfOk answer (λ text. ShowsRead layout (bytes_of text)) → IfOk answer (λ text. ShowsWithinRead command limit layout (bytes_of text))
+read_within bytes_of ShowsRead command limit layout (Ok text) each short shows = (short, each (bytes_of text) shows)
+read_within bytes_of ShowsRead command limit layout (Err fault) each short shows = tt
+
+-- and the fault of such a command
+pub refused_within : {T A : Type 0} (RefusesRead : LayoutView → RunFault A → Type 0) (command : Shown) (limit : ℕ) (layout : LayoutView) (answer : Result T (AtFault (RunFault A))) → ((fault : RunFault A) → RefusesRead layout fault → RefusesItRead command layout fault)
+    → (ListsTooLong command limit layout → ⊥) → IfErr answer (IfOf (λ fault. RefusesRead layout fault ⊎ (fault ≡ Memory))) → IfErr answer (IfOf (λ fault. RefusesWithinRead command limit layout fault ⊎ (fault ≡ Memory)))
+refused_within RefusesRead command limit layout (Ok text) each short refused = tt
+refused_within RefusesRead command limit layout (Err at.Read) each short refused = tt
+refused_within RefusesRead command limit layout (Err (at.Of fault)) each short refused = elim refused [
+  | inl own ↦ inl (inr (short, each fault own))
+  | inr want ↦ inr want
+]

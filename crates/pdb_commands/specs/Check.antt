@@ -3,7 +3,7 @@ use Rattle.std.specs.Prelude.{ℕ, ◌≡◌, List, ◌∷◌, ◌++◌, length,
 use Rattle.std.specs.List.{concat}
 use Rattle.type_trees.specs.Depth.{HasLevels}
 use Rattle.msf_blocks.specs.Layout.{LayoutView}
-use Rattle.pdb_merge.specs.Read.{IsAccepted, TypesWereRead, HasPdbFault}
+use Rattle.pdb_merge.specs.Read.{IsAccepted, TypesWereRead, HasPdbFault, RefusesTypes}
 use Rattle.pdb_commands.specs.Text.{named_line}
 use Rattle.pdb_commands.specs.declared.fault.RunFault.{RunFault}
 use Rattle.pdb_commands.specs.declared.fault.RunFault.TheVariants.{Pdb}
@@ -27,3 +27,8 @@ ShowsCheckedRead layout text =
 abbrev pub HasNoAccepted : {A : Type 0} → List ℕ → RunFault A → Type 0
 HasNoAccepted file (Pdb fault) = HasPdbFault file fault
 HasNoAccepted file _ = ⊥
+
+-- `check` refuses what was read for this layout with this fault, which is the first on the way to its types
+abbrev pub HasNoAcceptedRead : {A : Type 0} → LayoutView → RunFault A → Type 0
+HasNoAcceptedRead layout (Pdb fault) = RefusesTypes layout fault
+HasNoAcceptedRead layout _ = ⊥

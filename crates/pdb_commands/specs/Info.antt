@@ -78,3 +78,14 @@ abbrev pub HasNoInfo : {A : Type 0} → List ℕ → RunFault A → Type 0
 HasNoInfo file (Pdb fault) = HasNoInfoStream file fault
 HasNoInfo file (Info fault) = (layout : LayoutView) × (stream : List ℕ) × HasLayout file layout × (stream_contents file layout 1 ≡ Some stream) × (first_failing (info_checks stream) ≡ Some fault)
 HasNoInfo file _ = ⊥
+
+-- this layout has no stream 1, and this is its fault
+abbrev pub HasNoInfoStreamRead : {A : Type 0} → LayoutView → PdbFault A → Type 0
+HasNoInfoStreamRead layout (pdb.Stream fault) = (length layout.streams ≤ 1) × (fault ≡ NoStream 1)
+HasNoInfoStreamRead layout _ = ⊥
+
+-- `info` refuses what was read for this layout with this fault: there is no stream 1, or the bytes that were read for it have the fault
+abbrev pub HasNoInfoRead : {A : Type 0} → LayoutView → RunFault A → Type 0
+HasNoInfoRead layout (Pdb fault) = HasNoInfoStreamRead layout fault
+HasNoInfoRead layout (Info fault) = (stream : List ℕ) × WasRead layout 1 stream × (first_failing (info_checks stream) ≡ Some fault)
+HasNoInfoRead layout _ = ⊥

@@ -6,6 +6,7 @@ use Rattle.byte_io.specs.Input.{GivesAll, IsNotRead, HasGiven}
 use Rattle.byte_io.specs.declared.input.ReadFault.{ReadFault}
 use Rattle.byte_io.specs.declared.input.ReadFault.TheVariants as reads
 use Rattle.msf_blocks.specs.Layout.{LayoutView, HasTexts}
+use Rattle.pdb_commands.specs.Streams.{HasNoLayoutRead}
 use Rattle.pdb_commands.specs.declared.fault.RunFault.{RunFault}
 use Rattle.pdb_commands.specs.declared.fault.RunFault.TheVariants.{Read, Memory, Write}
 
@@ -72,6 +73,10 @@ IsNotReadAt known told broken limit reads.Memory = ⊥
 abbrev pub IsOfTexts : (LayoutView → List ℕ → Type 0) → ℕ → List ℕ → Type 0
 IsOfTexts ShowsRead told text = (layout : LayoutView) × HasTexts told layout × ShowsRead layout text
 
+-- there are texts with this fault: those of a layout have it, or else what the command reads for that layout
+abbrev pub IsFaultOfTexts : {A : Type 0} → (LayoutView → RunFault A → Type 0) → ℕ → RunFault A → Type 0
+IsFaultOfTexts RefusesRead told fault = HasNoLayoutRead told fault ⊎ ((layout : LayoutView) × HasTexts told layout × RefusesRead layout fault)
+
 -- the sink took such a text
 abbrev pub PrintsRead : (LayoutView → List ℕ → Type 0) → ℕ → Option (List ℕ) → Option (List ℕ) → Type 0
 PrintsRead ShowsRead told taken_before taken_after = (text : List ℕ) × IsOfTexts ShowsRead told text × Appends taken_before taken_after text
@@ -81,7 +86,7 @@ abbrev pub PrintsPartRead : (LayoutView → List ℕ → Type 0) → ℕ → Opt
 PrintsPartRead ShowsRead told taken_before taken_after = (text : List ℕ) × (count : ℕ) × IsOfTexts ShowsRead told text × (count < length text) × Appends taken_before taken_after (take count text)
 
 -- how a command answers that reads by position: where the bytes of the file are known, it prints what shows the file, or is refused by its length or by its first fault; memory runs out only where its length is within the limit; a sink that breaks took the first bytes of the text, and after any other refusal it is as it was. Whatever is known, a longer length than the limit is refused first, and what is printed is a text of the texts that were read
-pub record AnswersAt {A W T : Type 0} (Shows : List ℕ → List ℕ → Type 0) (Refuses : List ℕ → RunFault A → Type 0) (ShowsRead : LayoutView → List ℕ → Type 0) (limit : ℕ) (known : Option (List ℕ)) (told : ℕ) (broken : Bool)
+pub record AnswersAt {A W T : Type 0} (Shows : List ℕ → List ℕ → Type 0) (Refuses : List ℕ → RunFault A → Type 0) (ShowsRead : LayoutView → List ℕ → Type 0) (RefusesRead : LayoutView → RunFault A → Type 0) (limit : ℕ) (known : Option (List ℕ)) (told : ℕ) (broken : Bool)
     (taken : W → Option (List ℕ)) (is_broken : W → Bool) (before after : W) (result : Result T (RunFault A)) : Type 0 where
   pub value : OnOk result (IfKnown known (λ file. PrintsAt Shows limit file (taken before) (taken after)))
   pub texts : OnOk result (PrintsRead ShowsRead told (taken before) (taken after))
@@ -89,6 +94,7 @@ pub record AnswersAt {A W T : Type 0} (Shows : List ℕ → List ℕ → Type 0)
   pub within : OnOk result (told ≤ limit)
   pub read : IfErr result (IfRead (IsNotReadAt known told broken limit))
   pub first : IfErr result (IfOfFile (λ fault. IfKnown known (λ file. Refuses file fault)))
+  pub refused : IfErr result (IfOfFile (IsFaultOfTexts RefusesRead told))
   pub memory : IfErr result (λ fault. fault ≡ Memory → IfKnown known (λ file. length file ≤ limit))
   pub write : IfErr result (λ fault. fault ≡ Write → (is_broken after ≡ true) × PrintsPartRead ShowsRead told (taken before) (taken after) × IfKnown known (λ file. PrintsPartAt Shows limit file (taken before) (taken after)))
   pub untouched : IfErr result (λ fault. (fault ≡ Write) ⊎ (after ≡ before))
@@ -96,9 +102,9 @@ pub record AnswersAt {A W T : Type 0} (Shows : List ℕ → List ℕ → Type 0)
 -- ---- a file that is read by position, and whole where a read by position fails
 
 -- the command answers by position, no read failed, and the file was not read whole
-pub record IsByPosition {A W S T : Type 0} (Shows : List ℕ → List ℕ → Type 0) (Refuses : List ℕ → RunFault A → Type 0) (ShowsRead : LayoutView → List ℕ → Type 0) (limit : ℕ) (known : Option (List ℕ)) (told : ℕ) (broken : Bool)
+pub record IsByPosition {A W S T : Type 0} (Shows : List ℕ → List ℕ → Type 0) (Refuses : List ℕ → RunFault A → Type 0) (ShowsRead : LayoutView → List ℕ → Type 0) (RefusesRead : LayoutView → RunFault A → Type 0) (limit : ℕ) (known : Option (List ℕ)) (told : ℕ) (broken : Bool)
     (whole_before whole_after : S) (taken : W → Option (List ℕ)) (is_broken : W → Bool) (before after : W) (result : Result T (RunFault A)) : Type 0 where
-  pub answers : AnswersAt Shows Refuses ShowsRead limit known told broken taken is_broken before after result
+  pub answers : AnswersAt Shows Refuses ShowsRead RefusesRead limit known told broken taken is_broken before after result
   pub reads : IfErr result (λ fault. fault ≡ Read reads.Read → ⊥)
   pub unread : whole_after ≡ whole_before
 

@@ -3,12 +3,12 @@ use Rattle.std.specs.Prelude.{ℕ, ◌≡◌, ◌<◌, ◌-◌, ◌^◌, ◌⊎�
 use Rattle.byte_fields.specs.Check.{first_failing}
 use Rattle.msf_blocks.specs.Directory.{Listed, bytes_of}
 use Rattle.msf_blocks.specs.Layout.{LayoutView, HasLayout, layout_checks}
-use Rattle.pdb_commands.specs.Check.{ShowsChecked, ShowsCheckedRead, HasNoAccepted}
-use Rattle.pdb_commands.specs.Info.{ShowsInfo, ShowsInfoRead, HasNoInfo}
-use Rattle.pdb_commands.specs.Record.{ShowsRecord, ShowsRecordRead, HasNoRecord}
-use Rattle.pdb_commands.specs.Records.{ShowsRecords, ShowsRecordsRead, HasNoTypeRecords}
-use Rattle.pdb_commands.specs.Streams.{ShowsStreams, ShowsStreamsRead, HasNoLayout}
-use Rattle.pdb_commands.specs.Types.{ShowsTypes, ShowsTypesRead, HasNoTypes}
+use Rattle.pdb_commands.specs.Check.{ShowsChecked, ShowsCheckedRead, HasNoAccepted, HasNoAcceptedRead}
+use Rattle.pdb_commands.specs.Info.{ShowsInfo, ShowsInfoRead, HasNoInfo, HasNoInfoRead}
+use Rattle.pdb_commands.specs.Record.{ShowsRecord, ShowsRecordRead, HasNoRecord, HasNoRecordRead}
+use Rattle.pdb_commands.specs.Records.{ShowsRecords, ShowsRecordsRead, HasNoTypeRecords, HasNoTypeRecordsRead}
+use Rattle.pdb_commands.specs.Streams.{ShowsStreams, ShowsStreamsRead, HasNoLayout, RefusesNoLayout}
+use Rattle.pdb_commands.specs.Types.{ShowsTypes, ShowsTypesRead, HasNoTypes, HasNoTypesRead}
 use Rattle.pdb_commands.specs.declared.fault.RunFault.{RunFault}
 use Rattle.pdb_commands.specs.declared.fault.RunFault.TheVariants.{TooLong}
 use Rattle.pdb_commands.specs.declared.shown.Shown.{Shown}
@@ -40,6 +40,15 @@ ShowsItRead shown.Types = ShowsTypesRead
 ShowsItRead shown.Check = ShowsCheckedRead
 ShowsItRead shown.Info = ShowsInfoRead
 ShowsItRead shown.Streams = ShowsStreamsRead
+
+-- the command refuses what was read for this layout with this fault
+abbrev pub RefusesItRead : {A : Type 0} → Shown → LayoutView → RunFault A → Type 0
+RefusesItRead shown.Records = HasNoTypeRecordsRead
+RefusesItRead (shown.Record index) = HasNoRecordRead index
+RefusesItRead shown.Types = HasNoTypesRead
+RefusesItRead shown.Check = HasNoAcceptedRead
+RefusesItRead shown.Info = HasNoInfoRead
+RefusesItRead shown.Streams = RefusesNoLayout
 
 -- the stream that the command reads whole, if it reads one
 abbrev pub stream_of : Shown → Option ℕ
@@ -73,3 +82,25 @@ ShowsWithin command limit file text = (ReadsTooLong command limit file → ⊥) 
 abbrev pub RefusesWithin : {A : Type 0} → Shown → ℕ → List ℕ → RunFault A → Type 0
 RefusesWithin command limit file fault =
     ((fault ≡ TooLong) × ReadsTooLong command limit file) ⊎ ((ReadsTooLong command limit file → ⊥) × RefusesIt command file fault)
+
+-- ---- the same of the texts that were read
+
+-- the layout lists a stream at this position that has more bytes than the limit; the greatest limit is none
+pub record ListsLongStream (limit s : ℕ) (layout : LayoutView) : Type 0 where
+  pub limited : limit < 2 ^ 32 - 1
+  pub stream : Listed
+  pub is_stream : slice_get layout.streams s ≡ Some stream
+  pub long : limit < bytes_of stream.size
+
+-- the layout lists more bytes than the limit for the stream that the command reads
+abbrev pub ListsTooLong : Shown → ℕ → LayoutView → Type 0
+ListsTooLong command limit layout = (s : ℕ) × (stream_of command ≡ Some s) × ListsLongStream limit s layout
+
+-- the command prints this text where texts of this layout were read, and the stream that it reads is within the limit
+abbrev pub ShowsWithinRead : Shown → ℕ → LayoutView → List ℕ → Type 0
+ShowsWithinRead command limit layout text = (ListsTooLong command limit layout → ⊥) × ShowsItRead command layout text
+
+-- the command refuses what was read for this layout with this fault: the stream that it reads is longer than the limit, else the command's own
+abbrev pub RefusesWithinRead : {A : Type 0} → Shown → ℕ → LayoutView → RunFault A → Type 0
+RefusesWithinRead command limit layout fault =
+    ((fault ≡ TooLong) × ListsTooLong command limit layout) ⊎ ((ListsTooLong command limit layout → ⊥) × RefusesItRead command layout fault)

@@ -4,7 +4,7 @@ ghost use Rattle.std.specs.Prelude.{◌≡◌, ◌⊎◌, ℕ, List, OnOk, IfErr
 ghost use Rattle.byte_fields.specs.Bytes.{AreBytes};
 ghost use Rattle.byte_io.specs.At.{Breaks, IfKnown, IfOf};
 ghost use Rattle.msf_blocks.specs.Layout.{HasLayout};
-ghost use Rattle.pdb_commands.specs.Shown.{HasLongStream, MayRunOut};
+ghost use Rattle.pdb_commands.specs.Shown.{HasLongStream, ListsLongStream, MayRunOut};
 
 use crate::fault::RunFault;
 use byte_io::{AtFault, ReadAt};
@@ -26,6 +26,8 @@ pub(crate) fn check_size<L: Allocator, A: Allocator>(
 ) -> Result<(), RunFault<A>>
     ensures value { (file : List ℕ) → AreBytes file → HasLayout file layout.now → OnOk result (HasLongStream limit stream file → ⊥) }
     ensures first { (file : List ℕ) → HasLayout file layout.now → IfErr result (λ fault. HasLongStream limit stream file) }
+    ensures short { OnOk result (ListsLongStream limit stream layout.now → ⊥) }
+    ensures long { IfErr result (λ _. ListsLongStream limit stream layout.now) }
     ensures own { IfErr result (λ fault. fault ≡ RunFault.TooLong) }
 {
     match layout.size(stream) {

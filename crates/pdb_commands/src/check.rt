@@ -2,7 +2,7 @@
 
 ghost use Rattle.std.specs.Prelude.{◌≡◌, ◌⊎◌, ◌++◌, true, ℕ, List, OnOk, IfOk, IfErr, string_bytes};
 ghost use Rattle.msf_blocks.specs.Layout.{LayoutView};
-ghost use Rattle.pdb_commands.specs.Check.{ShowsChecked, ShowsCheckedRead, HasNoAccepted, checked_lines};
+ghost use Rattle.pdb_commands.specs.Check.{ShowsChecked, ShowsCheckedRead, HasNoAccepted, HasNoAcceptedRead, checked_lines};
 ghost use Rattle.pdb_commands.specs.Show.{Answers, AnswersAt};
 ghost use Rattle.pdb_merge.specs.Read.{IsAccepted, TypesWereRead};
 
@@ -67,6 +67,8 @@ impl<A: Allocator + Copy> Show<A> for Check {
 impl<A: Allocator + Copy> ShowAt<A> for Check {
     ghost shows_read = { λ _. ShowsCheckedRead };
 
+    ghost refuses_read = { λ _. HasNoAcceptedRead };
+
     fn refuse_layout(&self, fault: MsfFault) -> RunFault<A> {
         RunFault::from(PdbFault::from(fault))
     }
@@ -119,7 +121,7 @@ pub fn run_check_at<R: ReadAt, W: Sink, A: Allocator + Copy>(
     limit: u32,
     out: &mut W,
 ) -> Result<(), RunFault<A>>
-    ensures { AnswersAt ShowsChecked HasNoAccepted ShowsCheckedRead limit (R.bytes input.old) (R.told input.old) (R.is_broken input.new) W.taken W.is_broken out.old out.new result }
+    ensures { AnswersAt ShowsChecked HasNoAccepted ShowsCheckedRead HasNoAcceptedRead limit (R.bytes input.old) (R.told input.old) (R.is_broken input.new) W.taken W.is_broken out.old out.new result }
 {
     run_at(alloc, &Check, input, limit, out)
 }

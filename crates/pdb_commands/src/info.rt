@@ -7,7 +7,7 @@ ghost use Rattle.msf_blocks.specs.Layout.{LayoutView, HasLayout};
 ghost use Rattle.msf_streams.specs.Streams.{WasRead, stream_contents};
 ghost use Rattle.pdb_info.specs.Name.{named};
 ghost use Rattle.pdb_commands.specs.Show.{Answers, AnswersAt};
-ghost use Rattle.pdb_commands.specs.Info.{ShowsInfo, ShowsInfoRead, HasNoInfo, HasNoInfoStream, IsInfoFault, IsInfoText, signature_line, guid_line, header_lines, name_line, feature_line};
+ghost use Rattle.pdb_commands.specs.Info.{ShowsInfo, ShowsInfoRead, HasNoInfo, HasNoInfoRead, HasNoInfoStream, HasNoInfoStreamRead, IsInfoFault, IsInfoText, signature_line, guid_line, header_lines, name_line, feature_line};
 
 use crate::bound::INFO_STREAM;
 use crate::fault::RunFault;
@@ -122,6 +122,7 @@ fn info_stream_of<R: ReadAt, L: Allocator, A: Allocator>(
     ensures value { OnOk result (IfKnown (R.bytes input.old) (λ file. (layout : LayoutView) × HasLayout file layout × (stream_contents file layout 1 ≡ Some buffer.new.items))) }
     ensures texts { OnOk result (WasRead layout.now 1 buffer.new.items) }
     ensures first { IfErr result (IfOf (λ fault. IfKnown (R.bytes input.old) (λ file. HasNoInfoStream file fault ⊎ (fault ≡ PdbFault.Memory)))) }
+    ensures refused { IfErr result (IfOf (λ fault. HasNoInfoStreamRead layout.now fault ⊎ (fault ≡ PdbFault.Memory))) }
     ensures read { IfErr result (λ fault. fault ≡ AtFault.Read → Breaks (R.bytes input.old) (R.is_broken input.new)) }
 {
     match gather_at(input, layout, INFO_STREAM, buffer) {
@@ -166,6 +167,8 @@ impl<A: Allocator + Copy> Show<A> for Info {
 
 impl<A: Allocator + Copy> ShowAt<A> for Info {
     ghost shows_read = { λ _. ShowsInfoRead };
+
+    ghost refuses_read = { λ _. HasNoInfoRead };
 
     fn refuse_layout(&self, fault: MsfFault) -> RunFault<A> {
         RunFault::from(PdbFault::from(fault))
@@ -219,7 +222,7 @@ pub fn run_info_at<R: ReadAt, W: Sink, A: Allocator + Copy>(
     limit: u32,
     out: &mut W,
 ) -> Result<(), RunFault<A>>
-    ensures { AnswersAt ShowsInfo HasNoInfo ShowsInfoRead limit (R.bytes input.old) (R.told input.old) (R.is_broken input.new) W.taken W.is_broken out.old out.new result }
+    ensures { AnswersAt ShowsInfo HasNoInfo ShowsInfoRead HasNoInfoRead limit (R.bytes input.old) (R.told input.old) (R.is_broken input.new) W.taken W.is_broken out.old out.new result }
 {
     run_at(alloc, &Info, input, limit, out)
 }

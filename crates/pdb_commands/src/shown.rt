@@ -4,7 +4,7 @@ ghost use Rattle.std.specs.Prelude.{◌≡◌, ◌⊎◌, ℕ, List, true, false
 ghost use Rattle.byte_fields.specs.Bytes.{AreBytes};
 ghost use Rattle.msf_blocks.specs.Layout.{HasLayout};
 ghost use Rattle.pdb_commands.specs.Show.{Answers, AnswersAt, IsByPosition, IsByWhole};
-ghost use Rattle.pdb_commands.specs.Shown.{ShowsItRead, ShowsWithin, RefusesWithin, stream_of, ReadsTooLong};
+ghost use Rattle.pdb_commands.specs.Shown.{ShowsWithin, ShowsWithinRead, RefusesWithin, RefusesWithinRead, stream_of, ReadsTooLong, ListsTooLong};
 
 use crate::bound::{INFO_STREAM, TPI_STREAM, check_size, check_stream};
 use crate::check::Check;
@@ -78,6 +78,8 @@ impl Within {
     ) -> Result<(), RunFault<A>>
         ensures value { (file : List ℕ) → AreBytes file → HasLayout file layout.now → OnOk result (ReadsTooLong self.now.command self.now.limit file → ⊥) }
         ensures first { (file : List ℕ) → HasLayout file layout.now → IfErr result (λ fault. ReadsTooLong self.now.command self.now.limit file) }
+        ensures short { OnOk result (ListsTooLong self.now.command self.now.limit layout.now → ⊥) }
+        ensures long { IfErr result (λ _. ListsTooLong self.now.command self.now.limit layout.now) }
         ensures own { IfErr result (λ fault. fault ≡ RunFault.TooLong) }
     {
         match self.command.stream() {
@@ -106,7 +108,9 @@ impl<A: Allocator + Copy> Show<A> for Within {
 }
 
 impl<A: Allocator + Copy> ShowAt<A> for Within {
-    ghost shows_read = { λ s. ShowsItRead s.command };
+    ghost shows_read = { λ s. ShowsWithinRead s.command s.limit };
+
+    ghost refuses_read = { λ s. RefusesWithinRead s.command s.limit };
 
     fn refuse_layout(&self, fault: MsfFault) -> RunFault<A> {
         RunFault::from(PdbFault::from(fault))
@@ -159,7 +163,7 @@ pub fn run_shown_at<R: ReadAt, W: Sink, A: Allocator + Copy>(
     limit: u32,
     out: &mut W,
 ) -> Result<(), RunFault<A>>
-    ensures { AnswersAt (ShowsWithin command limit) (RefusesWithin command limit) (ShowsItRead command) limit (R.bytes input.old) (R.told input.old) (R.is_broken input.new) W.taken W.is_broken out.old out.new result }
+    ensures { AnswersAt (ShowsWithin command limit) (RefusesWithin command limit) (ShowsWithinRead command limit) (RefusesWithinRead command limit) limit (R.bytes input.old) (R.told input.old) (R.is_broken input.new) W.taken W.is_broken out.old out.new result }
 {
     run_at(alloc, &Within { command, limit }, input, limit, out)
 }
@@ -185,7 +189,7 @@ pub fn run_shown_file<R: ReadAt, S: Source, W: Sink, A: Allocator + Copy>(
     limit: u32,
     out: &mut W,
 ) -> Result<(), RunFault<A>>
-    ensures { IsByPosition (ShowsWithin command limit) (RefusesWithin command limit) (ShowsItRead command) limit (R.bytes input.old) (R.told input.old) (R.is_broken input.new) whole.old whole.new W.taken W.is_broken out.old out.new result
+    ensures { IsByPosition (ShowsWithin command limit) (RefusesWithin command limit) (ShowsWithinRead command limit) (RefusesWithinRead command limit) limit (R.bytes input.old) (R.told input.old) (R.is_broken input.new) whole.old whole.new W.taken W.is_broken out.old out.new result
         ⊎ IsByWhole (ShowsWithin command limit) (RefusesWithin command limit) limit (R.bytes input.old) (R.told input.old) (R.is_broken input.new) S.left S.is_broken whole.old whole.new W.taken W.is_broken out.old out.new result }
 {
     let answer = run_shown_at(alloc, command, input, limit, out);

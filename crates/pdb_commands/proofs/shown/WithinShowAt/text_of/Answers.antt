@@ -1,12 +1,13 @@
 use Rattle.std.proofs.Common.{inl}
 use Rattle.std.proofs.lemmas.Result.{err_from_is_err_and}
 use Rattle.std.specs.Prelude.{string_bytes}
-use Rattle.pdb_commands.specs.Check.{ShowsChecked, HasNoAccepted}
-use Rattle.pdb_commands.specs.Info.{ShowsInfo, HasNoInfo}
-use Rattle.pdb_commands.specs.Record.{ShowsRecord, HasNoRecord}
-use Rattle.pdb_commands.specs.Records.{ShowsRecords, HasNoTypeRecords}
-use Rattle.pdb_commands.specs.Types.{ShowsTypes, HasNoTypes}
-use Rattle.pdb_commands.proofs.ShownLaws.{shows_within, refuses_within, record_read}
+use Rattle.pdb_commands.specs.Check.{ShowsChecked, ShowsCheckedRead, HasNoAccepted, HasNoAcceptedRead}
+use Rattle.pdb_commands.specs.Info.{ShowsInfo, ShowsInfoRead, HasNoInfo, HasNoInfoRead}
+use Rattle.pdb_commands.specs.Record.{ShowsRecord, ShowsRecordRead, HasNoRecord, HasNoRecordRead}
+use Rattle.pdb_commands.specs.Records.{ShowsRecords, ShowsRecordsRead, HasNoTypeRecords, HasNoTypeRecordsRead}
+use Rattle.pdb_commands.specs.Streams.{ShowsStreamsRead, RefusesNoLayout}
+use Rattle.pdb_commands.specs.Types.{ShowsTypes, ShowsTypesRead, HasNoTypes, HasNoTypesRead}
+use Rattle.pdb_commands.proofs.ShownLaws.{shows_within, refuses_within, read_within, refused_within}
 use Rattle.pdb_commands.proofs.shown.WithinShowAt.text_of.Goals as goal
 
 pub returns-in_err-check_layout-clause-first : goal.returns-in_err-check_layout-clause-first
@@ -14,6 +15,12 @@ returns-in_err-check_layout-clause-first g c =
     let p = err_from_is_err_and c.from_residual.result c.from_residual.ensures.1 in
     let long = c.in_err-check_layout.ensures in
     rw (p.1, p.2) (λ file known. inl (inl (long.own, long.first file (c.requires.layout file known))))
+
+pub returns-in_err-check_layout-clause-refused : goal.returns-in_err-check_layout-clause-refused
+returns-in_err-check_layout-clause-refused g c =
+    let p = err_from_is_err_and c.from_residual.result c.from_residual.ensures.1 in
+    let long = c.in_err-check_layout.ensures in
+    rw (p.1, p.2) (inl (inl (long.own, long.long)))
 
 pub returns-in-Records-clause-value : goal.returns-in-Records-clause-value
 returns-in-Records-clause-value g c =
@@ -65,6 +72,50 @@ returns-in-Info-clause-first g c =
     refuses_within HasNoInfo c.args.self.now.command c.args.self.now.limit (g.R.ReadAt.bytes c.args.input.now) c.text_of-in-Info.result (λ file fault refused. rw c.in-Info.is refused)
     (λ file known. c.in_ok-check_layout.ensures.value file (c.requires.bytes file known) (c.requires.layout file known)) c.text_of-in-Info.ensures.first
 
+pub returns-in-Records-clause-texts : goal.returns-in-Records-clause-texts
+returns-in-Records-clause-texts g c =
+    read_within string_bytes ShowsRecordsRead c.args.self.now.command c.args.self.now.limit c.args.layout.now c.text_of.result (λ text shows. rw c.in-Records.is shows) c.in_ok-check_layout.ensures.short c.text_of.ensures.texts
+
+pub returns-in-Records-clause-refused : goal.returns-in-Records-clause-refused
+returns-in-Records-clause-refused g c =
+    refused_within HasNoTypeRecordsRead c.args.self.now.command c.args.self.now.limit c.args.layout.now c.text_of.result (λ fault refused. rw c.in-Records.is refused) c.in_ok-check_layout.ensures.short c.text_of.ensures.refused
+
 pub returns-in-Record-clause-texts : goal.returns-in-Record-clause-texts
 returns-in-Record-clause-texts g c =
-    record_read string_bytes c.args.self.now.command c.in-Record.index c.args.layout.now c.text_of-in-Record.result c.in-Record.is c.text_of-in-Record.ensures.texts
+    read_within string_bytes (ShowsRecordRead c.in-Record.index) c.args.self.now.command c.args.self.now.limit c.args.layout.now c.text_of-in-Record.result (λ text shows. rw c.in-Record.is shows) c.in_ok-check_layout.ensures.short c.text_of-in-Record.ensures.texts
+
+pub returns-in-Record-clause-refused : goal.returns-in-Record-clause-refused
+returns-in-Record-clause-refused g c =
+    refused_within (HasNoRecordRead c.in-Record.index) c.args.self.now.command c.args.self.now.limit c.args.layout.now c.text_of-in-Record.result (λ fault refused. rw c.in-Record.is refused) c.in_ok-check_layout.ensures.short c.text_of-in-Record.ensures.refused
+
+pub returns-in-Types-clause-texts : goal.returns-in-Types-clause-texts
+returns-in-Types-clause-texts g c =
+    read_within string_bytes ShowsTypesRead c.args.self.now.command c.args.self.now.limit c.args.layout.now c.text_of-in-Types.result (λ text shows. rw c.in-Types.is shows) c.in_ok-check_layout.ensures.short c.text_of-in-Types.ensures.texts
+
+pub returns-in-Types-clause-refused : goal.returns-in-Types-clause-refused
+returns-in-Types-clause-refused g c =
+    refused_within HasNoTypesRead c.args.self.now.command c.args.self.now.limit c.args.layout.now c.text_of-in-Types.result (λ fault refused. rw c.in-Types.is refused) c.in_ok-check_layout.ensures.short c.text_of-in-Types.ensures.refused
+
+pub returns-in-Check-clause-texts : goal.returns-in-Check-clause-texts
+returns-in-Check-clause-texts g c =
+    read_within string_bytes ShowsCheckedRead c.args.self.now.command c.args.self.now.limit c.args.layout.now c.text_of-in-Check.result (λ text shows. rw c.in-Check.is shows) c.in_ok-check_layout.ensures.short c.text_of-in-Check.ensures.texts
+
+pub returns-in-Check-clause-refused : goal.returns-in-Check-clause-refused
+returns-in-Check-clause-refused g c =
+    refused_within HasNoAcceptedRead c.args.self.now.command c.args.self.now.limit c.args.layout.now c.text_of-in-Check.result (λ fault refused. rw c.in-Check.is refused) c.in_ok-check_layout.ensures.short c.text_of-in-Check.ensures.refused
+
+pub returns-in-Info-clause-texts : goal.returns-in-Info-clause-texts
+returns-in-Info-clause-texts g c =
+    read_within string_bytes ShowsInfoRead c.args.self.now.command c.args.self.now.limit c.args.layout.now c.text_of-in-Info.result (λ text shows. rw c.in-Info.is shows) c.in_ok-check_layout.ensures.short c.text_of-in-Info.ensures.texts
+
+pub returns-in-Info-clause-refused : goal.returns-in-Info-clause-refused
+returns-in-Info-clause-refused g c =
+    refused_within HasNoInfoRead c.args.self.now.command c.args.self.now.limit c.args.layout.now c.text_of-in-Info.result (λ fault refused. rw c.in-Info.is refused) c.in_ok-check_layout.ensures.short c.text_of-in-Info.ensures.refused
+
+pub returns-in-Streams-clause-texts : goal.returns-in-Streams-clause-texts
+returns-in-Streams-clause-texts g c =
+    read_within string_bytes ShowsStreamsRead c.args.self.now.command c.args.self.now.limit c.args.layout.now c.text_of-in-Streams.result (λ text shows. rw c.in-Streams.is shows) c.in_ok-check_layout.ensures.short c.text_of-in-Streams.ensures.texts
+
+pub returns-in-Streams-clause-refused : goal.returns-in-Streams-clause-refused
+returns-in-Streams-clause-refused g c =
+    refused_within RefusesNoLayout c.args.self.now.command c.args.self.now.limit c.args.layout.now c.text_of-in-Streams.result (λ fault refused. rw c.in-Streams.is refused) c.in_ok-check_layout.ensures.short c.text_of-in-Streams.ensures.refused
