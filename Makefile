@@ -37,6 +37,7 @@ test:
 	cp crates/pdbmerge/out/pdbmerge $(PROGRAM)
 	docs/figures --check
 	tools/stale
+	tools/unreached
 	tests/program $(PROGRAM)
 	tests/examples $(PROGRAM)
 	tests/answers $(PROGRAM)

@@ -12,12 +12,18 @@ use Rattle.std.proofs.lemmas.List.{append-nil, length-append, length-take, lengt
 use Rattle.msf_blocks.specs.BlockNumber.{IsBlockSize, blocks_for}
 use Rattle.msf_blocks.proofs.SizeLaws.{size_facts, some_bytes, big_enough, next_row, ceil_is}
 use Rattle.msf_streams.specs.Image.{joined, filled, superblock_part, block_map_part, directory_part, parts, image, image_blocks, data_count}
-use Rattle.msf_streams.specs.Put.{maps_before, woven, room, AppendsPart, Halfway, IsFront}
+use Rattle.msf_streams.specs.Put.{maps_before, woven, room, AppendsPart, IsFront}
 use Rattle.msf_blocks.proofs.RangeLaws.{next_block, first_block}
 use Rattle.msf_streams.proofs.ImageLaws.{length_parts}
 use Rattle.msf_streams.proofs.BackLaws.{all_blocks, bounds}
 use Rattle.msf_streams.proofs.WovenLaws.{woven_parts, some_room, woven_run, some_stretch, image_woven}
 use lib.ListN.{replicate}
+
+-- a sink took the first of all these bytes; the others are the rest of the data, from byte p on, with its map blocks
+pub record Halfway (old now : Option (List ℕ)) (block_size num_blocks : ℕ) (all : List ℕ) (p : ℕ) (left : List ℕ) : Type 0 where
+  pub taken : List ℕ
+  pub split : all ≡ taken ++ woven block_size num_blocks p left
+  pub appends : Appends old now taken
 
 -- ---- what a sink took
 

@@ -34,12 +34,6 @@ room block_size p = if nat_lt p block_size then block_size - p else stretch bloc
 abbrev pub AppendsPart : Option (List ℕ) → Option (List ℕ) → List ℕ → Type 0
 AppendsPart old new bytes = (count : ℕ) × (count < length bytes) × Appends old new (take count bytes)
 
--- a sink took the first of all these bytes; the others are the rest of the data, from byte p on, with its map blocks
-pub record Halfway (old now : Option (List ℕ)) (block_size num_blocks : ℕ) (all : List ℕ) (p : ℕ) (left : List ℕ) : Type 0 where
-  pub taken : List ℕ
-  pub split : all ≡ taken ++ woven block_size num_blocks p left
-  pub appends : Appends old now taken
-
 -- streams of these sizes fit in a file of `num_blocks` blocks, and these are the parts of its image before the streams
 pub record IsFront (block_size num_blocks : ℕ) (sizes superblock block_map directory : List ℕ) : Type 0 where
   pub fits : Fits block_size sizes

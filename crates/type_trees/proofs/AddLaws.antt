@@ -17,19 +17,27 @@ use Rattle.type_trees.specs.Tree.{Tree, Branches, tree, no_branch, simple, branc
 use Rattle.type_trees.specs.Graph.{graph_of}
 use Rattle.type_trees.specs.Canon.{weight}
 use Rattle.byte_fields.specs.Bytes.{AreBytes}
-use Rattle.type_trees.specs.Table.{IsTable, IsUnion, AreNumbered, EachNamed, renumber, renumbered}
+use Rattle.type_trees.specs.Table.{IsTable, IsUnion, AreNumbered, renumber, renumbered}
 use Rattle.type_trees.specs.Check.{AreTypes}
-use Rattle.type_trees.specs.Merge.{StartsWith, Adds}
+use Rattle.type_trees.specs.Merge.{StartsWith}
 use Rattle.type_trees.specs.declared.fault.JoinFault.TheVariants as JoinFault
 use Rattle.text_set.proofs.TextSetLaws.{four_each}
 use Rattle.cv_leaves.proofs.FilledLaws.{filled_checked, filled_framed, filled_len, filled_read}
 use Rattle.type_trees.proofs.TreeLaws.{one, at_position, tree_there}
 use Rattle.type_trees.proofs.GraphLaws.{many_nodes, concat_push}
 use Rattle.type_trees.proofs.OrderLaws.{NamesDone, next_in_order, order_weighs}
-use Rattle.type_trees.proofs.TableLaws.{stands_still, renumbered_stands, renumber-each, renumber-none, renumber-simple, renumber-named}
+use Rattle.type_trees.proofs.TableLaws.{stands_still, renumbered_stands, renumber-each, renumber-none, renumber-simple, renumber-named, EachNamed}
 use Rattle.type_trees.proofs.PushLaws.{table_grows}
 use Rattle.type_trees.proofs.NextLaws.{in_range, trees_of_table, table_weight, apart_of_table}
 use Rattle.tpi_records.specs.Header.{first_index}
+
+-- `after` is a table that begins with `before` and also has the types of the records that are done, and f gives the position of each of these in it
+pub record Adds (records before after : List (List ℕ)) (f : ℕ → ℕ) (done : ℕ → Type 0) : Type 0 where
+  pub table : IsTable after
+  pub inside : (k : ℕ) → done k → f k < length after
+  pub stand : (k : ℕ) (t : Tree) → done k → Stands records k t → Stands after (f k) t
+  pub front : StartsWith after before
+  pub others : (t : Tree) → IsType after t → IsType before t ⊎ IsType records t
 
 -- ---- A renumbered record
 

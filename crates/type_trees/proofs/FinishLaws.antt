@@ -21,13 +21,13 @@ use Rattle.type_trees.specs.Tree.{Tree, IsType, NamesLower}
 use Rattle.type_trees.specs.Depth.{AreDepths, HasLevels}
 use Rattle.type_trees.specs.Canon.{text, texts}
 use Rattle.type_trees.specs.Table.{IsTable, AreNumbered, renumbered}
-use Rattle.type_trees.specs.Rows.{row, AreRows, LevelOf}
+use Rattle.type_trees.specs.Rows.{row}
 use Rattle.type_trees.specs.Finish.{Listed, AtLevel, Numbered, IsCanonOf}
 use Rattle.type_trees.proofs.GraphLaws.{concat_push}
 use Rattle.type_trees.proofs.AddLaws.{renumbered_long}
 use Rattle.type_trees.proofs.NextLaws.{in_range}
 use Rattle.type_trees.proofs.PushLaws.{nothing_listed}
-use Rattle.type_trees.proofs.RowLaws.{rows_continue, numbers_continue}
+use Rattle.type_trees.proofs.RowLaws.{rows_continue, numbers_continue, AreRows, LevelOf}
 use Rattle.type_trees.proofs.WeightLaws.{weight_of_texts}
 use Rattle.type_trees.proofs.ReadLaws.{weight-many}
 use Rattle.tpi_records.specs.Header.{first_index}

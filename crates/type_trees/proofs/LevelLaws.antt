@@ -10,13 +10,25 @@ use Rattle.std.proofs.lemmas.Cmp.{tied_itself, nat_cmp_total}
 use Rattle.std.proofs.lemmas.Map.Keys.{sorted_from_all_adjacent, Less-from_sorted}
 use Rattle.std.proofs.Math.ListN.{get_or-append}
 use Rattle.std.proofs.Math.Seq.{get_or-append_right}
-use Rattle.type_trees.specs.Tree.{Tree, nothing, branches_of, trees_in}
+use Rattle.type_trees.specs.Tree.{Tree, nothing, branches_of, trees_in, IsClosed}
 use Rattle.type_trees.specs.Depth.{depth}
-use Rattle.type_trees.specs.Canon.{position_in, text, canonical_order, Canonical}
+use Rattle.type_trees.specs.Canon.{position_in, text, canonical_order, Canonical, weight}
 use Rattle.type_trees.specs.Canon.{HoldsBranches}
-use Rattle.type_trees.specs.Level.{IsLevel, LevelAdds}
 use Rattle.type_trees.proofs.SameLaws.{position_in-lt-length}
 use Rattle.type_trees.proofs.CanonLaws.{SameBelow, position_in-below, text-below, canon_total, canonical_order-same}
+
+-- m is a level: its trees are closed and of depth d, l holds their branches, and they are in the order of their texts
+pub record IsLevel (l : List Tree) (d : ℕ) (m : List Tree) : Type 0 where
+  pub closed : (i : ℕ) → i < length m → IsClosed (get_or m i nothing)
+  pub deep : (i : ℕ) → i < length m → depth (get_or m i nothing) ≡ d
+  pub held : (i : ℕ) → i < length m → HoldsBranches l (get_or m i nothing)
+  pub ordered : (i : ℕ) → i + 1 < length m → slice_cmp nat_cmp (text l (get_or m i nothing)) (text l (get_or m (i + 1) nothing)) ≡ Less
+
+-- a canonical list stays canonical when a deeper level is added after it
+abbrev pub LevelAdds : Type 0
+LevelAdds =
+    (l m : List Tree) (d : ℕ) → Canonical l → ((i : ℕ) → i < length l → depth (get_or l i nothing) < d) → IsLevel l d m
+    → weight (l ++ m) ≤ 4294967295 → Canonical (l ++ m)
 
 -- a deeper tree comes later in canonical order
 pub canonical_order-deeper : (l : List Tree) (x y : Tree) → depth x < depth y → canonical_order l x y ≡ Less

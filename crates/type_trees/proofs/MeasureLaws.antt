@@ -10,12 +10,19 @@ use Rattle.cv_leaves.specs.References.{references}
 use Rattle.type_trees.specs.Tree.{Tree, tree, Stands}
 use Rattle.type_trees.specs.Graph.{graph_of}
 use Rattle.type_trees.specs.Check.{AreTypes, NamesThere}
-use Rattle.type_trees.specs.Depth.{depth, depth_above, AreDepths, AreMeasured, AreBelow, HasLevels}
+use Rattle.type_trees.specs.Depth.{depth, depth_above, AreDepths, AreBelow, HasLevels}
 use Rattle.type_trees.proofs.TreeLaws.{tree_there}
 use Rattle.type_trees.proofs.GraphLaws.{many_nodes}
 use Rattle.type_trees.proofs.OrderLaws.{NamesDone, order_short, next_in_order}
 use Rattle.type_trees.proofs.DepthLaws.{Gives, depth_of_record}
 use Rattle.tpi_records.specs.Header.{first_index}
+use Rattle.std.specs.Prelude.{◌⊎◌}
+
+-- the trees at these positions have these depths, and this many levels
+pub record AreMeasured (records : List (List ℕ)) (done depths : List ℕ) (levels : ℕ) : Type 0 where
+  pub measured : (i : ℕ) (t : Tree) → Contains done i → Stands records i t → get_or depths i 0 ≡ depth t
+  pub all : (i : ℕ) (t : Tree) → Contains done i → Stands records i t → depth t < levels
+  pub one : (levels ≡ 0) ⊎ ((i : ℕ) × (t : Tree) × Stands records i t × (depth t + 1 ≡ levels))
 
 -- the depths give the depth of each record that is done
 gives_among : (records : List (List ℕ)) (done depths : List ℕ) (levels : ℕ) (ns : List ℕ) → AreMeasured records done depths levels → NamesDone (Contains done) ns → Gives records (λ k. get_or depths k 0) ns

@@ -8,14 +8,46 @@ use Rattle.std.proofs.Math.ListN.{get_or-append}
 use Rattle.std.proofs.Math.Seq.{get_or-append_seam}
 use Rattle.type_trees.specs.Tree.{Tree, Branches, tree, no_branch, simple, branch, nothing, blank_of, branches_of, trees_in, Stands, IsType}
 use Rattle.type_trees.specs.Depth.{depth, depth_over}
-use Rattle.type_trees.specs.Canon.{weight}
-use Rattle.type_trees.specs.Level.{IsLevel}
-use Rattle.type_trees.specs.Table.{IsTable, TreesOfTable, TableWeighs, TableWeighsAll, HoldsBelow, NextLevel}
+use Rattle.type_trees.specs.Canon.{weight, text, Canonical}
+use Rattle.type_trees.specs.Table.{IsTable, HoldsBelow}
 use Rattle.type_trees.proofs.TreeLaws.{one, tree_there, standing_is_closed}
 use Rattle.type_trees.proofs.WeightLaws.{weight_grows, weight-cons, weight-none}
 use Rattle.type_trees.proofs.TableLaws.{table_is_set, branches_stand}
 use Rattle.cv_leaves.proofs.FilledLaws.{blanked_len}
-use Rattle.type_trees.proofs.LevelLaws.{level_adds, level_ordered, distinct-ordered}
+use Rattle.type_trees.proofs.LevelLaws.{level_adds, level_ordered, distinct-ordered, IsLevel}
+use Rattle.std.specs.Prelude.{◌↔◌}
+use Rattle.std.specs.declared.cmp.Ordering.TheVariants.{Less}
+use Rattle.std.specs.Ordering.{nat_cmp}
+use Rattle.std.specs.Cmp.Lexicographic.{slice_cmp}
+
+-- there is a tree at each position of a table
+abbrev pub TreesOfTable : Type 0
+TreesOfTable =
+    (r : List (List ℕ)) → IsTable r
+    → (s : List Tree) × (length s ≡ length r) × ((i : ℕ) → i < length r → Stands r i (get_or s i nothing))
+
+-- distinct trees of a table weigh at most as much as the table has bytes
+abbrev pub TableWeighs : Type 0
+TableWeighs =
+    (r : List (List ℕ)) (l : List Tree) → IsTable r → AllPairs (λ t u. t ≢ u) l → ((t : Tree) → Contains l t → IsType r t)
+    → weight l ≤ length (concat r)
+
+-- all trees of a table weigh as much as the table has bytes
+abbrev pub TableWeighsAll : Type 0
+TableWeighsAll =
+    (r : List (List ℕ)) (l : List Tree) → IsTable r → AllPairs (λ t u. t ≢ u) l → ((t : Tree) → Contains l t ↔ IsType r t)
+    → weight l ≡ length (concat r)
+
+-- m holds the trees of r of depth d, in the order of their texts, where l numbers the trees
+pub record IsLevelOf (r : List (List ℕ)) (d : ℕ) (l m : List Tree) : Type 0 where
+  pub members : (t : Tree) → Contains m t ↔ (IsType r t × (depth t ≡ d))
+  pub ordered : (i : ℕ) → i + 1 < length m → slice_cmp nat_cmp (text l (get_or m i nothing)) (text l (get_or m (i + 1) nothing)) ≡ Less
+
+-- the canonical list of a table continues with its next level
+abbrev pub NextLevel : Type 0
+NextLevel =
+    (r : List (List ℕ)) (d : ℕ) (l m : List Tree) → IsTable r → length (concat r) ≤ 4294967295
+    → Canonical l → HoldsBelow r d l → IsLevelOf r d l m → Canonical (l ++ m) × HoldsBelow r (suc d) (l ++ m)
 
 -- the trees of the first n records
 first_trees : (r : List (List ℕ)) → IsTable r → (n : ℕ) → n ≤ length r → (s : List Tree) × (length s ≡ n) × ((i : ℕ) → i < n → Stands r i (get_or s i nothing))

@@ -12,13 +12,12 @@ use Rattle.tpi_records.specs.Records.{IsRecord}
 use Rattle.text_set.specs.TextSet.{Holds}
 use Rattle.type_trees.specs.Tree.{Tree, Stands, IsType, IsRanked}
 use Rattle.type_trees.specs.Check.{AreTypes, NamesThere}
-use Rattle.type_trees.specs.Merge.{Adds}
 use Rattle.type_trees.specs.Table.{IsTable, renumbered}
 use Rattle.type_trees.proofs.TreeLaws.{tree_there}
 use Rattle.type_trees.proofs.CheckLaws.{by_position, lower_names}
 use Rattle.type_trees.proofs.OrderLaws.{NamesDone}
 use Rattle.type_trees.proofs.TableLaws.{stands_still}
-use Rattle.type_trees.proofs.AddLaws.{adds_more, adds_none, adds_all, renumbered_long, table_few, holds_short}
+use Rattle.type_trees.proofs.AddLaws.{adds_more, adds_none, adds_all, renumbered_long, table_few, holds_short, Adds}
 
 -- what names only earlier positions names those that are done
 names_done : (i : ℕ) (ns : List ℕ) → NamesThere i ns → NamesDone (λ k. k < i) ns

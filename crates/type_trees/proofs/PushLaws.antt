@@ -1,6 +1,6 @@
 -- How a table starts and grows, and how its canonical list starts.
 use Rattle.std.proofs.Common.{◌≡◌, ◌≢◌, ℕ, ◌+◌, ◌-◌, ◌<◌, ◌≤◌, ◌⊎◌, List, [], ◌∷◌, ◌++◌, length, get_or, sym, ap, ◌∙◌, subst, arith, inl, inr, length-append}
-use Rattle.std.specs.List.{AllByRecursion}
+use Rattle.std.specs.List.{AllByRecursion, Contains}
 use Rattle.std.proofs.lemmas.Bool.{cases_lt}
 use Rattle.std.proofs.lemmas.List.{get_or_default}
 use Rattle.std.proofs.lemmas.List.Quantifiers.{all_pairs_push}
@@ -11,10 +11,21 @@ use Rattle.cv_leaves.specs.Place.{IsChecked}
 use Rattle.tpi_records.specs.Records.{IsRecord}
 use Rattle.type_trees.specs.Tree.{NamesLower}
 use Rattle.byte_fields.specs.Bytes.{AreBytes}
-use Rattle.type_trees.specs.Table.{IsTable}
-use Rattle.type_trees.specs.Push.{TableGrows, NothingListed}
+use Rattle.type_trees.specs.Table.{IsTable, HoldsBelow}
 use Rattle.type_trees.proofs.WeightLaws.{weight-none}
 use Rattle.tpi_records.specs.Header.{first_index}
+use Rattle.type_trees.specs.Canon.{Canonical}
+use Rattle.type_trees.specs.Rows.{Numbers}
+
+-- a table stays a table when a good record is added that isn't there yet and names only records of the table
+abbrev pub TableGrows : Type 0
+TableGrows =
+    (r : List (List ℕ)) (y : List ℕ) → IsTable r → IsRecord y → IsChecked y → AreBytes y
+    → AllByRecursion (λ n. (n < first_index) ⊎ (n - first_index < length r)) (references y) → (Contains r y → ⊥) → IsTable (r ++ y ∷ [])
+
+-- before the first level the canonical list is empty
+abbrev pub NothingListed : Type 0
+NothingListed = Canonical [] × ((r : List (List ℕ)) → HoldsBelow r 0 []) × ((r : List (List ℕ)) (f : ℕ → ℕ) → Numbers r 0 [] f) × IsTable []
 
 -- what holds of each old record and of the new one holds of each record
 each_pushed : (P : List ℕ → Type 0) (r : List (List ℕ)) (y : List ℕ) → ((i : ℕ) → i < length r → P (get_or r i [])) → P y → (i : ℕ) → i < length (r ++ y ∷ []) → P (get_or (r ++ y ∷ []) i [])

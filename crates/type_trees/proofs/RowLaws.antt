@@ -4,7 +4,7 @@ use Rattle.std.specs.declared.cmp.Ordering.{Ordering}
 use Rattle.std.specs.declared.cmp.Ordering.TheVariants.{Less, Equal, Greater}
 use Rattle.std.specs.Ordering.{nat_cmp}
 use Rattle.std.specs.Cmp.Lexicographic.{slice_cmp}
-use Rattle.std.specs.List.{AllByRecursion, Contains}
+use Rattle.std.specs.List.{AllByRecursion, Contains, AllPairs, concat}
 use Rattle.std.proofs.lemmas.Bool.{cases_lt}
 use Rattle.std.proofs.lemmas.List.{length-map, get_or-map, ext_get_or, get_or_default, get_or-append-add, get_or-append_right}
 use Rattle.std.proofs.lemmas.List.Elements.{Contains-get_or}
@@ -15,17 +15,50 @@ use Rattle.type_trees.specs.Tree.{Tree, Branches, tree, no_branch, simple, branc
 use Rattle.type_trees.specs.Depth.{depth, depth_over}
 use Rattle.type_trees.specs.Canon.{position_in, text, Canonical}
 use Rattle.type_trees.specs.Canon.{texts, HoldsBranches}
-use Rattle.type_trees.specs.Table.{IsTable, renumbered, EachNamed, IsLevelOf}
-use Rattle.type_trees.specs.Rows.{Numbers, row, RowsContinue, NumbersContinue}
+use Rattle.type_trees.specs.Table.{IsTable, renumbered, HoldsBelow}
+use Rattle.type_trees.specs.Rows.{Numbers, row}
 use Rattle.type_trees.proofs.TreeLaws.{one, standing_is_closed}
 use Rattle.type_trees.proofs.SameLaws.{position_in-get_or, position_in-lt-length}
 use Rattle.type_trees.proofs.TextLaws.{texts_differ}
 use Rattle.type_trees.proofs.ReadLaws.{few, holds, text-at}
 use Rattle.type_trees.proofs.LevelLaws.{text-more}
 use Rattle.type_trees.proofs.CanonLaws.{position_in-below}
-use Rattle.type_trees.proofs.TableLaws.{table_is_set, branches_stand, renumbered_is_text}
-use Rattle.type_trees.proofs.NextLaws.{trees_of_table, next_level, branches_less_deep, all_held}
+use Rattle.type_trees.proofs.TableLaws.{table_is_set, branches_stand, renumbered_is_text, EachNamed}
+use Rattle.type_trees.proofs.NextLaws.{trees_of_table, next_level, branches_less_deep, all_held, IsLevelOf}
 use Rattle.tpi_records.specs.Header.{first_index}
+use Rattle.std.specs.Prelude.{suc}
+
+-- ps are the positions of r whose trees have depth d, each once, in the order of their rows
+pub record AreRows (r : List (List ℕ)) (d : ℕ) (f : ℕ → ℕ) (ps : List ℕ) : Type 0 where
+  pub within : (k : ℕ) → k < length ps → get_or ps k 0 < length r
+  pub deep : (k : ℕ) (t : Tree) → k < length ps → Stands r (get_or ps k 0) t → depth t ≡ d
+  pub all : (i : ℕ) (t : Tree) → Stands r i t → depth t ≡ d → (k : ℕ) × (k < length ps) × (get_or ps k 0 ≡ i)
+  pub distinct : AllPairs (λ i j. i ≢ j) ps
+  pub sorted : (k : ℕ) → k + 1 < length ps → slice_cmp nat_cmp (row r f (get_or ps k 0)) (row r f (get_or ps (k + 1) 0)) ≢ Greater
+
+-- the rows at the positions ps are the texts of a level, and the level continues the canonical list l
+pub record LevelOf (r : List (List ℕ)) (d : ℕ) (l : List Tree) (f : ℕ → ℕ) (ps : List ℕ) : Type 0 where
+  pub trees : List Tree
+  pub many : length trees ≡ length ps
+  pub stand : (k : ℕ) → k < length ps → Stands r (get_or ps k 0) (get_or trees k nothing)
+  pub canonical : Canonical (l ++ trees)
+  pub members : HoldsBelow r (suc d) (l ++ trees)
+  pub rows : texts (l ++ trees) ≡ texts l ++ map (row r f) ps
+
+-- the sorted rows of a level continue the canonical list of the levels before it
+abbrev pub RowsContinue : Type 0
+RowsContinue =
+    (r : List (List ℕ)) (d : ℕ) (l : List Tree) (f : ℕ → ℕ) (ps : List ℕ) → IsTable r → length (concat r) ≤ 4294967295
+    → Canonical l → HoldsBelow r d l → Numbers r d l f → AreRows r d f ps → LevelOf r d l f ps
+
+-- the numbers are right after a level, if its records are numbered from the length of l on and all others keep their numbers
+abbrev pub NumbersContinue : Type 0
+NumbersContinue =
+    (r : List (List ℕ)) (d : ℕ) (l : List Tree) (f g : ℕ → ℕ) (ps : List ℕ) → IsTable r → Canonical l → HoldsBelow r d l → Numbers r d l f → AreRows r d f ps
+    → (level : LevelOf r d l f ps)
+    → ((k : ℕ) → k < length ps → g (get_or ps k 0) ≡ length l + k)
+    → ((i : ℕ) → (Contains ps i → ⊥) → g i ≡ f i)
+    → Numbers r (suc d) (l ++ level.trees) g
 
 -- the trees that a record names are less deep
 named_less_deep : (r : List (List ℕ)) (d : ℕ) (ns : List ℕ) (bs : Branches) → AreBranches r ns bs → depth_over bs ≤ d → EachNamed r (λ k u. depth u < d) ns

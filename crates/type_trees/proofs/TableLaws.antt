@@ -5,13 +5,44 @@ use Rattle.std.proofs.lemmas.Bool.{cases_order, lt-ltb, le-ltb}
 use Rattle.std.proofs.Math.ListN.{get_or-append}
 use Rattle.cv_leaves.specs.References.{references, blanked, filled}
 use Rattle.cv_leaves.specs.Place.{IsChecked}
-use Rattle.type_trees.specs.Tree.{Tree, Branches, tree, no_branch, simple, branch, trees_in, Stands, AreBranches, IsType}
+use Rattle.type_trees.specs.Tree.{Tree, Branches, tree, no_branch, simple, branch, trees_in, Stands, AreBranches, IsType, branches_of}
 use Rattle.type_trees.specs.Canon.{position_in, numbers, text}
 use Rattle.byte_fields.specs.Bytes.{AreBytes}
-use Rattle.type_trees.specs.Table.{IsTable, renumber_one, renumber, EachNamed, TableIsSet, BranchesStand, RenumberedStands, RenumberedIsText, StandsStill}
+use Rattle.type_trees.specs.Table.{IsTable, renumber_one, renumber}
 use Rattle.cv_leaves.specs.Checks.{places_of}
 use Rattle.cv_leaves.proofs.FilledLaws.{reference_each, filled_read, filled_blank, fill_blanked, own_fill}
 use Rattle.tpi_records.specs.Header.{first_index}
+
+-- P holds of each position that ns name and of each tree at that position
+abbrev pub EachNamed : List (List ℕ) → (ℕ → Tree → Type 0) → List ℕ → Type 0
+EachNamed r P ns = AllByRecursion (λ n. first_index ≤ n → (u : Tree) → Stands r (n - first_index) u → P (n - first_index) u) ns
+
+-- a tree is at most at one position of a table
+abbrev pub TableIsSet : Type 0
+TableIsSet = (r : List (List ℕ)) (i j : ℕ) (t : Tree) → IsTable r → Stands r i t → Stands r j t → i ≡ j
+
+-- if a tree is at a position of r, its branches are in r too
+abbrev pub BranchesStand : Type 0
+BranchesStand = (r : List (List ℕ)) (i : ℕ) (t : Tree) → Stands r i t → AllByRecursion (IsType r) (trees_in (branches_of t))
+
+-- a renumbered record has the same tree, if it names the same trees
+abbrev pub RenumberedStands : Type 0
+RenumberedStands =
+    (r s : List (List ℕ)) (f : ℕ → ℕ) (i j : ℕ) (t : Tree) → IsChecked (get_or r i []) → j < length s
+    → get_or s j [] ≡ filled (get_or r i []) (renumber f (references (get_or r i [])))
+    → EachNamed r (λ k u. (f k < 4294963200) × Stands s (f k) u) (references (get_or r i []))
+    → Stands r i t → Stands s j t
+
+-- a record is the text of its tree, once it is renumbered by positions in l
+abbrev pub RenumberedIsText : Type 0
+RenumberedIsText =
+    (r : List (List ℕ)) (l : List Tree) (f : ℕ → ℕ) (i : ℕ) (t : Tree) → IsChecked (get_or r i [])
+    → EachNamed r (λ k u. f k ≡ position_in l u) (references (get_or r i []))
+    → Stands r i t → filled (get_or r i []) (renumber f (references (get_or r i []))) ≡ text l t
+
+-- a tree stays at its position when more records are added after r
+abbrev pub StandsStill : Type 0
+StandsStill = (r s : List (List ℕ)) (i : ℕ) (t : Tree) → Stands r i t → Stands (r ++ s) i t
 
 -- a tree stays at its position when more records are added after r
 mutual

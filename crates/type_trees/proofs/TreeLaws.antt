@@ -7,11 +7,15 @@ use Rattle.cv_leaves.specs.Place.{IsChecked}
 use Rattle.cv_leaves.specs.References.{references, blanked}
 use Rattle.type_trees.specs.Tree.{Tree, Branches, tree, no_branch, simple, branch, count, trees_in, IsClosed, AreClosed, Stands, AreBranches, IsType, IsRanked, NamesLower}
 use Rattle.type_trees.specs.Laws.{OneTreeEach, BranchesAreTypes}
-use Rattle.type_trees.specs.Table.{AreGood, StandingIsClosed}
+use Rattle.type_trees.specs.Table.{AreGood}
 use Rattle.type_trees.specs.Check.{AreTypes}
 use Rattle.cv_leaves.proofs.FilledLaws.{reference_each, blanked_checked, blanked_framed, blanked_places, blanked_stays}
 use Rattle.tpi_records.specs.Records.{IsRecord}
 use Rattle.tpi_records.specs.Header.{first_index}
+
+-- a tree at a position of good records is closed
+abbrev pub StandingIsClosed : Type 0
+StandingIsClosed = (r : List (List ℕ)) (i : ℕ) (t : Tree) → AreGood r → Stands r i t → IsClosed t
 
 -- ---- At most one tree
 

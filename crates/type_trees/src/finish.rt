@@ -17,7 +17,7 @@ ghost use Rattle.cv_leaves.specs.References.{references};
 ghost use Rattle.type_trees.specs.Depth.{AreDepths, HasDepths, HasLevels};
 ghost use Rattle.type_trees.specs.Tree.{Tree, IsType};
 ghost use Rattle.type_trees.specs.Table.{IsTable, AreNumbered, renumbered};
-ghost use Rattle.type_trees.specs.Rows.{row, IsKeyed, AreRows};
+ghost use Rattle.type_trees.specs.Rows.{row, IsKeyed};
 ghost use Rattle.type_trees.specs.Finish.{Listed, AtLevel, Numbered, IsCanonOf};
 
 use crate::levels::{Levels, levels_of};

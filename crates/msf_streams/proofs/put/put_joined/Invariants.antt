@@ -1,7 +1,8 @@
 use Rattle.std.proofs.Common.{◌≡◌, ◌+◌, length, drop}
 use Rattle.msf_streams.specs.Image.{joined}
-use Rattle.msf_streams.specs.Put.{woven, Halfway}
+use Rattle.msf_streams.specs.Put.{woven}
 use Rattle.msf_streams.proofs.put.put_joined.Given as goal
+use Rattle.msf_streams.proofs.PutLaws.{Halfway}
 
 abbrev pub invariant-loop-part : goal.invariant-loop-part
 invariant-loop-part g l =

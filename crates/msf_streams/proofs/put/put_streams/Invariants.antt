@@ -1,8 +1,9 @@
 use Rattle.std.proofs.Common.{◌≡◌, ◌+◌, Bor, List, ℕ, length, drop}
 use Rattle.std.specs.List.{flat_map}
 use Rattle.msf_streams.specs.Image.{filled, joined}
-use Rattle.msf_streams.specs.Put.{woven, Halfway}
+use Rattle.msf_streams.specs.Put.{woven}
 use Rattle.msf_streams.proofs.put.put_streams.Given as goal
+use Rattle.msf_streams.proofs.PutLaws.{Halfway}
 
 abbrev pub invariant-loop-parts : goal.invariant-loop-parts
 invariant-loop-parts g l =
