@@ -9,13 +9,13 @@ use Rattle.msf_blocks.specs.Layout.{TextsRefuse, layout_checks}
 use Rattle.pdb_merge.specs.Fault.{of_msf}
 use Rattle.pdb_merge.specs.declared.fault.PdbFault.{PdbFault}
 use Rattle.pdb_merge.specs.declared.fault.PdbFault.TheVariants as pdb
-use Rattle.pdb_commands.specs.Check.{HasNoAccepted}
+use Rattle.pdb_commands.specs.Check.{RefusesCheck}
 use Rattle.pdb_commands.specs.Fault.{of_pdb}
-use Rattle.pdb_commands.specs.Info.{HasNoInfo}
-use Rattle.pdb_commands.specs.Record.{HasNoRecord}
-use Rattle.pdb_commands.specs.Records.{HasNoTypeRecords}
-use Rattle.pdb_commands.specs.Streams.{HasLayoutFault, HasNoLayout, HasNoLayoutRead}
-use Rattle.pdb_commands.specs.Types.{HasNoTypes}
+use Rattle.pdb_commands.specs.Info.{RefusesInfo}
+use Rattle.pdb_commands.specs.Record.{RefusesRecord}
+use Rattle.pdb_commands.specs.Records.{RefusesRecords}
+use Rattle.pdb_commands.specs.Streams.{HasLayoutFault, RefusesStreams, RefusesLayout}
+use Rattle.pdb_commands.specs.Types.{RefusesTypes}
 use Rattle.pdb_commands.specs.Shown.{ReadsTooLong, RefusesIt, RefusesWithin}
 use Rattle.pdb_commands.specs.declared.fault.RunFault.{RunFault}
 use Rattle.pdb_commands.specs.declared.fault.RunFault.TheVariants.{Pdb, Memory}
@@ -40,23 +40,23 @@ refused : {A : Type 0} (P : RunFault A → Type 0) (file : List ℕ) (fault : Ms
 refused P file fault inner outer is made each first = refused_by P file inner outer made each (layout_refused file fault inner is first)
 
 -- so of each command
-pub no_layout : {A : Type 0} (file : List ℕ) (fault : MsfFault) (inner : PdbFault A) (outer : RunFault A) → inner ≡ of_msf fault → outer ≡ of_pdb inner → Refuses msf.Memory (first_failing (layout_checks file)) fault → HasNoLayout file outer ⊎ (outer ≡ Memory)
-no_layout file fault inner outer is made = refused (HasNoLayout file) file fault inner outer is made (λ f first. first)
+pub no_layout : {A : Type 0} (file : List ℕ) (fault : MsfFault) (inner : PdbFault A) (outer : RunFault A) → inner ≡ of_msf fault → outer ≡ of_pdb inner → Refuses msf.Memory (first_failing (layout_checks file)) fault → RefusesStreams file outer ⊎ (outer ≡ Memory)
+no_layout file fault inner outer is made = refused (RefusesStreams file) file fault inner outer is made (λ f first. first)
 
-pub no_type_records : {A : Type 0} (file : List ℕ) (fault : MsfFault) (inner : PdbFault A) (outer : RunFault A) → inner ≡ of_msf fault → outer ≡ of_pdb inner → Refuses msf.Memory (first_failing (layout_checks file)) fault → HasNoTypeRecords file outer ⊎ (outer ≡ Memory)
-no_type_records file fault inner outer is made = refused (HasNoTypeRecords file) file fault inner outer is made (λ f first. first)
+pub no_type_records : {A : Type 0} (file : List ℕ) (fault : MsfFault) (inner : PdbFault A) (outer : RunFault A) → inner ≡ of_msf fault → outer ≡ of_pdb inner → Refuses msf.Memory (first_failing (layout_checks file)) fault → RefusesRecords file outer ⊎ (outer ≡ Memory)
+no_type_records file fault inner outer is made = refused (RefusesRecords file) file fault inner outer is made (λ f first. first)
 
-pub no_record : {A : Type 0} (index : ℕ) (file : List ℕ) (fault : MsfFault) (inner : PdbFault A) (outer : RunFault A) → inner ≡ of_msf fault → outer ≡ of_pdb inner → Refuses msf.Memory (first_failing (layout_checks file)) fault → HasNoRecord index file outer ⊎ (outer ≡ Memory)
-no_record index file fault inner outer is made = refused (HasNoRecord index file) file fault inner outer is made (λ f first. first)
+pub no_record : {A : Type 0} (index : ℕ) (file : List ℕ) (fault : MsfFault) (inner : PdbFault A) (outer : RunFault A) → inner ≡ of_msf fault → outer ≡ of_pdb inner → Refuses msf.Memory (first_failing (layout_checks file)) fault → RefusesRecord index file outer ⊎ (outer ≡ Memory)
+no_record index file fault inner outer is made = refused (RefusesRecord index file) file fault inner outer is made (λ f first. first)
 
-pub no_types : {A : Type 0} (file : List ℕ) (fault : MsfFault) (inner : PdbFault A) (outer : RunFault A) → inner ≡ of_msf fault → outer ≡ of_pdb inner → Refuses msf.Memory (first_failing (layout_checks file)) fault → HasNoTypes file outer ⊎ (outer ≡ Memory)
-no_types file fault inner outer is made = refused (HasNoTypes file) file fault inner outer is made (λ f first. first)
+pub no_types : {A : Type 0} (file : List ℕ) (fault : MsfFault) (inner : PdbFault A) (outer : RunFault A) → inner ≡ of_msf fault → outer ≡ of_pdb inner → Refuses msf.Memory (first_failing (layout_checks file)) fault → RefusesTypes file outer ⊎ (outer ≡ Memory)
+no_types file fault inner outer is made = refused (RefusesTypes file) file fault inner outer is made (λ f first. first)
 
-pub no_accepted : {A : Type 0} (file : List ℕ) (fault : MsfFault) (inner : PdbFault A) (outer : RunFault A) → inner ≡ of_msf fault → outer ≡ of_pdb inner → Refuses msf.Memory (first_failing (layout_checks file)) fault → HasNoAccepted file outer ⊎ (outer ≡ Memory)
-no_accepted file fault inner outer is made = refused (HasNoAccepted file) file fault inner outer is made (λ f first. first)
+pub no_accepted : {A : Type 0} (file : List ℕ) (fault : MsfFault) (inner : PdbFault A) (outer : RunFault A) → inner ≡ of_msf fault → outer ≡ of_pdb inner → Refuses msf.Memory (first_failing (layout_checks file)) fault → RefusesCheck file outer ⊎ (outer ≡ Memory)
+no_accepted file fault inner outer is made = refused (RefusesCheck file) file fault inner outer is made (λ f first. first)
 
-pub no_info : {A : Type 0} (file : List ℕ) (fault : MsfFault) (inner : PdbFault A) (outer : RunFault A) → inner ≡ of_msf fault → outer ≡ of_pdb inner → Refuses msf.Memory (first_failing (layout_checks file)) fault → HasNoInfo file outer ⊎ (outer ≡ Memory)
-no_info file fault inner outer is made = refused (HasNoInfo file) file fault inner outer is made (λ f first. first)
+pub no_info : {A : Type 0} (file : List ℕ) (fault : MsfFault) (inner : PdbFault A) (outer : RunFault A) → inner ≡ of_msf fault → outer ≡ of_pdb inner → Refuses msf.Memory (first_failing (layout_checks file)) fault → RefusesInfo file outer ⊎ (outer ≡ Memory)
+no_info file fault inner outer is made = refused (RefusesInfo file) file fault inner outer is made (λ f first. first)
 
 -- ---- with a limit on the stream that the command reads
 
@@ -80,6 +80,6 @@ none_within {A = A} command limit file fault inner outer bytes is made =
 -- ---- of the texts that were read
 
 -- a fault of the texts of a layout is a refusal by them
-pub texts_refused : {A : Type 0} (told : ℕ) (fault : MsfFault) (inner : PdbFault A) (outer : RunFault A) → inner ≡ of_msf fault → outer ≡ of_pdb inner → TextsRefuse told fault → HasNoLayoutRead told outer ⊎ (outer ≡ Memory)
+pub texts_refused : {A : Type 0} (told : ℕ) (fault : MsfFault) (inner : PdbFault A) (outer : RunFault A) → inner ≡ of_msf fault → outer ≡ of_pdb inner → TextsRefuse told fault → RefusesLayout told outer ⊎ (outer ≡ Memory)
 texts_refused told msf.Memory inner outer is made refused = inr (made ∙ ap of_pdb is)
 texts_refused told fault inner outer is made refused = inl (rw (made, is) refused)

@@ -3,7 +3,7 @@ use Rattle.std.specs.Prelude.{ℕ, ◌≡◌, List, ◌∷◌, ◌++◌, length,
 use Rattle.std.specs.List.{concat}
 use Rattle.type_trees.specs.Depth.{HasLevels}
 use Rattle.msf_blocks.specs.Layout.{LayoutView}
-use Rattle.pdb_merge.specs.Read.{IsAccepted, TypesWereRead, HasPdbFault, RefusesTypes}
+use Rattle.pdb_merge.specs.Read.{IsAccepted, TypesWereRead, HasPdbFault, HasPdbFaultRead}
 use Rattle.pdb_commands.specs.Text.{named_line}
 use Rattle.pdb_commands.specs.declared.fault.RunFault.{RunFault}
 use Rattle.pdb_commands.specs.declared.fault.RunFault.TheVariants.{Pdb}
@@ -24,11 +24,11 @@ ShowsCheckedRead layout text =
     (records : List (List ℕ)) × (levels : ℕ) × TypesWereRead layout records × HasLevels records levels × (text ≡ checked_lines (length records) (length (concat records)) levels)
 
 -- this is the first fault of the file on the way to its types
-abbrev pub HasNoAccepted : {A : Type 0} → List ℕ → RunFault A → Type 0
-HasNoAccepted file (Pdb fault) = HasPdbFault file fault
-HasNoAccepted file _ = ⊥
+abbrev pub RefusesCheck : {A : Type 0} → List ℕ → RunFault A → Type 0
+RefusesCheck file (Pdb fault) = HasPdbFault file fault
+RefusesCheck file _ = ⊥
 
 -- `check` refuses what was read for this layout with this fault, which is the first on the way to its types
-abbrev pub HasNoAcceptedRead : {A : Type 0} → LayoutView → RunFault A → Type 0
-HasNoAcceptedRead layout (Pdb fault) = RefusesTypes layout fault
-HasNoAcceptedRead layout _ = ⊥
+abbrev pub RefusesCheckRead : {A : Type 0} → LayoutView → RunFault A → Type 0
+RefusesCheckRead layout (Pdb fault) = HasPdbFaultRead layout fault
+RefusesCheckRead layout _ = ⊥

@@ -74,10 +74,10 @@ HasNoInfoStream file (pdb.Stream fault) = (layout : LayoutView) × HasLayout fil
 HasNoInfoStream file fault = HasLayoutFault file fault
 
 -- this is the first fault of the file on the way to its info stream: a fault of its layout, else that it has no stream 1, else a fault of that stream
-abbrev pub HasNoInfo : {A : Type 0} → List ℕ → RunFault A → Type 0
-HasNoInfo file (Pdb fault) = HasNoInfoStream file fault
-HasNoInfo file (Info fault) = (layout : LayoutView) × (stream : List ℕ) × HasLayout file layout × (stream_contents file layout 1 ≡ Some stream) × (first_failing (info_checks stream) ≡ Some fault)
-HasNoInfo file _ = ⊥
+abbrev pub RefusesInfo : {A : Type 0} → List ℕ → RunFault A → Type 0
+RefusesInfo file (Pdb fault) = HasNoInfoStream file fault
+RefusesInfo file (Info fault) = (layout : LayoutView) × (stream : List ℕ) × HasLayout file layout × (stream_contents file layout 1 ≡ Some stream) × (first_failing (info_checks stream) ≡ Some fault)
+RefusesInfo file _ = ⊥
 
 -- this layout has no stream 1, and this is its fault
 abbrev pub HasNoInfoStreamRead : {A : Type 0} → LayoutView → PdbFault A → Type 0
@@ -85,7 +85,7 @@ HasNoInfoStreamRead layout (pdb.Stream fault) = (length layout.streams ≤ 1) ×
 HasNoInfoStreamRead layout _ = ⊥
 
 -- `info` refuses what was read for this layout with this fault: there is no stream 1, or the bytes that were read for it have the fault
-abbrev pub HasNoInfoRead : {A : Type 0} → LayoutView → RunFault A → Type 0
-HasNoInfoRead layout (Pdb fault) = HasNoInfoStreamRead layout fault
-HasNoInfoRead layout (Info fault) = (stream : List ℕ) × WasRead layout 1 stream × (first_failing (info_checks stream) ≡ Some fault)
-HasNoInfoRead layout _ = ⊥
+abbrev pub RefusesInfoRead : {A : Type 0} → LayoutView → RunFault A → Type 0
+RefusesInfoRead layout (Pdb fault) = HasNoInfoStreamRead layout fault
+RefusesInfoRead layout (Info fault) = (stream : List ℕ) × WasRead layout 1 stream × (first_failing (info_checks stream) ≡ Some fault)
+RefusesInfoRead layout _ = ⊥

@@ -4,7 +4,7 @@ use Rattle.std.specs.Io.KnownBytes.{Appends}
 use Rattle.msf_streams.specs.Put.{AppendsPart}
 use Rattle.pdb_info.specs.Settings.{SettingsView}
 use Rattle.pdb_merge.specs.Fault.{NamesFault}
-use Rattle.pdb_merge.specs.Union.{Stops}
+use Rattle.pdb_merge.specs.Union.{IsMergeFault}
 use Rattle.pdb_merge.specs.Merged.{Wrote}
 use Rattle.pdb_merge.specs.declared.summary.Summary.{Summary}
 use Rattle.pdb_merge.specs.declared.fault.MergeFault.TheVariants as merge
@@ -32,7 +32,7 @@ WroteAndBrokeOff files settings old new told_before told_after =
 
 -- this is why the command is refused: the files are refused with this fault, or it is out of memory, or a sink broke
 abbrev pub IsNotMerged : {A : Type 0} → List (List ℕ) → ℕ → RunFault A → Type 0
-IsNotMerged files limit (Merge inner) = Stops files limit inner × (inner ≢ merge.Memory)
+IsNotMerged files limit (Merge inner) = IsMergeFault files limit inner × (inner ≢ merge.Memory)
 IsNotMerged files limit Memory = Unit {0}
 IsNotMerged files limit Write = Unit {0}
 IsNotMerged files limit _ = ⊥

@@ -10,7 +10,7 @@ use Rattle.cv_leaves.specs.Place.{HasPlaces}
 use Rattle.cv_leaves.specs.Name.{name_of}
 use Rattle.msf_blocks.specs.Layout.{LayoutView}
 use Rattle.pdb_merge.specs.Read.{HasTypeRecords, RecordsWereRead}
-use Rattle.pdb_commands.specs.Records.{HasNoTypeRecords, HasNoTypeRecordsRead}
+use Rattle.pdb_commands.specs.Records.{RefusesRecords, RefusesRecordsRead}
 use Rattle.pdb_commands.specs.Text.{index_text, quoted}
 use Rattle.pdb_commands.specs.declared.fault.RunFault.{RunFault}
 use Rattle.pdb_commands.specs.declared.fault.RunFault.TheVariants.{NoRecord, Leaf}
@@ -54,13 +54,13 @@ pub record ShowsRecordRead (index : ℕ) (layout : LayoutView) (text : List ℕ)
   pub lines : text ≡ bytes_line bytes ++ flat_map (place_line bytes) places ++ name_lines (name_of bytes)
 
 -- this is the first fault on the way to the record of this type index: a fault of the file's type records, else that none has the index, else a fault of that record
-abbrev pub HasNoRecord : {A : Type 0} → ℕ → List ℕ → RunFault A → Type 0
-HasNoRecord index file (NoRecord missing) = (records : List (List ℕ)) × HasTypeRecords file records × (missing ≡ index) × (record_of records index ≡ None)
-HasNoRecord index file (Leaf at fault) = (records : List (List ℕ)) × (bytes : List ℕ) × HasTypeRecords file records × (at ≡ index) × (record_of records index ≡ Some bytes) × (first_failing (record_checks bytes) ≡ Some fault)
-HasNoRecord index file fault = HasNoTypeRecords file fault
+abbrev pub RefusesRecord : {A : Type 0} → ℕ → List ℕ → RunFault A → Type 0
+RefusesRecord index file (NoRecord missing) = (records : List (List ℕ)) × HasTypeRecords file records × (missing ≡ index) × (record_of records index ≡ None)
+RefusesRecord index file (Leaf at fault) = (records : List (List ℕ)) × (bytes : List ℕ) × HasTypeRecords file records × (at ≡ index) × (record_of records index ≡ Some bytes) × (first_failing (record_checks bytes) ≡ Some fault)
+RefusesRecord index file fault = RefusesRecords file fault
 
 -- `record` refuses what was read for this layout with this fault: it is one of its type records, else that none has the index, else one of that record
-abbrev pub HasNoRecordRead : {A : Type 0} → ℕ → LayoutView → RunFault A → Type 0
-HasNoRecordRead index layout (NoRecord missing) = (records : List (List ℕ)) × RecordsWereRead layout records × (missing ≡ index) × (record_of records index ≡ None)
-HasNoRecordRead index layout (Leaf at fault) = (records : List (List ℕ)) × (bytes : List ℕ) × RecordsWereRead layout records × (at ≡ index) × (record_of records index ≡ Some bytes) × (first_failing (record_checks bytes) ≡ Some fault)
-HasNoRecordRead index layout fault = HasNoTypeRecordsRead layout fault
+abbrev pub RefusesRecordRead : {A : Type 0} → ℕ → LayoutView → RunFault A → Type 0
+RefusesRecordRead index layout (NoRecord missing) = (records : List (List ℕ)) × RecordsWereRead layout records × (missing ≡ index) × (record_of records index ≡ None)
+RefusesRecordRead index layout (Leaf at fault) = (records : List (List ℕ)) × (bytes : List ℕ) × RecordsWereRead layout records × (at ≡ index) × (record_of records index ≡ Some bytes) × (first_failing (record_checks bytes) ≡ Some fault)
+RefusesRecordRead index layout fault = RefusesRecordsRead layout fault

@@ -3,7 +3,7 @@ use Rattle.std.specs.Prelude.{ℕ, ◌≡◌, ◌+◌, List, [], ◌∷◌, ◌+
 use Rattle.std.specs.Fmt.{decimal}
 use Rattle.byte_fields.specs.Number.{number_at}
 use Rattle.msf_blocks.specs.Layout.{LayoutView}
-use Rattle.pdb_merge.specs.Read.{HasTypeRecords, RecordsWereRead, HasRecordsFault, RefusesRecords}
+use Rattle.pdb_merge.specs.Read.{HasTypeRecords, RecordsWereRead, HasRecordsFault, HasStreamFaultRead}
 use Rattle.pdb_commands.specs.Text.{index_text, kind_text}
 use Rattle.pdb_commands.specs.declared.fault.RunFault.{RunFault}
 use Rattle.pdb_commands.specs.declared.fault.RunFault.TheVariants.{Pdb}
@@ -27,11 +27,11 @@ abbrev pub ShowsRecordsRead : LayoutView → List ℕ → Type 0
 ShowsRecordsRead layout text = (records : List (List ℕ)) × RecordsWereRead layout records × (text ≡ record_lines first_index records)
 
 -- this is the first fault of the file on the way to its type records
-abbrev pub HasNoTypeRecords : {A : Type 0} → List ℕ → RunFault A → Type 0
-HasNoTypeRecords file (Pdb fault) = HasRecordsFault file fault
-HasNoTypeRecords file _ = ⊥
+abbrev pub RefusesRecords : {A : Type 0} → List ℕ → RunFault A → Type 0
+RefusesRecords file (Pdb fault) = HasRecordsFault file fault
+RefusesRecords file _ = ⊥
 
 -- `records` refuses what was read for this layout with this fault, which is one of its stream 2
-abbrev pub HasNoTypeRecordsRead : {A : Type 0} → LayoutView → RunFault A → Type 0
-HasNoTypeRecordsRead layout (Pdb fault) = RefusesRecords layout fault
-HasNoTypeRecordsRead layout _ = ⊥
+abbrev pub RefusesRecordsRead : {A : Type 0} → LayoutView → RunFault A → Type 0
+RefusesRecordsRead layout (Pdb fault) = HasStreamFaultRead layout fault
+RefusesRecordsRead layout _ = ⊥

@@ -6,7 +6,7 @@ use Rattle.byte_io.specs.Input.{GivesAll, IsNotRead, HasGiven}
 use Rattle.byte_io.specs.declared.input.ReadFault.{ReadFault}
 use Rattle.byte_io.specs.declared.input.ReadFault.TheVariants as reads
 use Rattle.msf_blocks.specs.Layout.{LayoutView, HasTexts}
-use Rattle.pdb_commands.specs.Streams.{HasNoLayoutRead}
+use Rattle.pdb_commands.specs.Streams.{RefusesLayout}
 use Rattle.pdb_commands.specs.declared.fault.RunFault.{RunFault}
 use Rattle.pdb_commands.specs.declared.fault.RunFault.TheVariants.{Read, Memory, Write}
 
@@ -75,7 +75,7 @@ IsOfTexts ShowsRead told text = (layout : LayoutView) × HasTexts told layout ×
 
 -- there are texts with this fault: those of a layout have it, or else what the command reads for that layout
 abbrev pub IsFaultOfTexts : {A : Type 0} → (LayoutView → RunFault A → Type 0) → ℕ → RunFault A → Type 0
-IsFaultOfTexts RefusesRead told fault = HasNoLayoutRead told fault ⊎ ((layout : LayoutView) × HasTexts told layout × RefusesRead layout fault)
+IsFaultOfTexts RefusesRead told fault = RefusesLayout told fault ⊎ ((layout : LayoutView) × HasTexts told layout × RefusesRead layout fault)
 
 -- the sink took such a text
 abbrev pub PrintsRead : (LayoutView → List ℕ → Type 0) → ℕ → Option (List ℕ) → Option (List ℕ) → Type 0

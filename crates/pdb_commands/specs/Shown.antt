@@ -3,12 +3,12 @@ use Rattle.std.specs.Prelude.{ℕ, ◌≡◌, ◌<◌, ◌-◌, ◌^◌, ◌⊎�
 use Rattle.byte_fields.specs.Check.{first_failing}
 use Rattle.msf_blocks.specs.Directory.{Listed, bytes_of}
 use Rattle.msf_blocks.specs.Layout.{LayoutView, HasLayout, layout_checks}
-use Rattle.pdb_commands.specs.Check.{ShowsChecked, ShowsCheckedRead, HasNoAccepted, HasNoAcceptedRead}
-use Rattle.pdb_commands.specs.Info.{ShowsInfo, ShowsInfoRead, HasNoInfo, HasNoInfoRead}
-use Rattle.pdb_commands.specs.Record.{ShowsRecord, ShowsRecordRead, HasNoRecord, HasNoRecordRead}
-use Rattle.pdb_commands.specs.Records.{ShowsRecords, ShowsRecordsRead, HasNoTypeRecords, HasNoTypeRecordsRead}
-use Rattle.pdb_commands.specs.Streams.{ShowsStreams, ShowsStreamsRead, HasNoLayout, RefusesNoLayout}
-use Rattle.pdb_commands.specs.Types.{ShowsTypes, ShowsTypesRead, HasNoTypes, HasNoTypesRead}
+use Rattle.pdb_commands.specs.Check.{ShowsChecked, ShowsCheckedRead, RefusesCheck, RefusesCheckRead}
+use Rattle.pdb_commands.specs.Info.{ShowsInfo, ShowsInfoRead, RefusesInfo, RefusesInfoRead}
+use Rattle.pdb_commands.specs.Record.{ShowsRecord, ShowsRecordRead, RefusesRecord, RefusesRecordRead}
+use Rattle.pdb_commands.specs.Records.{ShowsRecords, ShowsRecordsRead, RefusesRecords, RefusesRecordsRead}
+use Rattle.pdb_commands.specs.Streams.{ShowsStreams, ShowsStreamsRead, RefusesStreams, RefusesStreamsRead}
+use Rattle.pdb_commands.specs.Types.{ShowsTypes, ShowsTypesRead, RefusesTypes, RefusesTypesRead}
 use Rattle.pdb_commands.specs.declared.fault.RunFault.{RunFault}
 use Rattle.pdb_commands.specs.declared.fault.RunFault.TheVariants.{TooLong}
 use Rattle.pdb_commands.specs.declared.shown.Shown.{Shown}
@@ -25,12 +25,12 @@ ShowsIt shown.Streams = ShowsStreams
 
 -- the command refuses this file with this fault
 abbrev pub RefusesIt : {A : Type 0} → Shown → List ℕ → RunFault A → Type 0
-RefusesIt shown.Records = HasNoTypeRecords
-RefusesIt (shown.Record index) = HasNoRecord index
-RefusesIt shown.Types = HasNoTypes
-RefusesIt shown.Check = HasNoAccepted
-RefusesIt shown.Info = HasNoInfo
-RefusesIt shown.Streams = HasNoLayout
+RefusesIt shown.Records = RefusesRecords
+RefusesIt (shown.Record index) = RefusesRecord index
+RefusesIt shown.Types = RefusesTypes
+RefusesIt shown.Check = RefusesCheck
+RefusesIt shown.Info = RefusesInfo
+RefusesIt shown.Streams = RefusesStreams
 
 -- the command prints this text where texts of this layout were read
 abbrev pub ShowsItRead : Shown → LayoutView → List ℕ → Type 0
@@ -43,12 +43,12 @@ ShowsItRead shown.Streams = ShowsStreamsRead
 
 -- the command refuses what was read for this layout with this fault
 abbrev pub RefusesItRead : {A : Type 0} → Shown → LayoutView → RunFault A → Type 0
-RefusesItRead shown.Records = HasNoTypeRecordsRead
-RefusesItRead (shown.Record index) = HasNoRecordRead index
-RefusesItRead shown.Types = HasNoTypesRead
-RefusesItRead shown.Check = HasNoAcceptedRead
-RefusesItRead shown.Info = HasNoInfoRead
-RefusesItRead shown.Streams = RefusesNoLayout
+RefusesItRead shown.Records = RefusesRecordsRead
+RefusesItRead (shown.Record index) = RefusesRecordRead index
+RefusesItRead shown.Types = RefusesTypesRead
+RefusesItRead shown.Check = RefusesCheckRead
+RefusesItRead shown.Info = RefusesInfoRead
+RefusesItRead shown.Streams = RefusesStreamsRead
 
 -- the stream that the command reads whole, if it reads one
 abbrev pub stream_of : Shown → Option ℕ

@@ -8,7 +8,7 @@ use Rattle.msf_blocks.specs.Directory.{Listed, bytes_of}
 use Rattle.byte_io.specs.At.{StandsAt}
 use Rattle.msf_blocks.specs.FreeMap.{is_free, map_block_of, blocks_per_map_block}
 use Rattle.msf_blocks.specs.Layout.{LayoutView, HasLayout, layout_checks}
-use Rattle.pdb_merge.specs.Read.{RefusesLayout}
+use Rattle.pdb_merge.specs.Read.{IsLayoutFaultRead}
 use Rattle.pdb_merge.specs.declared.fault.PdbFault.{PdbFault}
 use Rattle.pdb_merge.specs.declared.fault.PdbFault.TheVariants as pdb
 use Rattle.pdb_commands.specs.Text.{named_line}
@@ -73,15 +73,15 @@ HasLayoutFault file (pdb.Msf fault) = first_failing (layout_checks file) ≡ Som
 HasLayoutFault file _ = ⊥
 
 -- this is the first fault of the file on the way to its layout, as a fault of the command
-abbrev pub HasNoLayout : {A : Type 0} → List ℕ → RunFault A → Type 0
-HasNoLayout file (Pdb fault) = HasLayoutFault file fault
-HasNoLayout file _ = ⊥
+abbrev pub RefusesStreams : {A : Type 0} → List ℕ → RunFault A → Type 0
+RefusesStreams file (Pdb fault) = HasLayoutFault file fault
+RefusesStreams file _ = ⊥
 
 -- there are texts of a container, which is said to have so many bytes, with this fault of its layout
-abbrev pub HasNoLayoutRead : {A : Type 0} → ℕ → RunFault A → Type 0
-HasNoLayoutRead told (Pdb fault) = RefusesLayout told fault
-HasNoLayoutRead told _ = ⊥
+abbrev pub RefusesLayout : {A : Type 0} → ℕ → RunFault A → Type 0
+RefusesLayout told (Pdb fault) = IsLayoutFaultRead told fault
+RefusesLayout told _ = ⊥
 
 -- `streams` refuses no layout
-abbrev pub RefusesNoLayout : {A : Type 0} → LayoutView → RunFault A → Type 0
-RefusesNoLayout layout fault = ⊥
+abbrev pub RefusesStreamsRead : {A : Type 0} → LayoutView → RunFault A → Type 0
+RefusesStreamsRead layout fault = ⊥

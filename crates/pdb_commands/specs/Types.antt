@@ -12,7 +12,7 @@ use Rattle.cv_leaves.specs.Name.{name_of}
 use Rattle.cv_leaves.specs.declared.fault.LeafFault.{LeafFault}
 use Rattle.msf_blocks.specs.Layout.{LayoutView}
 use Rattle.pdb_merge.specs.Read.{RecordsWereRead, HasTypeRecords}
-use Rattle.pdb_commands.specs.Records.{HasNoTypeRecords, HasNoTypeRecordsRead}
+use Rattle.pdb_commands.specs.Records.{RefusesRecords, RefusesRecordsRead}
 use Rattle.pdb_commands.specs.Text.{index_text, quoted}
 use Rattle.pdb_commands.specs.declared.fault.RunFault.{RunFault}
 use Rattle.pdb_commands.specs.declared.fault.RunFault.TheVariants.{Leaf}
@@ -56,11 +56,11 @@ HasLeafFault records index fault =
     × AllByRecursion IsChecked before × (index ≡ first_index + length before) × (first_failing (record_checks bytes) ≡ Some fault)
 
 -- this is the first fault on the way to the types: a fault of the file's type records, else that of the first record whose leaf is at fault
-abbrev pub HasNoTypes : {A : Type 0} → List ℕ → RunFault A → Type 0
-HasNoTypes file (Leaf index fault) = (records : List (List ℕ)) × HasTypeRecords file records × HasLeafFault records index fault
-HasNoTypes file fault = HasNoTypeRecords file fault
+abbrev pub RefusesTypes : {A : Type 0} → List ℕ → RunFault A → Type 0
+RefusesTypes file (Leaf index fault) = (records : List (List ℕ)) × HasTypeRecords file records × HasLeafFault records index fault
+RefusesTypes file fault = RefusesRecords file fault
 
 -- `types` refuses what was read for this layout with this fault: it is one of its type records, else that of the first record whose leaf is at fault
-abbrev pub HasNoTypesRead : {A : Type 0} → LayoutView → RunFault A → Type 0
-HasNoTypesRead layout (Leaf index fault) = (records : List (List ℕ)) × RecordsWereRead layout records × HasLeafFault records index fault
-HasNoTypesRead layout fault = HasNoTypeRecordsRead layout fault
+abbrev pub RefusesTypesRead : {A : Type 0} → LayoutView → RunFault A → Type 0
+RefusesTypesRead layout (Leaf index fault) = (records : List (List ℕ)) × RecordsWereRead layout records × HasLeafFault records index fault
+RefusesTypesRead layout fault = RefusesRecordsRead layout fault

@@ -2,7 +2,7 @@
 
 ghost use Rattle.std.specs.Prelude.{◌≡◌, ◌⊎◌, ◌++◌, true, ℕ, List, OnOk, IfOk, IfErr, string_bytes};
 ghost use Rattle.msf_blocks.specs.Layout.{LayoutView};
-ghost use Rattle.pdb_commands.specs.Check.{ShowsChecked, ShowsCheckedRead, HasNoAccepted, HasNoAcceptedRead, checked_lines};
+ghost use Rattle.pdb_commands.specs.Check.{ShowsChecked, ShowsCheckedRead, RefusesCheck, RefusesCheckRead, checked_lines};
 ghost use Rattle.pdb_commands.specs.Show.{Answers, AnswersAt};
 ghost use Rattle.pdb_merge.specs.Read.{IsAccepted, TypesWereRead};
 
@@ -55,7 +55,7 @@ pub(crate) struct Check;
 impl<A: Allocator + Copy> Show<A> for Check {
     ghost shows = { λ _. ShowsChecked };
 
-    ghost refuses = { λ _. HasNoAccepted };
+    ghost refuses = { λ _. RefusesCheck };
 
     fn text(&self, alloc: A, file: &[u8]) -> Result<String<A>, RunFault<A>> {
         let mut buffer = Buffer::new(alloc);
@@ -67,7 +67,7 @@ impl<A: Allocator + Copy> Show<A> for Check {
 impl<A: Allocator + Copy> ShowAt<A> for Check {
     ghost shows_read = { λ _. ShowsCheckedRead };
 
-    ghost refuses_read = { λ _. HasNoAcceptedRead };
+    ghost refuses_read = { λ _. RefusesCheckRead };
 
     fn refuse_layout(&self, fault: MsfFault) -> RunFault<A> {
         RunFault::from(PdbFault::from(fault))
@@ -105,7 +105,7 @@ pub fn run_check<R: Source, W: Sink, A: Allocator + Copy>(
     limit: u32,
     out: &mut W,
 ) -> Result<(), RunFault<A>>
-    ensures { Answers ShowsChecked HasNoAccepted limit (R.left input.old) (R.left input.new) (R.is_broken input.new) W.taken W.is_broken out.old out.new result }
+    ensures { Answers ShowsChecked RefusesCheck limit (R.left input.old) (R.left input.new) (R.is_broken input.new) W.taken W.is_broken out.old out.new result }
 {
     run(alloc, &Check, input, limit, out)
 }
@@ -121,7 +121,7 @@ pub fn run_check_at<R: ReadAt, W: Sink, A: Allocator + Copy>(
     limit: u32,
     out: &mut W,
 ) -> Result<(), RunFault<A>>
-    ensures { AnswersAt ShowsChecked HasNoAccepted ShowsCheckedRead HasNoAcceptedRead limit (R.bytes input.old) (R.told input.old) (R.is_broken input.new) W.taken W.is_broken out.old out.new result }
+    ensures { AnswersAt ShowsChecked RefusesCheck ShowsCheckedRead RefusesCheckRead limit (R.bytes input.old) (R.told input.old) (R.is_broken input.new) W.taken W.is_broken out.old out.new result }
 {
     run_at(alloc, &Check, input, limit, out)
 }

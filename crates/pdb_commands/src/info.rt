@@ -7,7 +7,7 @@ ghost use Rattle.msf_blocks.specs.Layout.{LayoutView, HasLayout};
 ghost use Rattle.msf_streams.specs.Streams.{WasRead, stream_contents};
 ghost use Rattle.pdb_info.specs.Name.{named};
 ghost use Rattle.pdb_commands.specs.Show.{Answers, AnswersAt};
-ghost use Rattle.pdb_commands.specs.Info.{ShowsInfo, ShowsInfoRead, HasNoInfo, HasNoInfoRead, HasNoInfoStream, HasNoInfoStreamRead, IsInfoFault, IsInfoText, signature_line, guid_line, header_lines, name_line, feature_line};
+ghost use Rattle.pdb_commands.specs.Info.{ShowsInfo, ShowsInfoRead, RefusesInfo, RefusesInfoRead, HasNoInfoStream, HasNoInfoStreamRead, IsInfoFault, IsInfoText, signature_line, guid_line, header_lines, name_line, feature_line};
 
 use crate::bound::INFO_STREAM;
 use crate::fault::RunFault;
@@ -155,7 +155,7 @@ pub(crate) struct Info;
 impl<A: Allocator + Copy> Show<A> for Info {
     ghost shows = { λ _. ShowsInfo };
 
-    ghost refuses = { λ _. HasNoInfo };
+    ghost refuses = { λ _. RefusesInfo };
 
     fn text(&self, alloc: A, file: &[u8]) -> Result<String<A>, RunFault<A>> {
         let mut buffer = Vec::new(alloc);
@@ -168,7 +168,7 @@ impl<A: Allocator + Copy> Show<A> for Info {
 impl<A: Allocator + Copy> ShowAt<A> for Info {
     ghost shows_read = { λ _. ShowsInfoRead };
 
-    ghost refuses_read = { λ _. HasNoInfoRead };
+    ghost refuses_read = { λ _. RefusesInfoRead };
 
     fn refuse_layout(&self, fault: MsfFault) -> RunFault<A> {
         RunFault::from(PdbFault::from(fault))
@@ -206,7 +206,7 @@ pub fn run_info<R: Source, W: Sink, A: Allocator + Copy>(
     limit: u32,
     out: &mut W,
 ) -> Result<(), RunFault<A>>
-    ensures { Answers ShowsInfo HasNoInfo limit (R.left input.old) (R.left input.new) (R.is_broken input.new) W.taken W.is_broken out.old out.new result }
+    ensures { Answers ShowsInfo RefusesInfo limit (R.left input.old) (R.left input.new) (R.is_broken input.new) W.taken W.is_broken out.old out.new result }
 {
     run(alloc, &Info, input, limit, out)
 }
@@ -222,7 +222,7 @@ pub fn run_info_at<R: ReadAt, W: Sink, A: Allocator + Copy>(
     limit: u32,
     out: &mut W,
 ) -> Result<(), RunFault<A>>
-    ensures { AnswersAt ShowsInfo HasNoInfo ShowsInfoRead HasNoInfoRead limit (R.bytes input.old) (R.told input.old) (R.is_broken input.new) W.taken W.is_broken out.old out.new result }
+    ensures { AnswersAt ShowsInfo RefusesInfo ShowsInfoRead RefusesInfoRead limit (R.bytes input.old) (R.told input.old) (R.is_broken input.new) W.taken W.is_broken out.old out.new result }
 {
     run_at(alloc, &Info, input, limit, out)
 }

@@ -5,7 +5,7 @@ ghost use Rattle.std.specs.List.{flat_map};
 ghost use Rattle.cv_leaves.specs.Place.{HasPlaces, IsChecked};
 ghost use Rattle.cv_leaves.specs.Name.{name_of};
 ghost use Rattle.msf_blocks.specs.Layout.{LayoutView};
-ghost use Rattle.pdb_commands.specs.Record.{ShowsRecord, ShowsRecordRead, HasNoRecord, HasNoRecordRead, record_of, bytes_line, place_line, name_lines};
+ghost use Rattle.pdb_commands.specs.Record.{ShowsRecord, ShowsRecordRead, RefusesRecord, RefusesRecordRead, record_of, bytes_line, place_line, name_lines};
 ghost use Rattle.pdb_commands.specs.Show.{Answers, AnswersAt, IsOfText};
 ghost use Rattle.pdb_merge.specs.Read.{HasTypeRecords, RecordsWereRead};
 
@@ -106,8 +106,8 @@ fn indexed_text<A: Allocator + Copy>(
 ) -> Result<String<A>, RunFault<A>>
     ensures value { IfOk result (λ text. (file : List ℕ) → HasTypeRecords file records.now → ShowsRecord index file (string_bytes text)) }
     ensures texts { IfOk result (λ text. (layout : LayoutView) → RecordsWereRead layout records.now → ShowsRecordRead index layout (string_bytes text)) }
-    ensures first { IfErr result (λ fault. (file : List ℕ) → HasTypeRecords file records.now → HasNoRecord index file fault ⊎ (fault ≡ RunFault.Memory)) }
-    ensures refused { IfErr result (λ fault. (layout : LayoutView) → RecordsWereRead layout records.now → HasNoRecordRead index layout fault ⊎ (fault ≡ RunFault.Memory)) }
+    ensures first { IfErr result (λ fault. (file : List ℕ) → HasTypeRecords file records.now → RefusesRecord index file fault ⊎ (fault ≡ RunFault.Memory)) }
+    ensures refused { IfErr result (λ fault. (layout : LayoutView) → RecordsWereRead layout records.now → RefusesRecordRead index layout fault ⊎ (fault ≡ RunFault.Memory)) }
     ensures pure { IfErr result IsOfText }
 {
     let Some(bytes) = record_of(records, index) else {
@@ -128,7 +128,7 @@ pub(crate) struct Record {
 impl<A: Allocator + Copy> Show<A> for Record {
     ghost shows = { λ c. ShowsRecord c.index };
 
-    ghost refuses = { λ c. HasNoRecord c.index };
+    ghost refuses = { λ c. RefusesRecord c.index };
 
     fn text(&self, alloc: A, file: &[u8]) -> Result<String<A>, RunFault<A>> {
         let mut buffer = Buffer::new(alloc);
@@ -140,7 +140,7 @@ impl<A: Allocator + Copy> Show<A> for Record {
 impl<A: Allocator + Copy> ShowAt<A> for Record {
     ghost shows_read = { λ c. ShowsRecordRead c.index };
 
-    ghost refuses_read = { λ c. HasNoRecordRead c.index };
+    ghost refuses_read = { λ c. RefusesRecordRead c.index };
 
     fn refuse_layout(&self, fault: MsfFault) -> RunFault<A> {
         RunFault::from(PdbFault::from(fault))
@@ -182,7 +182,7 @@ pub fn run_record<R: Source, W: Sink, A: Allocator + Copy>(
     index: u32,
     out: &mut W,
 ) -> Result<(), RunFault<A>>
-    ensures { Answers (ShowsRecord index) (HasNoRecord index) limit (R.left input.old) (R.left input.new) (R.is_broken input.new) W.taken W.is_broken out.old out.new result }
+    ensures { Answers (ShowsRecord index) (RefusesRecord index) limit (R.left input.old) (R.left input.new) (R.is_broken input.new) W.taken W.is_broken out.old out.new result }
 {
     run(alloc, &Record { index }, input, limit, out)
 }
@@ -199,7 +199,7 @@ pub fn run_record_at<R: ReadAt, W: Sink, A: Allocator + Copy>(
     index: u32,
     out: &mut W,
 ) -> Result<(), RunFault<A>>
-    ensures { AnswersAt (ShowsRecord index) (HasNoRecord index) (ShowsRecordRead index) (HasNoRecordRead index) limit (R.bytes input.old) (R.told input.old) (R.is_broken input.new) W.taken W.is_broken out.old out.new result }
+    ensures { AnswersAt (ShowsRecord index) (RefusesRecord index) (ShowsRecordRead index) (RefusesRecordRead index) limit (R.bytes input.old) (R.told input.old) (R.is_broken input.new) W.taken W.is_broken out.old out.new result }
 {
     run_at(alloc, &Record { index }, input, limit, out)
 }

@@ -2,7 +2,7 @@
 
 ghost use Rattle.std.specs.Prelude.{◌≡◌, ◌⊎◌, ◌++◌, true, OnOk, IfOk, IfErr, string_bytes};
 ghost use Rattle.tpi_records.specs.Records.{IsRecord};
-ghost use Rattle.pdb_commands.specs.Records.{ShowsRecords, ShowsRecordsRead, HasNoTypeRecords, HasNoTypeRecordsRead, record_line, record_lines};
+ghost use Rattle.pdb_commands.specs.Records.{ShowsRecords, ShowsRecordsRead, RefusesRecords, RefusesRecordsRead, record_line, record_lines};
 ghost use Rattle.pdb_commands.specs.Show.{Answers, AnswersAt};
 
 use crate::fault::RunFault;
@@ -56,7 +56,7 @@ pub(crate) struct Records;
 impl<A: Allocator + Copy> Show<A> for Records {
     ghost shows = { λ _. ShowsRecords };
 
-    ghost refuses = { λ _. HasNoTypeRecords };
+    ghost refuses = { λ _. RefusesRecords };
 
     fn text(&self, alloc: A, file: &[u8]) -> Result<String<A>, RunFault<A>> {
         let mut buffer = Buffer::new(alloc);
@@ -68,7 +68,7 @@ impl<A: Allocator + Copy> Show<A> for Records {
 impl<A: Allocator + Copy> ShowAt<A> for Records {
     ghost shows_read = { λ _. ShowsRecordsRead };
 
-    ghost refuses_read = { λ _. HasNoTypeRecordsRead };
+    ghost refuses_read = { λ _. RefusesRecordsRead };
 
     fn refuse_layout(&self, fault: MsfFault) -> RunFault<A> {
         RunFault::from(PdbFault::from(fault))
@@ -107,7 +107,7 @@ pub fn run_records<R: Source, W: Sink, A: Allocator + Copy>(
     limit: u32,
     out: &mut W,
 ) -> Result<(), RunFault<A>>
-    ensures { Answers ShowsRecords HasNoTypeRecords limit (R.left input.old) (R.left input.new) (R.is_broken input.new) W.taken W.is_broken out.old out.new result }
+    ensures { Answers ShowsRecords RefusesRecords limit (R.left input.old) (R.left input.new) (R.is_broken input.new) W.taken W.is_broken out.old out.new result }
 {
     run(alloc, &Records, input, limit, out)
 }
@@ -123,7 +123,7 @@ pub fn run_records_at<R: ReadAt, W: Sink, A: Allocator + Copy>(
     limit: u32,
     out: &mut W,
 ) -> Result<(), RunFault<A>>
-    ensures { AnswersAt ShowsRecords HasNoTypeRecords ShowsRecordsRead HasNoTypeRecordsRead limit (R.bytes input.old) (R.told input.old) (R.is_broken input.new) W.taken W.is_broken out.old out.new result }
+    ensures { AnswersAt ShowsRecords RefusesRecords ShowsRecordsRead RefusesRecordsRead limit (R.bytes input.old) (R.told input.old) (R.is_broken input.new) W.taken W.is_broken out.old out.new result }
 {
     run_at(alloc, &Records, input, limit, out)
 }

@@ -6,7 +6,7 @@ ghost use Rattle.byte_fields.specs.Check.{Refuses, first_failing};
 ghost use Rattle.byte_io.specs.At.{Breaks, IfKnown, IfOf};
 ghost use Rattle.msf_blocks.specs.Layout.{HasLayout, TextsRefuse, layout_checks};
 ghost use Rattle.pdb_commands.specs.Show.{Answers, AnswersAt, IsOfText, IsOfTexts, IsFaultOfTexts};
-ghost use Rattle.pdb_commands.specs.Streams.{HasNoLayoutRead};
+ghost use Rattle.pdb_commands.specs.Streams.{RefusesLayout};
 ghost use Rattle.pdb_commands.specs.declared.fault.RunFault.{RunFault};
 
 use crate::fault::RunFault;
@@ -43,7 +43,7 @@ pub trait ShowAt<A: Allocator + Copy>: Show<A> {
     /// The fault of the command for a file whose container has this fault.
     fn refuse_layout(&self, fault: MsfFault) -> RunFault<A>
         ensures first { (file : List ℕ) → AreBytes file → Refuses MsfFault.Memory (first_failing (layout_checks file)) fault → Self.refuses self.now file result ⊎ (result ≡ RunFault.Memory) }
-        ensures refused { (told : ℕ) → TextsRefuse told fault → HasNoLayoutRead told result ⊎ (result ≡ RunFault.Memory) }
+        ensures refused { (told : ℕ) → TextsRefuse told fault → RefusesLayout told result ⊎ (result ≡ RunFault.Memory) }
         ensures pure { IsOfText result };
 
     /// Makes the whole text of a file with this layout.

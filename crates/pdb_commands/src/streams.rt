@@ -9,7 +9,7 @@ ghost use Rattle.msf_blocks.specs.BlockNumber.{IsBlockSize};
 ghost use Rattle.msf_blocks.specs.FreeMap.{is_free, map_block_of, blocks_per_map_block};
 ghost use Rattle.msf_blocks.specs.Layout.{HasLayout};
 ghost use Rattle.pdb_commands.specs.Show.{Answers, AnswersAt};
-ghost use Rattle.pdb_commands.specs.Streams.{ShowsStreams, ShowsStreamsRead, HasLayoutFault, HasNoLayout, RefusesNoLayout, HasMap, free_blocks, is_free_by, bit_of, blank_number, container_with, stream_line, stream_lines};
+ghost use Rattle.pdb_commands.specs.Streams.{ShowsStreams, ShowsStreamsRead, HasLayoutFault, RefusesStreams, RefusesStreamsRead, HasMap, free_blocks, is_free_by, bit_of, blank_number, container_with, stream_line, stream_lines};
 
 use crate::fault::RunFault;
 use crate::show::{Show, ShowAt, run, run_at};
@@ -267,7 +267,7 @@ pub(crate) struct Streams;
 impl<A: Allocator + Copy> Show<A> for Streams {
     ghost shows = { λ _. ShowsStreams };
 
-    ghost refuses = { λ _. HasNoLayout };
+    ghost refuses = { λ _. RefusesStreams };
 
     fn text(&self, alloc: A, file: &[u8]) -> Result<String<A>, RunFault<A>> {
         let layout = read_layout(alloc, file)?;
@@ -279,7 +279,7 @@ impl<A: Allocator + Copy> Show<A> for Streams {
 impl<A: Allocator + Copy> ShowAt<A> for Streams {
     ghost shows_read = { λ _. ShowsStreamsRead };
 
-    ghost refuses_read = { λ _. RefusesNoLayout };
+    ghost refuses_read = { λ _. RefusesStreamsRead };
 
     fn refuse_layout(&self, fault: MsfFault) -> RunFault<A> {
         RunFault::from(PdbFault::from(fault))
@@ -321,7 +321,7 @@ pub fn run_streams<R: Source, W: Sink, A: Allocator + Copy>(
     limit: u32,
     out: &mut W,
 ) -> Result<(), RunFault<A>>
-    ensures { Answers ShowsStreams HasNoLayout limit (R.left input.old) (R.left input.new) (R.is_broken input.new) W.taken W.is_broken out.old out.new result }
+    ensures { Answers ShowsStreams RefusesStreams limit (R.left input.old) (R.left input.new) (R.is_broken input.new) W.taken W.is_broken out.old out.new result }
 {
     run(alloc, &Streams, input, limit, out)
 }
@@ -337,7 +337,7 @@ pub fn run_streams_at<R: ReadAt, W: Sink, A: Allocator + Copy>(
     limit: u32,
     out: &mut W,
 ) -> Result<(), RunFault<A>>
-    ensures { AnswersAt ShowsStreams HasNoLayout ShowsStreamsRead RefusesNoLayout limit (R.bytes input.old) (R.told input.old) (R.is_broken input.new) W.taken W.is_broken out.old out.new result }
+    ensures { AnswersAt ShowsStreams RefusesStreams ShowsStreamsRead RefusesStreamsRead limit (R.bytes input.old) (R.told input.old) (R.is_broken input.new) W.taken W.is_broken out.old out.new result }
 {
     run_at(alloc, &Streams, input, limit, out)
 }

@@ -11,7 +11,7 @@ ghost use Rattle.cv_leaves.specs.Name.{name_of};
 ghost use Rattle.cv_leaves.specs.declared.fault.LeafFault.{LeafFault};
 ghost use Rattle.pdb_commands.specs.Show.{Answers, AnswersAt};
 ghost use Rattle.pdb_commands.specs.Text.{index_text};
-ghost use Rattle.pdb_commands.specs.Types.{ShowsTypes, ShowsTypesRead, HasNoTypes, HasNoTypesRead, AreTypeLines, HasLeafFault, type_line, reference, quoted_name, leaf_name};
+ghost use Rattle.pdb_commands.specs.Types.{ShowsTypes, ShowsTypesRead, RefusesTypes, RefusesTypesRead, AreTypeLines, HasLeafFault, type_line, reference, quoted_name, leaf_name};
 
 use crate::fault::RunFault;
 use crate::show::{Show, ShowAt, run, run_at};
@@ -140,7 +140,7 @@ pub(crate) struct Types;
 impl<A: Allocator + Copy> Show<A> for Types {
     ghost shows = { λ _. ShowsTypes };
 
-    ghost refuses = { λ _. HasNoTypes };
+    ghost refuses = { λ _. RefusesTypes };
 
     fn text(&self, alloc: A, file: &[u8]) -> Result<String<A>, RunFault<A>> {
         let mut buffer = Buffer::new(alloc);
@@ -152,7 +152,7 @@ impl<A: Allocator + Copy> Show<A> for Types {
 impl<A: Allocator + Copy> ShowAt<A> for Types {
     ghost shows_read = { λ _. ShowsTypesRead };
 
-    ghost refuses_read = { λ _. HasNoTypesRead };
+    ghost refuses_read = { λ _. RefusesTypesRead };
 
     fn refuse_layout(&self, fault: MsfFault) -> RunFault<A> {
         RunFault::from(PdbFault::from(fault))
@@ -192,7 +192,7 @@ pub fn run_types<R: Source, W: Sink, A: Allocator + Copy>(
     limit: u32,
     out: &mut W,
 ) -> Result<(), RunFault<A>>
-    ensures { Answers ShowsTypes HasNoTypes limit (R.left input.old) (R.left input.new) (R.is_broken input.new) W.taken W.is_broken out.old out.new result }
+    ensures { Answers ShowsTypes RefusesTypes limit (R.left input.old) (R.left input.new) (R.is_broken input.new) W.taken W.is_broken out.old out.new result }
 {
     run(alloc, &Types, input, limit, out)
 }
@@ -208,7 +208,7 @@ pub fn run_types_at<R: ReadAt, W: Sink, A: Allocator + Copy>(
     limit: u32,
     out: &mut W,
 ) -> Result<(), RunFault<A>>
-    ensures { AnswersAt ShowsTypes HasNoTypes ShowsTypesRead HasNoTypesRead limit (R.bytes input.old) (R.told input.old) (R.is_broken input.new) W.taken W.is_broken out.old out.new result }
+    ensures { AnswersAt ShowsTypes RefusesTypes ShowsTypesRead RefusesTypesRead limit (R.bytes input.old) (R.told input.old) (R.is_broken input.new) W.taken W.is_broken out.old out.new result }
 {
     run_at(alloc, &Types, input, limit, out)
 }

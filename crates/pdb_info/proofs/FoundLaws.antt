@@ -91,7 +91,7 @@ number_is stream buffer numbers rest k h small lt =
 -- ---- a stream with names
 
 -- the offsets of the parts of the map, and their numbers
-record Stands (stream : List ℕ) (size : ℕ) (buffer present deleted : List ℕ) (pairs : List Pair) : Type 0 where
+record IsTreeAt (stream : List ℕ) (size : ℕ) (buffer present deleted : List ℕ) (pairs : List Pair) : Type 0 where
   header : 28 ≤ length stream
   buffer_len : number_at 4 stream 28 ≡ length buffer
   buffer_there : buffer_of stream ≡ buffer
@@ -110,7 +110,7 @@ present_is stream present len each =
     rw len (sym (fill_by_all (λ (k : ℕ). number_at 4 stream (present_offset stream + 4 * k)) present (length present) 0 refl each))
 
 -- if a stream has names, its parts are at the offsets where the checks read them
-stands : (stream : List ℕ) (names : List NamedStream) (features : List ℕ) → 28 ≤ length stream → (h : HasNames stream names features) → Stands stream h.size h.buffer h.present h.deleted h.pairs
+stands : (stream : List ℕ) (names : List NamedStream) (features : List ℕ) → 28 ≤ length stream → (h : HasNames stream names features) → IsTreeAt stream h.size h.buffer h.present h.deleted h.pairs
 stands stream names features header h =
     let o = size_offset stream in
     let p = length h.present in
@@ -157,7 +157,7 @@ stands stream names features header h =
 -- ---- the checks
 
 -- the checks before the pairs hold
-map_holds : (stream : List ℕ) (size : ℕ) (buffer present deleted : List ℕ) (pairs : List Pair) → Stands stream size buffer present deleted pairs → present_count present ≡ size → first_failing (map_checks stream) ≡ None
+map_holds : (stream : List ℕ) (size : ℕ) (buffer present deleted : List ℕ) (pairs : List Pair) → IsTreeAt stream size buffer present deleted pairs → present_count present ≡ size → first_failing (map_checks stream) ≡ None
 unfolding map_checks
 map_holds stream size buffer present deleted pairs h counted =
     let o : size_offset stream ≡ 32 + length buffer = omega (arith, size_offset_is stream, h.buffer_len) in
@@ -175,7 +175,7 @@ map_holds stream size buffer present deleted pairs h counted =
     (held_more _ _ _ (eq_true (size_of stream) (present_count (present_of stream)) fact) refl))))))))
 
 -- the checks of each pair hold
-pair_holds : (stream : List ℕ) (size : ℕ) (buffer present deleted : List ℕ) (pairs : List Pair) (k : ℕ) → Stands stream size buffer present deleted pairs → All (HasName buffer) pairs → k < length pairs
+pair_holds : (stream : List ℕ) (size : ℕ) (buffer present deleted : List ℕ) (pairs : List Pair) (k : ℕ) → IsTreeAt stream size buffer present deleted pairs → All (HasName buffer) pairs → k < length pairs
     → first_failing (pair_checks stream k) ≡ None
 unfolding pair_checks
 pair_holds stream size buffer present deleted pairs k h each lt =

@@ -12,7 +12,7 @@ use Rattle.pdb_info.specs.Settings.{SettingsView, AreSettings}
 use Rattle.pdb_info.specs.Written.{info_contents}
 use Rattle.tpi_records.specs.Records.{HasRecords}
 use Rattle.tpi_records.specs.Written.{header_numbers, header_bytes}
-use Rattle.type_trees.specs.Tree.{Tree, tree, nothing, Stands, blank_of, branches_of}
+use Rattle.type_trees.specs.Tree.{Tree, tree, nothing, IsTreeAt, blank_of, branches_of}
 use Rattle.type_trees.specs.Canon.{numbers, text}
 use Rattle.type_trees.specs.Finish.{IsCanonOf}
 use Rattle.type_trees.proofs.TreeLaws.{at_position}
@@ -31,7 +31,7 @@ accepted_bytes : (file : List ℕ) (records : List (List ℕ)) → IsAccepted fi
 accepted_bytes file records is = records_bytes is.has.lists.stream records (stream_is_bytes file is.has.layout 2 is.has.lists.stream is.bytes is.has.lists.is_stream) is.has.lists.has_records
 
 -- the blank of a tree in records of bytes is made of bytes
-standing_bytes : (records : List (List ℕ)) (i : ℕ) (t : Tree) → AllByRecursion AreBytes records → Stands records i t → AreBytes (blank_of t)
+standing_bytes : (records : List (List ℕ)) (i : ℕ) (t : Tree) → AllByRecursion AreBytes records → IsTreeAt records i t → AreBytes (blank_of t)
 standing_bytes records i (tree b bs) bytes (inside, blank, branches) = rw (← blank) (blanked_bytes (get_or records i []) (at_position AreBytes records i bytes inside))
 
 -- the record of a tree is made of bytes if its blank is

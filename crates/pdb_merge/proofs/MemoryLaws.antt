@@ -10,7 +10,7 @@ use Rattle.msf_blocks.proofs.FoundLaws.{layout_holds}
 use Rattle.msf_blocks.proofs.MemoryLaws.{layout_wants_none}
 use Rattle.pdb_merge.specs.Fault.{of_msf, of_pdb, of_join, AddNamesFault}
 use Rattle.pdb_merge.specs.Read.{HasPdbFault}
-use Rattle.pdb_merge.specs.Union.{Hinders}
+use Rattle.pdb_merge.specs.Union.{IsAddFault}
 use Rattle.type_trees.specs.declared.fault.JoinFault.{JoinFault}
 use Rattle.type_trees.specs.declared.fault.JoinFault.TheVariants as join
 use Rattle.pdb_merge.specs.declared.fault.AddFault.{AddFault}
@@ -64,7 +64,7 @@ file_named file pdb.Memory (layout, has, inr (info, bad)) is = bad
 file_named file inner has is = absurd cc
 
 -- so the fault of a file that hinders a merge is not
-pub hinders_named : {T A : Type 0} (before : List (List ℕ)) (limit : ℕ) (file : List ℕ) (answer : Result T (AddFault A)) → IfErr answer (Hinders before limit file) → IfErr answer AddNamesFault
+pub hinders_named : {T A : Type 0} (before : List (List ℕ)) (limit : ℕ) (file : List ℕ) (answer : Result T (AddFault A)) → IfErr answer (IsAddFault before limit file) → IfErr answer AddNamesFault
 hinders_named before limit file (Ok value) is = tt
 hinders_named before limit file (Err (add.Refused inner)) is = file_named file inner is
 hinders_named before limit file (Err (add.TooLarge bytes)) is = tt

@@ -14,7 +14,7 @@ use Rattle.pdb_merge.specs.Read.{HasPdbFault}
 use Rattle.pdb_merge.specs.declared.fault.PdbFault.{PdbFault}
 use Rattle.pdb_merge.specs.declared.fault.PdbFault.TheVariants as pdb
 use Rattle.pdb_merge.specs.Merging.{MergeView, HasTaken}
-use Rattle.pdb_merge.specs.Union.{HasType, HasTypeBelow, AcceptedBelow, Within, Takes, Hinders, CanMerge, CanMergeBelow, Stops, Unites}
+use Rattle.pdb_merge.specs.Union.{HasType, HasTypeBelow, AcceptedBelow, Within, AddsFile, IsAddFault, CanMerge, CanMergeBelow, IsMergeFault, Unites}
 use Rattle.pdb_merge.specs.declared.fault.AddFault.{AddFault}
 use Rattle.pdb_merge.specs.declared.fault.AddFault.TheVariants as add
 use Rattle.pdb_merge.specs.declared.fault.MergeFault.{MergeFault}
@@ -49,7 +49,7 @@ can_still files more end limit inside can = record {
 }
 
 -- what stops some files also stops them with more files after them
-pub stops_still : {A : Type 0} (files more : List (List ℕ)) (limit : ℕ) (fault : MergeFault A) → Stops files limit fault → Stops (files ++ more) limit fault
+pub stops_still : {A : Type 0} (files more : List (List ℕ)) (limit : ℕ) (fault : MergeFault A) → IsMergeFault files limit fault → IsMergeFault (files ++ more) limit fault
 stops_still files more limit (merge.Input file fault) stops = absurd stops
 stops_still files more limit (merge.Refused file fault) (inside, can, refused) =
     let same = same_file files more file inside in
@@ -72,7 +72,7 @@ nothing_taken limit = record { accepted = none_accepted []; unites = none_united
 last_file : (files : List (List ℕ)) (file : List ℕ) → get_or (files ++ file ∷ []) (length files) [] ≡ file
 last_file files file = get_or-append_seam files file [] []
 
-pub taken_more : (before after : MergeView) (files : List (List ℕ)) (file : List ℕ) → Takes before.types after.types file → Within (IsType after.types) after.limit
+pub taken_more : (before after : MergeView) (files : List (List ℕ)) (file : List ℕ) → AddsFile before.types after.types file → Within (IsType after.types) after.limit
     → HasTaken before files → HasTaken after (files ++ file ∷ [])
 taken_more before after files file takes within taken =
     let all = files ++ file ∷ [] in
@@ -87,8 +87,8 @@ taken_more before after files file takes within taken =
     }
 
 -- the fault of a file that is added is the fault of the list of all files
-pub taken_stops : {A : Type 0} (before : MergeView) (files : List (List ℕ)) (file : List ℕ) (inner : AddFault A) → Hinders before.types before.limit file inner
-    → HasTaken before files → Stops (files ++ file ∷ []) before.limit (of_add (length files) inner)
+pub taken_stops : {A : Type 0} (before : MergeView) (files : List (List ℕ)) (file : List ℕ) (inner : AddFault A) → IsAddFault before.types before.limit file inner
+    → HasTaken before files → IsMergeFault (files ++ file ∷ []) before.limit (of_add (length files) inner)
 taken_stops before files file inner hinders taken =
     let all = files ++ file ∷ [] in
     let last = last_file files file in
@@ -104,7 +104,7 @@ pub taken_can : (merge : MergeView) (files : List (List ℕ)) → HasTaken merge
 taken_can merge files taken = all_merged merge.types files (length files) merge.limit refl taken.unites taken.accepted taken.within
 
 -- a file that can be merged with those before it and with more after it is refused only when out of memory
-pub taken_alone : {A : Type 0} (before : MergeView) (files more : List (List ℕ)) (file : List ℕ) (inner : AddFault A) → Hinders before.types before.limit file inner
+pub taken_alone : {A : Type 0} (before : MergeView) (files more : List (List ℕ)) (file : List ℕ) (inner : AddFault A) → IsAddFault before.types before.limit file inner
     → HasTaken before files → CanMerge ((files ++ file ∷ []) ++ more) before.limit → inner ≡ add.Memory
 taken_alone before files more file inner hinders taken can =
     let first = files ++ file ∷ [] in
@@ -118,17 +118,17 @@ taken_alone before files more file inner hinders taken can =
 
 -- ---- after one more file
 
-pub taken_after : {A E : Type 0} (before after : MergeView) (file : List ℕ) (answer : Result A E) → IfOk answer (λ _. Takes before.types after.types file)
+pub taken_after : {A E : Type 0} (before after : MergeView) (file : List ℕ) (answer : Result A E) → IfOk answer (λ _. AddsFile before.types after.types file)
     → IfOk answer (λ _. Within (IsType after.types) after.limit) → IfOk answer (λ _. (files : List (List ℕ)) → HasTaken before files → HasTaken after (files ++ file ∷ []))
 taken_after before after file (Ok done) takes within = λ files taken. taken_more before after files file takes within taken
 taken_after before after file (Err fault) takes within = tt
 
-pub stops_after : {T A : Type 0} (before : MergeView) (file : List ℕ) (answer : Result T (AddFault A)) → IfErr answer (Hinders before.types before.limit file)
-    → IfErr answer (λ fault. (files : List (List ℕ)) → HasTaken before files → Stops (files ++ file ∷ []) before.limit (of_add (length files) fault))
+pub stops_after : {T A : Type 0} (before : MergeView) (file : List ℕ) (answer : Result T (AddFault A)) → IfErr answer (IsAddFault before.types before.limit file)
+    → IfErr answer (λ fault. (files : List (List ℕ)) → HasTaken before files → IsMergeFault (files ++ file ∷ []) before.limit (of_add (length files) fault))
 stops_after before file (Ok done) hinders = tt
 stops_after before file (Err fault) hinders = λ files taken. taken_stops before files file fault hinders taken
 
-pub alone_after : {T A : Type 0} (before : MergeView) (file : List ℕ) (answer : Result T (AddFault A)) → IfErr answer (Hinders before.types before.limit file)
+pub alone_after : {T A : Type 0} (before : MergeView) (file : List ℕ) (answer : Result T (AddFault A)) → IfErr answer (IsAddFault before.types before.limit file)
     → IfErr answer (λ fault. (files more : List (List ℕ)) → HasTaken before files → CanMerge ((files ++ file ∷ []) ++ more) before.limit → fault ≡ add.Memory)
 alone_after before file (Ok done) hinders = tt
 alone_after before file (Err fault) hinders = λ files more taken can. taken_alone before files more file fault hinders taken can
@@ -136,23 +136,23 @@ alone_after before file (Err fault) hinders = λ files more taken can. taken_alo
 -- ---- one more file that is read by position
 
 -- a fault of the file hinders it
-pub pdb_hinders_at : {A : Type 0} (before : List (List ℕ)) (limit : ℕ) (file : List ℕ) (inner : PdbFault A) (outer : AddFault A) → outer ≡ of_pdb inner → HasPdbFault file inner ⊎ (inner ≡ pdb.Memory) → Hinders before limit file outer
+pub pdb_hinders_at : {A : Type 0} (before : List (List ℕ)) (limit : ℕ) (file : List ℕ) (inner : PdbFault A) (outer : AddFault A) → outer ≡ of_pdb inner → HasPdbFault file inner ⊎ (inner ≡ pdb.Memory) → IsAddFault before limit file outer
 pdb_hinders_at before limit file pdb.Memory outer made first = rw made tt
 pdb_hinders_at before limit file inner outer made (inl first) = rw made first
 pdb_hinders_at before limit file inner outer made (inr want) = absurd cc
 
-pub taken_at : {A E : Type 0} (before after : MergeView) (known : Option (List ℕ)) (answer : Result A E) → IfOk answer (λ _. IfKnown known (λ file. Takes before.types after.types file))
+pub taken_at : {A E : Type 0} (before after : MergeView) (known : Option (List ℕ)) (answer : Result A E) → IfOk answer (λ _. IfKnown known (λ file. AddsFile before.types after.types file))
     → IfOk answer (λ _. Within (IsType after.types) after.limit) → IfOk answer (λ _. IfKnown known (λ file. (files : List (List ℕ)) → HasTaken before files → HasTaken after (files ++ file ∷ [])))
 taken_at before after known (Ok done) takes within = λ file is files taken. taken_more before after files file (takes file is) within taken
 taken_at before after known (Err fault) takes within = tt
 
-pub stops_at : {T A : Type 0} (before : MergeView) (known : Option (List ℕ)) (answer : Result T (AtFault (AddFault A))) → IfErr answer (IfOf (λ fault. IfKnown known (λ file. Hinders before.types before.limit file fault)))
-    → IfErr answer (IfOf (λ fault. IfKnown known (λ file. (files : List (List ℕ)) → HasTaken before files → Stops (files ++ file ∷ []) before.limit (of_add (length files) fault))))
+pub stops_at : {T A : Type 0} (before : MergeView) (known : Option (List ℕ)) (answer : Result T (AtFault (AddFault A))) → IfErr answer (IfOf (λ fault. IfKnown known (λ file. IsAddFault before.types before.limit file fault)))
+    → IfErr answer (IfOf (λ fault. IfKnown known (λ file. (files : List (List ℕ)) → HasTaken before files → IsMergeFault (files ++ file ∷ []) before.limit (of_add (length files) fault))))
 stops_at before known (Ok done) hinders = tt
 stops_at before known (Err at.Read) hinders = tt
 stops_at before known (Err (at.Of fault)) hinders = λ file is files taken. taken_stops before files file fault (hinders file is) taken
 
-pub alone_at : {T A : Type 0} (before : MergeView) (known : Option (List ℕ)) (answer : Result T (AtFault (AddFault A))) → IfErr answer (IfOf (λ fault. IfKnown known (λ file. Hinders before.types before.limit file fault)))
+pub alone_at : {T A : Type 0} (before : MergeView) (known : Option (List ℕ)) (answer : Result T (AtFault (AddFault A))) → IfErr answer (IfOf (λ fault. IfKnown known (λ file. IsAddFault before.types before.limit file fault)))
     → IfErr answer (IfOf (λ fault. IfKnown known (λ file. (files more : List (List ℕ)) → HasTaken before files → CanMerge ((files ++ file ∷ []) ++ more) before.limit → fault ≡ add.Memory)))
 alone_at before known (Ok done) hinders = tt
 alone_at before known (Err at.Read) hinders = tt
@@ -164,7 +164,7 @@ split_at files k inside = rw (← take_more files k [] inside) (take-append-drop
 
 -- the fault of a file is that of the whole list
 pub stops_whole : {A : Type 0} (files : List (List ℕ)) (k limit : ℕ) (inner : AddFault A) (outer : MergeFault A) → k < length files → outer ≡ of_add k inner
-    → Stops (take k files ++ get_or files k [] ∷ []) limit (of_add (length (take k files)) inner) → Stops files limit outer
+    → IsMergeFault (take k files ++ get_or files k [] ∷ []) limit (of_add (length (take k files)) inner) → IsMergeFault files limit outer
 stops_whole files k limit inner outer inside made stops =
     let many : length (take k files) ≡ k = length-take-le k files (omega (arith, inside)) in
     let there = stops_still (take k files ++ get_or files k [] ∷ []) (drop (k + 1) files) limit (of_add (length (take k files)) inner) stops in

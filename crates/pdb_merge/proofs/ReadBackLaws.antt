@@ -17,7 +17,7 @@ use Rattle.type_trees.specs.Canon.{text, texts, weight, Canonical}
 use Rattle.type_trees.specs.Finish.{IsCanonOf}
 use Rattle.pdb_merge.specs.Read.{IsAccepted}
 use Rattle.type_trees.specs.Check.{AreTypes}
-use Rattle.type_trees.specs.Tree.{Stands, tree}
+use Rattle.type_trees.specs.Tree.{IsTreeAt, tree}
 use Rattle.type_trees.proofs.ReadLaws.{canonical_reads_back}
 use Rattle.type_trees.proofs.WeightLaws.{weight_of_texts, weight_grows}
 use Rattle.cv_leaves.specs.Place.{IsChecked}
@@ -69,7 +69,7 @@ all_positions : (P : List ℕ → Type 0) (records : List (List ℕ)) → ((i : 
 all_positions P [] each = tt
 all_positions P (r ∷ records) each = (each 0 (omega arith), all_positions P records (λ i inside. each (suc i) (omega (arith, inside))))
 
-in_range : (r : List (List ℕ)) (i : ℕ) (t : Tree) → Stands r i t → i < length r
+in_range : (r : List (List ℕ)) (i : ℕ) (t : Tree) → IsTreeAt r i t → i < length r
 in_range r i (tree b bs) h = h.0
 
 -- the records of a canonical list of trees are records, are types, and have just these trees as types
@@ -91,7 +91,7 @@ canon_back P l canonical members =
         λ p.
             let c = (members t).1 p in
             let here : get_or l c.0 nothing ≡ t = get_or_default l c.0 nothing t c.1 ∙ c.2 in
-            (c.0, subst (Stands (texts l) c.0) here (back.stand c.0 c.1)),
+            (c.0, subst (IsTreeAt (texts l) c.0) here (back.stand c.0 c.1)),
       );
       once = λ i j t at_i at_j.
           let same : get_or l i nothing ≡ get_or l j nothing = sym (back.alone i t at_i) ∙ back.alone j t at_j in

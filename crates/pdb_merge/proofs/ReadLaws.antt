@@ -21,7 +21,7 @@ use Rattle.type_trees.proofs.CycleLaws.{types_sound}
 use Rattle.type_trees.specs.Check.{AreTypes, IsTypeFault}
 use Rattle.type_trees.specs.declared.fault.TypeFault.{TypeFault}
 use Rattle.type_trees.specs.declared.fault.TypeFault.TheVariants as types
-use Rattle.pdb_merge.specs.Read.{IsListed, IsAccepted, HasTypeRecords, ListsRecords, HasLongInfo, HasInfoFault, HasStreamFault, HasRecordsFault, HasPdbFault, IsLayoutFault}
+use Rattle.pdb_merge.specs.Read.{ListsTypes, IsAccepted, HasTypeRecords, ListsRecords, HasLongInfo, HasInfoFault, HasStreamFault, HasRecordsFault, HasPdbFault, IsLayoutFault}
 use Rattle.pdb_merge.specs.Fault.{of_msf, of_stream, of_tpi, of_type}
 use Rattle.pdb_merge.specs.declared.fault.PdbFault.{PdbFault}
 use Rattle.pdb_merge.specs.declared.fault.PdbFault.TheVariants as fault
@@ -56,7 +56,7 @@ type_refused file layout records inner outer has info lists made (inr want) = in
 -- ---- accepted files
 
 -- a file is accepted with the records that it lists, if they are types
-pub listed_accepted : (file : List ℕ) (records : List (List ℕ)) → IsListed file records → AreTypes records → IsAccepted file records
+pub listed_accepted : (file : List ℕ) (records : List (List ℕ)) → ListsTypes file records → AreTypes records → IsAccepted file records
 listed_accepted file records lists types = record { bytes = lists.bytes; has = lists.has; info = lists.info; types = types }
 
 -- a layout has one list of type records

@@ -12,8 +12,8 @@ use Rattle.type_trees.specs.Canon.{weight}
 use Rattle.type_trees.specs.Table.{IsUnion}
 use Rattle.type_trees.specs.declared.fault.JoinFault.{JoinFault}
 use Rattle.type_trees.specs.declared.fault.JoinFault.TheVariants as join
-use Rattle.pdb_merge.specs.Read.{ListsLongInfo, TypesWereRead, HasTypeFaultRead, RefusesRecords, RefusesTypes, RefusesLayout, RefusesTexts}
-use Rattle.pdb_merge.specs.Union.{HindersLayout, HindersRead}
+use Rattle.pdb_merge.specs.Read.{ListsLongInfo, TypesWereRead, HasTypeFaultRead, HasStreamFaultRead, HasPdbFaultRead, IsLayoutFaultRead, HasFaultOfTexts}
+use Rattle.pdb_merge.specs.Union.{IsAddFaultRead, IsAddFaultOfTexts}
 use Rattle.pdb_merge.specs.Fault.{of_msf, of_tpi, of_pdb, of_join}
 use Rattle.pdb_merge.specs.declared.fault.PdbFault.{PdbFault}
 use Rattle.pdb_merge.specs.declared.fault.PdbFault.TheVariants as fault
@@ -21,19 +21,19 @@ use Rattle.pdb_merge.specs.declared.fault.AddFault.{AddFault}
 use Rattle.pdb_merge.proofs.UnionLaws.{union_weighs}
 
 -- texts of a container that are refused
-pub texts_refused : {A : Type 0} (told : ℕ) (inner : MsfFault) (outer : PdbFault A) → outer ≡ of_msf inner → TextsRefuse told inner → RefusesLayout told outer ⊎ (outer ≡ fault.Memory)
+pub texts_refused : {A : Type 0} (told : ℕ) (inner : MsfFault) (outer : PdbFault A) → outer ≡ of_msf inner → TextsRefuse told inner → IsLayoutFaultRead told outer ⊎ (outer ≡ fault.Memory)
 texts_refused told msf.Memory outer made refused = inr made
 texts_refused told inner outer made refused = inl (rw made refused)
 
 -- bytes of stream 2 that are refused
 pub bytes_refused : {A : Type 0} (layout : LayoutView) (stream : List ℕ) (inner : TpiFault) (outer : PdbFault A) → WasRead layout 2 stream → outer ≡ of_tpi inner
-    → IsFirstFault stream inner ⊎ ((inner ≡ tpi.Memory) × ((records : List (List ℕ)) × HasRecords stream records)) → RefusesRecords layout outer ⊎ (outer ≡ fault.Memory)
+    → IsFirstFault stream inner ⊎ ((inner ≡ tpi.Memory) × ((records : List (List ℕ)) × HasRecords stream records)) → HasStreamFaultRead layout outer ⊎ (outer ≡ fault.Memory)
 bytes_refused layout stream tpi.Memory outer read made refused = inr made
 bytes_refused layout stream inner outer read made (inl first) = inl (rw made (stream, read, first))
 bytes_refused layout stream inner outer read made (inr want) = inr (made ∙ ap of_tpi want.0)
 
 -- records that are no types
-pub types_refused : {A : Type 0} (layout : LayoutView) (inner : PdbFault A) → ListsLongInfo layout → HasTypeFaultRead layout inner ⊎ (inner ≡ fault.Memory) → RefusesTypes layout inner ⊎ (inner ≡ fault.Memory)
+pub types_refused : {A : Type 0} (layout : LayoutView) (inner : PdbFault A) → ListsLongInfo layout → HasTypeFaultRead layout inner ⊎ (inner ≡ fault.Memory) → HasPdbFaultRead layout inner ⊎ (inner ≡ fault.Memory)
 types_refused layout inner info (inl first) = inl (inr (info, inr first))
 types_refused layout inner info (inr want) = inr want
 
@@ -41,14 +41,14 @@ types_refused layout inner info (inr want) = inr want
 
 -- a fault of what was read for a layout hinders it
 pub fault_hinders : {A : Type 0} (before : List (List ℕ)) (limit : ℕ) (layout : LayoutView) (inner : PdbFault A) (outer : AddFault A) → outer ≡ of_pdb inner
-    → RefusesTypes layout inner ⊎ (inner ≡ fault.Memory) → HindersLayout before limit layout outer
+    → HasPdbFaultRead layout inner ⊎ (inner ≡ fault.Memory) → IsAddFaultRead before limit layout outer
 fault_hinders before limit layout fault.Memory outer made refused = rw made tt
 fault_hinders before limit layout inner outer made (inl refused) = rw made refused
 fault_hinders before limit layout inner outer made (inr want) = absurd cc
 
 -- so does a fault of the union
 pub union_hinders : {A : Type 0} (before types : List (List ℕ)) (limit : ℕ) (layout : LayoutView) (inner : JoinFault) (outer : AddFault A) → TypesWereRead layout types → outer ≡ of_join inner
-    → ((bytes : ℕ) → inner ≡ join.TooLarge bytes → (limit < bytes) × ((l : List Tree) × IsUnion l before types × (weight l ≡ bytes))) → HindersLayout before limit layout outer
+    → ((bytes : ℕ) → inner ≡ join.TooLarge bytes → (limit < bytes) × ((l : List Tree) × IsUnion l before types × (weight l ≡ bytes))) → IsAddFaultRead before limit layout outer
 union_hinders before types limit layout (join.TooLarge bytes) outer read made large =
     let u = large bytes refl in
     rw made (types, read, union_weighs before types u.1.0 bytes u.1.1 u.1.2, u.0)
@@ -56,7 +56,7 @@ union_hinders before types limit layout join.Memory outer read made large = rw m
 
 -- and a fault of the texts
 pub texts_hinder : {A : Type 0} (before : List (List ℕ)) (limit told : ℕ) (inner : PdbFault A) (outer : AddFault A) → outer ≡ of_pdb inner
-    → RefusesTexts (RefusesTypes {A = A}) told inner ⊎ (inner ≡ fault.Memory) → HindersRead before limit told outer
+    → HasFaultOfTexts (HasPdbFaultRead {A = A}) told inner ⊎ (inner ≡ fault.Memory) → IsAddFaultOfTexts before limit told outer
 texts_hinder before limit told fault.Memory outer made refused = rw made (inl tt)
 texts_hinder before limit told inner outer made (inl (inl refused)) = rw made (inl refused)
 texts_hinder before limit told inner outer made (inl (inr (layout, has, refused))) = rw made (inr (layout, has, refused))

@@ -14,7 +14,7 @@ use Rattle.type_trees.proofs.WeightLaws.{weight-none, weight_grows}
 use Rattle.pdb_merge.specs.Read.{IsAccepted}
 use Rattle.pdb_merge.specs.Fault.{of_join, of_add}
 use Rattle.pdb_merge.specs.Laws.{TypesOfFirst, TypesOfBoth, AnyOrder, RefusedInAnyOrder, OneWeight}
-use Rattle.pdb_merge.specs.Union.{FileHas, HasTypeBelow, HasType, SameFiles, AcceptedBelow, Weighs, Within, Takes, Hinders, CanMerge, CanMergeBelow, Stops, Unites}
+use Rattle.pdb_merge.specs.Union.{FileHas, HasTypeBelow, HasType, SameFiles, AcceptedBelow, Weighs, Within, AddsFile, IsAddFault, CanMerge, CanMergeBelow, IsMergeFault, Unites}
 use Rattle.pdb_merge.specs.declared.fault.AddFault.{AddFault}
 use Rattle.pdb_merge.specs.declared.fault.AddFault.TheVariants as add
 use Rattle.pdb_merge.specs.declared.fault.MergeFault.{MergeFault}
@@ -60,7 +60,7 @@ not_added added before after (inr same) none = same
 
 -- a fault of the union is a fault of the file that is added
 pub join_hinders : {A : Type 0} (before types : List (List ℕ)) (limit : ℕ) (file : List ℕ) (inner : JoinFault) (outer : AddFault A) → IsAccepted file types → outer ≡ of_join inner
-    → ((bytes : ℕ) → inner ≡ join.TooLarge bytes → (limit < bytes) × ((l : List Tree) × IsUnion l before types × (weight l ≡ bytes))) → Hinders before limit file outer
+    → ((bytes : ℕ) → inner ≡ join.TooLarge bytes → (limit < bytes) × ((l : List Tree) × IsUnion l before types × (weight l ≡ bytes))) → IsAddFault before limit file outer
 join_hinders before types limit file (join.TooLarge bytes) outer accepted made large =
     let u = large bytes refl in
     rw made (types, accepted, union_weighs before types u.1.0 bytes u.1.1 u.1.2, u.0)
@@ -88,7 +88,7 @@ joined before types files k unites accepted t = (
   ],
 )
 
-pub united_more : (before after files : List (List ℕ)) (k : ℕ) → Unites before files k → Takes before after (get_or files k []) → Unites after files (k + 1)
+pub united_more : (before after files : List (List ℕ)) (k : ℕ) → Unites before files k → AddsFile before after (get_or files k []) → Unites after files (k + 1)
 united_more before after files k unites takes t =
     let both = joined before takes.records files k unites takes.accepted t in
     (λ h. both.0 ((takes.types t).0 h), λ h. (takes.types t).1 (both.1 h))
@@ -116,7 +116,7 @@ all_merged before files k limit all unites accepted within =
 
 -- the fault of a file that is added stops the merge
 pub hindered : {A : Type 0} (before files : List (List ℕ)) (k limit : ℕ) (inner : AddFault A) (outer : MergeFault A) → k < length files → Unites before files k → AcceptedBelow files k
-    → Within (IsType before) limit → outer ≡ of_add k inner → Hinders before limit (get_or files k []) inner → Stops files limit outer
+    → Within (IsType before) limit → outer ≡ of_add k inner → IsAddFault before limit (get_or files k []) inner → IsMergeFault files limit outer
 hindered before files k limit (add.Refused fault) outer inside unites accepted within made hinders =
     rw made (inside, merged_below before files k limit unites accepted within, hinders)
 hindered before files k limit (add.TooLarge heavy) outer inside unites accepted within made (types, has, weighs, more) =
@@ -130,14 +130,14 @@ hindered before files k limit (add.TooLarge heavy) outer inside unites accepted 
 hindered before files k limit add.Memory outer inside unites accepted within made hinders = rw made tt
 
 -- files that can be merged are not too large
-can_large : (A : Type 0) (files : List (List ℕ)) (limit file heavy : ℕ) → Stops {A = A} files limit (merge.TooLarge file heavy) → CanMerge files limit → ⊥
+can_large : (A : Type 0) (files : List (List ℕ)) (limit file heavy : ℕ) → IsMergeFault {A = A} files limit (merge.TooLarge file heavy) → CanMerge files limit → ⊥
 can_large A files limit file heavy (inside, below, accepted, (l, lists, is), more) can =
     let all = can.within.1 in
     let less = weight_grows l all.0 lists.distinct (λ t c. let there = (lists.members t).0 c in (all.1.members t).1 (there.0, omega (arith, there.1, inside), there.2)) in
     omega (arith, less, is, all.2, can.within.2, more)
 
 -- files that can be merged are refused only when out of memory
-pub stopped_alone : {A : Type 0} (files : List (List ℕ)) (limit : ℕ) (fault : MergeFault A) → Stops files limit fault → CanMerge files limit → fault ≡ merge.Memory
+pub stopped_alone : {A : Type 0} (files : List (List ℕ)) (limit : ℕ) (fault : MergeFault A) → IsMergeFault files limit fault → CanMerge files limit → fault ≡ merge.Memory
 stopped_alone {A = A} files limit (merge.Input file fault) stops can = absurd stops
 stopped_alone {A = A} files limit (merge.Refused file fault) (inside, below, refused) can =
     let has = can.accepted file inside in
@@ -147,7 +147,7 @@ stopped_alone {A = A} files limit merge.Memory stops can = refl
 
 -- a last file that can be merged with those before it is refused only when out of memory
 pub added_alone : {A : Type 0} (before files : List (List ℕ)) (k limit : ℕ) (inner : AddFault A) → k < length files → Unites before files k → AcceptedBelow files k
-    → Within (IsType before) limit → Hinders before limit (get_or files k []) inner → CanMerge files limit → inner ≡ add.Memory
+    → Within (IsType before) limit → IsAddFault before limit (get_or files k []) inner → CanMerge files limit → inner ≡ add.Memory
 added_alone {A = A} before files k limit (add.Refused fault) inside unites accepted within hinders can =
     let has = can.accepted k inside in
     absurd (accepted_unrefused (get_or files k []) has.0 fault has.1 hinders)

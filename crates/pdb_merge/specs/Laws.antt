@@ -3,7 +3,7 @@ use Rattle.std.specs.Prelude.{ℕ, ◌≡◌, ◌≢◌, ◌⊎◌, ◌↔◌, L
 use Rattle.pdb_info.specs.Settings.{SettingsView, AreSettings, record_limit}
 use Rattle.type_trees.specs.Tree.{Tree}
 use Rattle.pdb_merge.specs.Read.{IsAccepted}
-use Rattle.pdb_merge.specs.Union.{FileHas, HasTypeBelow, HasType, SameFiles, SameTypes, Weighs, Within, CanMerge, Stops}
+use Rattle.pdb_merge.specs.Union.{FileHas, HasTypeBelow, HasType, SameFiles, SameTypes, Weighs, Within, CanMerge, IsMergeFault}
 use Rattle.pdb_merge.specs.Merged.{Merged, HoldsJust}
 use Rattle.pdb_merge.specs.declared.fault.MergeFault.{MergeFault}
 use Rattle.pdb_merge.specs.declared.fault.MergeFault.TheVariants as merge
@@ -68,7 +68,7 @@ AnyOrder = (files others : List (List ℕ)) (limit : ℕ) → SameFiles files ot
 abbrev pub RefusedInAnyOrder : Type 0 → Type 0
 RefusedInAnyOrder A =
     (files others : List (List ℕ)) (limit : ℕ) (fault : MergeFault A) → SameFiles files others
-    → Stops files limit fault → fault ≢ merge.Memory → CanMerge others limit → ⊥
+    → IsMergeFault files limit fault → fault ≢ merge.Memory → CanMerge others limit → ⊥
 
 -- the number of bytes that the types of files have together is unique
 abbrev pub OneWeight : Type 0

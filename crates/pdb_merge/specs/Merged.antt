@@ -7,7 +7,7 @@ use Rattle.msf_streams.specs.Put.{AppendsPart}
 use Rattle.pdb_info.specs.Settings.{SettingsView, record_limit}
 use Rattle.pdb_info.specs.Written.{info_contents}
 use Rattle.tpi_records.specs.Written.{header_bytes}
-use Rattle.type_trees.specs.Tree.{Tree, Stands, IsType}
+use Rattle.type_trees.specs.Tree.{Tree, IsTreeAt, IsType}
 use Rattle.type_trees.specs.Finish.{IsCanonOf}
 use Rattle.pdb_merge.specs.Read.{IsAccepted}
 use Rattle.pdb_merge.specs.Union.{HasType, SameTypes, Weighs, CanMerge}
@@ -43,7 +43,7 @@ Merged P settings x = (records : List (List ℕ)) × IsCanonOf records P × (x �
 
 -- each type is at only one position
 abbrev pub StandOnce : List (List ℕ) → Type 0
-StandOnce records = (i j : ℕ) (t : Tree) → Stands records i t → Stands records j t → i ≡ j
+StandOnce records = (i j : ℕ) (t : Tree) → IsTreeAt records i t → IsTreeAt records j t → i ≡ j
 
 -- the file is accepted with these records, which are a canonical list of the types that have P: it has just these types, each once
 pub record HoldsJust (P : Tree → Type 0) (file : List ℕ) (records : List (List ℕ)) : Type 0 where

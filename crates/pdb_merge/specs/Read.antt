@@ -33,7 +33,7 @@ pub record HasTypeRecords (file : List ℕ) (records : List (List ℕ)) : Type 0
   pub lists : ListsRecords file layout records
 
 -- the file lists these records: it is made of bytes, it has these type records and a stream 1 of at least 28 bytes
-pub record IsListed (file : List ℕ) (records : List (List ℕ)) : Type 0 where
+pub record ListsTypes (file : List ℕ) (records : List (List ℕ)) : Type 0 where
   pub bytes : AreBytes file
   pub has : HasTypeRecords file records
   pub info : HasLongInfo file has.layout
@@ -88,16 +88,16 @@ HasPdbFault file inner = (layout : LayoutView) × HasLayout file layout × (HasI
 -- ---- files whose bytes need not be known: the first faults of texts
 
 -- the layout refuses its stream 1: it is missing, or it is too short
-abbrev pub RefusesInfo : {A : Type 0} → LayoutView → PdbFault A → Type 0
-RefusesInfo layout (fault.Stream inner) = (length layout.streams ≤ 1) × (inner ≡ NoStream 1)
-RefusesInfo layout (fault.Info inner) = (info : Listed) × (slice_get layout.streams 1 ≡ Some info) × (bytes_of info.size < 28) × (inner ≡ InfoShort)
-RefusesInfo layout _ = ⊥
+abbrev pub HasInfoFaultRead : {A : Type 0} → LayoutView → PdbFault A → Type 0
+HasInfoFaultRead layout (fault.Stream inner) = (length layout.streams ≤ 1) × (inner ≡ NoStream 1)
+HasInfoFaultRead layout (fault.Info inner) = (info : Listed) × (slice_get layout.streams 1 ≡ Some info) × (bytes_of info.size < 28) × (inner ≡ InfoShort)
+HasInfoFaultRead layout _ = ⊥
 
 -- stream 2 of this layout has this fault: it is missing, or it is the first fault of bytes that are as many as it has
-abbrev pub RefusesRecords : {A : Type 0} → LayoutView → PdbFault A → Type 0
-RefusesRecords layout (fault.Stream inner) = (length layout.streams ≤ 2) × (inner ≡ NoStream 2)
-RefusesRecords layout (fault.Tpi inner) = (stream : List ℕ) × WasRead layout 2 stream × IsFirstFault stream inner
-RefusesRecords layout _ = ⊥
+abbrev pub HasStreamFaultRead : {A : Type 0} → LayoutView → PdbFault A → Type 0
+HasStreamFaultRead layout (fault.Stream inner) = (length layout.streams ≤ 2) × (inner ≡ NoStream 2)
+HasStreamFaultRead layout (fault.Tpi inner) = (stream : List ℕ) × WasRead layout 2 stream × IsFirstFault stream inner
+HasStreamFaultRead layout _ = ⊥
 
 -- there are records for this layout whose first fault this is, as types
 abbrev pub HasTypeFaultRead : {A : Type 0} → LayoutView → PdbFault A → Type 0
@@ -105,14 +105,14 @@ HasTypeFaultRead layout (fault.Type inner) = (records : List (List ℕ)) × Reco
 HasTypeFaultRead layout _ = ⊥
 
 -- this is the first fault on the way to the types of this layout: one of stream 1, else of stream 2, else of a record, else a cycle of records
-abbrev pub RefusesTypes : {A : Type 0} → LayoutView → PdbFault A → Type 0
-RefusesTypes layout inner = RefusesInfo layout inner ⊎ (ListsLongInfo layout × (RefusesRecords layout inner ⊎ HasTypeFaultRead layout inner))
+abbrev pub HasPdbFaultRead : {A : Type 0} → LayoutView → PdbFault A → Type 0
+HasPdbFaultRead layout inner = HasInfoFaultRead layout inner ⊎ (ListsLongInfo layout × (HasStreamFaultRead layout inner ⊎ HasTypeFaultRead layout inner))
 
 -- there are texts of a container, which is said to have so many bytes, with this fault of its layout
-abbrev pub RefusesLayout : {A : Type 0} → ℕ → PdbFault A → Type 0
-RefusesLayout told (fault.Msf inner) = TextsRefuse told inner
-RefusesLayout told _ = ⊥
+abbrev pub IsLayoutFaultRead : {A : Type 0} → ℕ → PdbFault A → Type 0
+IsLayoutFaultRead told (fault.Msf inner) = TextsRefuse told inner
+IsLayoutFaultRead told _ = ⊥
 
 -- there are texts with this fault: those of a layout have it, or else what was read for that layout
-abbrev pub RefusesTexts : {A : Type 0} → (LayoutView → PdbFault A → Type 0) → ℕ → PdbFault A → Type 0
-RefusesTexts Refuses told inner = RefusesLayout told inner ⊎ ((layout : LayoutView) × HasTexts told layout × Refuses layout inner)
+abbrev pub HasFaultOfTexts : {A : Type 0} → (LayoutView → PdbFault A → Type 0) → ℕ → PdbFault A → Type 0
+HasFaultOfTexts Refuses told inner = IsLayoutFaultRead told inner ⊎ ((layout : LayoutView) × HasTexts told layout × Refuses layout inner)

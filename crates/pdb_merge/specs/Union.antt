@@ -6,7 +6,7 @@ use Rattle.byte_io.specs.declared.inputs.InputFault.{InputFault}
 use Rattle.type_trees.specs.Tree.{Tree, IsType}
 use Rattle.type_trees.specs.Canon.{weight}
 use Rattle.msf_blocks.specs.Layout.{LayoutView, HasTexts}
-use Rattle.pdb_merge.specs.Read.{IsAccepted, TypesWereRead, HasPdbFault, RefusesTypes, RefusesLayout}
+use Rattle.pdb_merge.specs.Read.{IsAccepted, TypesWereRead, HasPdbFault, HasPdbFaultRead, IsLayoutFaultRead}
 use Rattle.pdb_merge.specs.declared.fault.AddFault.{AddFault}
 use Rattle.pdb_merge.specs.declared.fault.AddFault.TheVariants as add
 use Rattle.pdb_merge.specs.declared.fault.MergeFault.{MergeFault}
@@ -56,13 +56,13 @@ Within P limit = (bytes : ℕ) × Weighs P bytes × (bytes ≤ limit)
 -- ---- one more file
 
 -- `after` has the types of `before` and of the file, which is accepted
-pub record Takes (before after : List (List ℕ)) (file : List ℕ) : Type 0 where
+pub record AddsFile (before after : List (List ℕ)) (file : List ℕ) : Type 0 where
   pub records : List (List ℕ)
   pub accepted : IsAccepted file records
   pub types : (t : Tree) → IsType after t ↔ (IsType before t ⊎ IsType records t)
 
 -- `after` has the types of `before` and those that were read, of a container that is said to have so many bytes: the texts of a layout, and the records of its stream 2
-pub record TakesRead (before after : List (List ℕ)) (told : ℕ) : Type 0 where
+pub record AddsTexts (before after : List (List ℕ)) (told : ℕ) : Type 0 where
   pub layout : LayoutView
   pub has_texts : HasTexts told layout
   pub records : List (List ℕ)
@@ -70,28 +70,28 @@ pub record TakesRead (before after : List (List ℕ)) (told : ℕ) : Type 0 wher
   pub types : (t : Tree) → IsType after t ↔ (IsType before t ⊎ IsType records t)
 
 -- this is why the file is not added to the types of `before`: it is not accepted, or the union has `bytes` bytes, more than the limit, or it is out of memory
-abbrev pub Hinders : {A : Type 0} → List (List ℕ) → ℕ → List ℕ → AddFault A → Type 0
-Hinders before limit file (add.Refused fault) = HasPdbFault file fault
-Hinders before limit file (add.TooLarge bytes) =
+abbrev pub IsAddFault : {A : Type 0} → List (List ℕ) → ℕ → List ℕ → AddFault A → Type 0
+IsAddFault before limit file (add.Refused fault) = HasPdbFault file fault
+IsAddFault before limit file (add.TooLarge bytes) =
     (records : List (List ℕ)) × IsAccepted file records × Weighs (λ t. IsType before t ⊎ IsType records t) bytes × (limit < bytes)
-Hinders before limit file add.Memory = Unit {0}
+IsAddFault before limit file add.Memory = Unit {0}
 
 -- this is why what was read for this layout is not added to the types of `before`: it has this fault, or the union has `bytes` bytes, more than the limit, or it is out of memory
-abbrev pub HindersLayout : {A : Type 0} → List (List ℕ) → ℕ → LayoutView → AddFault A → Type 0
-HindersLayout before limit layout (add.Refused fault) = RefusesTypes layout fault
-HindersLayout before limit layout (add.TooLarge bytes) =
+abbrev pub IsAddFaultRead : {A : Type 0} → List (List ℕ) → ℕ → LayoutView → AddFault A → Type 0
+IsAddFaultRead before limit layout (add.Refused fault) = HasPdbFaultRead layout fault
+IsAddFaultRead before limit layout (add.TooLarge bytes) =
     (records : List (List ℕ)) × TypesWereRead layout records × Weighs (λ t. IsType before t ⊎ IsType records t) bytes × (limit < bytes)
-HindersLayout before limit layout add.Memory = Unit {0}
+IsAddFaultRead before limit layout add.Memory = Unit {0}
 
 -- there are texts of a container, which is said to have so many bytes, with this fault of its layout
-abbrev pub HindersTexts : {A : Type 0} → ℕ → AddFault A → Type 0
-HindersTexts told (add.Refused fault) = RefusesLayout told fault
-HindersTexts told (add.TooLarge bytes) = ⊥
-HindersTexts told add.Memory = Unit {0}
+abbrev pub IsLayoutAddFault : {A : Type 0} → ℕ → AddFault A → Type 0
+IsLayoutAddFault told (add.Refused fault) = IsLayoutFaultRead told fault
+IsLayoutAddFault told (add.TooLarge bytes) = ⊥
+IsLayoutAddFault told add.Memory = Unit {0}
 
 -- this is why texts are not added to the types of `before`: those of a layout have this fault, or else what was read for that layout
-abbrev pub HindersRead : {A : Type 0} → List (List ℕ) → ℕ → ℕ → AddFault A → Type 0
-HindersRead before limit told fault = HindersTexts told fault ⊎ ((layout : LayoutView) × HasTexts told layout × HindersLayout before limit layout fault)
+abbrev pub IsAddFaultOfTexts : {A : Type 0} → List (List ℕ) → ℕ → ℕ → AddFault A → Type 0
+IsAddFaultOfTexts before limit told fault = IsLayoutAddFault told fault ⊎ ((layout : LayoutView) × HasTexts told layout × IsAddFaultRead before limit layout fault)
 
 -- ---- a list of files
 
@@ -106,12 +106,12 @@ pub record CanMergeBelow (files : List (List ℕ)) (end limit : ℕ) : Type 0 wh
   pub within : Within (HasTypeBelow files end) limit
 
 -- this is why the files are not merged: those before one of them can be merged, and it has this fault, or the union with it has `bytes` bytes, more than the limit; or it is out of memory
-abbrev pub Stops : {A : Type 0} → List (List ℕ) → ℕ → MergeFault A → Type 0
-Stops files limit (merge.Refused file fault) = (file < length files) × CanMergeBelow files file limit × HasPdbFault (get_or files file []) fault
-Stops files limit (merge.TooLarge file bytes) =
+abbrev pub IsMergeFault : {A : Type 0} → List (List ℕ) → ℕ → MergeFault A → Type 0
+IsMergeFault files limit (merge.Refused file fault) = (file < length files) × CanMergeBelow files file limit × HasPdbFault (get_or files file []) fault
+IsMergeFault files limit (merge.TooLarge file bytes) =
     (file < length files) × CanMergeBelow files file limit × AcceptedBelow files (file + 1) × Weighs (HasTypeBelow files (file + 1)) bytes × (limit < bytes)
-Stops files limit merge.Memory = Unit {0}
-Stops files limit (merge.Input file fault) = ⊥
+IsMergeFault files limit merge.Memory = Unit {0}
+IsMergeFault files limit (merge.Input file fault) = ⊥
 
 -- reading comes first: this fault is that of the first input that cannot be read, or every input can be read, or it is out of memory
 abbrev pub ReadsFirst : {A : Type 0} → List (Result (List ℕ) InputFault) → MergeFault A → Type 0

@@ -8,7 +8,7 @@ ghost use Rattle.type_trees.specs.Tree.{IsType};
 ghost use Rattle.type_trees.specs.Finish.{IsCanonOf};
 ghost use Rattle.pdb_info.specs.Settings.{record_limit};
 ghost use Rattle.pdb_merge.specs.Fault.{of_add, of_input, AddNamesFault, NamesFault};
-ghost use Rattle.pdb_merge.specs.Union.{HasType, Within, SameFiles, CanMerge, Stops, ReadsFirst};
+ghost use Rattle.pdb_merge.specs.Union.{HasType, Within, SameFiles, CanMerge, IsMergeFault, ReadsFirst};
 ghost use Rattle.pdb_merge.specs.Merging.{HasTaken};
 
 use crate::buffer::Buffer;
@@ -68,7 +68,7 @@ fn add_opened<F: ReadAt + Drop, S: BuildHasher, A: Allocator + Copy>(
     ensures within { OnOk result (Within (IsType merge.new.types) merge.new.limit) }
     ensures limit { merge.new.limit ≡ merge.old.limit }
     ensures kept { IfErr result (λ _. merge.new ≡ merge.old) }
-    ensures stops { IfErr result (IfOf (λ fault. (file : List ℕ) → HasBytes F.bytes opened.entry file → (files : List (List ℕ)) → HasTaken merge.old files → Stops (files ++ file ∷ []) merge.old.limit (of_add (length files) fault))) }
+    ensures stops { IfErr result (IfOf (λ fault. (file : List ℕ) → HasBytes F.bytes opened.entry file → (files : List (List ℕ)) → HasTaken merge.old files → IsMergeFault (files ++ file ∷ []) merge.old.limit (of_add (length files) fault))) }
     ensures found { IfErr result (IfOf (λ fault. (file : List ℕ) → HasBytes F.bytes opened.entry file → (files more : List (List ℕ)) → HasTaken merge.old files → CanMerge ((files ++ file ∷ []) ++ more) merge.old.limit → fault ≡ AddFault.Memory)) }
     ensures named { IfErr result (IfOf AddNamesFault) }
 {
@@ -102,7 +102,7 @@ fn add_read<I: Inputs, S: BuildHasher, A: Allocator + Copy>(
     ensures read { OnOk result (IfSome (I.known inputs.now) (λ each. CanRead each (input + 1))) }
     ensures limit { merge.new.limit ≡ merge.old.limit }
     ensures found { (files : List (List ℕ)) → Give (I.known inputs.now) files → HasTaken merge.old (take input files) → CanMerge files merge.old.limit → IfErr result (λ fault. fault ≡ MergeFault.Memory) }
-    ensures first { (files : List (List ℕ)) → Give (I.known inputs.now) files → HasTaken merge.old (take input files) → IfErr result (Stops files merge.old.limit) }
+    ensures first { (files : List (List ℕ)) → Give (I.known inputs.now) files → HasTaken merge.old (take input files) → IfErr result (IsMergeFault files merge.old.limit) }
     ensures reads { IfErr result (λ fault. IfSome (I.known inputs.now) (λ each. ReadsFirst each fault)) }
     ensures named { IfErr result NamesFault }
 {
@@ -135,7 +135,7 @@ fn add_input<I: Inputs, S: BuildHasher, A: Allocator + Copy>(
     ensures read { OnOk result (IfSome (I.known inputs.now) (λ each. CanRead each (input + 1))) }
     ensures limit { merge.new.limit ≡ merge.old.limit }
     ensures found { (files : List (List ℕ)) → Give (I.known inputs.now) files → HasTaken merge.old (take input files) → CanMerge files merge.old.limit → IfErr result (λ fault. fault ≡ MergeFault.Memory) }
-    ensures first { (files : List (List ℕ)) → Give (I.known inputs.now) files → HasTaken merge.old (take input files) → IfErr result (Stops files merge.old.limit) }
+    ensures first { (files : List (List ℕ)) → Give (I.known inputs.now) files → HasTaken merge.old (take input files) → IfErr result (IsMergeFault files merge.old.limit) }
     ensures reads { IfErr result (λ fault. IfSome (I.known inputs.now) (λ each. ReadsFirst each fault)) }
     ensures named { IfErr result NamesFault }
 {
@@ -165,7 +165,7 @@ fn add_all<I: Inputs, S: BuildHasher, A: Allocator + Copy>(
     ensures read { OnOk result (IfSome (I.known inputs.now) (λ each. CanRead each (length each))) }
     ensures limit { merge.new.limit ≡ merge.old.limit }
     ensures found { (files : List (List ℕ)) → Give (I.known inputs.now) files → CanMerge files merge.old.limit → IfErr result (λ fault. fault ≡ MergeFault.Memory) }
-    ensures first { (files : List (List ℕ)) → Give (I.known inputs.now) files → IfErr result (Stops files merge.old.limit) }
+    ensures first { (files : List (List ℕ)) → Give (I.known inputs.now) files → IfErr result (IsMergeFault files merge.old.limit) }
     ensures reads { IfErr result (λ fault. IfSome (I.known inputs.now) (λ each. ReadsFirst each fault)) }
     ensures named { IfErr result NamesFault }
 {
@@ -189,7 +189,7 @@ fn list_all<I: Inputs, S: BuildHasher + Drop, A: Allocator + Copy>(
     ensures can { (files : List (List ℕ)) → Give (I.known inputs.now) files → OnOk result (CanMerge files limit) }
     ensures read { OnOk result (IfSome (I.known inputs.now) (λ each. CanRead each (length each))) }
     ensures found { (files : List (List ℕ)) → Give (I.known inputs.now) files → CanMerge files limit → IfErr result (λ fault. fault ≡ MergeFault.Memory) }
-    ensures first { (files : List (List ℕ)) → Give (I.known inputs.now) files → IfErr result (Stops files limit) }
+    ensures first { (files : List (List ℕ)) → Give (I.known inputs.now) files → IfErr result (IsMergeFault files limit) }
     ensures reads { IfErr result (λ fault. IfSome (I.known inputs.now) (λ each. ReadsFirst each fault)) }
     ensures named { IfErr result NamesFault }
 {
@@ -222,7 +222,7 @@ pub fn merge_files<I: Inputs + Drop, S: BuildHasher + Drop, A: Allocator + Copy>
     ensures can { (given : List (List ℕ)) → Give (I.known files) given → OnOk result (CanMerge given (record_limit settings.now)) }
     // Files that can be merged are refused only when out of memory.
     ensures found { (given : List (List ℕ)) → Give (I.known files) given → CanMerge given (record_limit settings.now) → IfErr result (λ fault. fault ≡ MergeFault.Memory) }
-    ensures first { (given : List (List ℕ)) → Give (I.known files) given → IfErr result (Stops given (record_limit settings.now)) }
+    ensures first { (given : List (List ℕ)) → Give (I.known files) given → IfErr result (IsMergeFault given (record_limit settings.now)) }
     // Reading comes first: every file was read, or the fault is that of the first unread file.
     ensures read { OnOk result (IfSome (I.known files) (λ each. CanRead each (length each))) }
     ensures reads { IfErr result (λ fault. IfSome (I.known files) (λ each. ReadsFirst each fault)) }

@@ -8,9 +8,9 @@ ghost use Rattle.type_trees.specs.Check.{AreTypes};
 ghost use Rattle.type_trees.specs.Tree.{Tree, IsType};
 ghost use Rattle.type_trees.specs.Finish.{IsCanonOf};
 ghost use Rattle.pdb_merge.specs.Fault.{of_add, AddNamesFault};
-ghost use Rattle.pdb_merge.specs.Union.{HasType, Within, Takes, TakesRead, Hinders, HindersLayout, HindersRead, CanMerge, Stops};
+ghost use Rattle.pdb_merge.specs.Union.{HasType, Within, AddsFile, AddsTexts, IsAddFault, IsAddFaultRead, IsAddFaultOfTexts, CanMerge, IsMergeFault};
 ghost use Rattle.pdb_merge.specs.Merging.{HasTaken};
-ghost use Rattle.pdb_merge.specs.Read.{IsListed, RecordsWereRead, ListsLongInfo};
+ghost use Rattle.pdb_merge.specs.Read.{ListsTypes, RecordsWereRead, ListsLongInfo};
 
 use crate::buffer::Buffer;
 use crate::fault::AddFault;
@@ -57,13 +57,13 @@ impl<S: BuildHasher, A: Allocator + Copy> Merge<S, A> {
     /// Adds the types of a file that lists these records to the table. Where the records can't be
     /// added as they stand, they are checked for a fault and for an order first.
     fn add_listed(&mut self, alloc: A, records: Records<'_, A>) -> Result<(), AddFault<A>>
-        ensures value { (file : List ℕ) → IsListed file records.entry → IfOk result (λ _. Takes self.old.types self.new.types file) }
+        ensures value { (file : List ℕ) → ListsTypes file records.entry → IfOk result (λ _. AddsFile self.old.types self.new.types file) }
         ensures union { IfOk result (λ _. AreTypes records.entry × ((t : Tree) → IsType self.new.types t ↔ (IsType self.old.types t ⊎ IsType records.entry t))) }
         ensures within { IfOk result (λ _. Within (IsType self.new.types) self.new.limit) }
         ensures limit { self.new.limit ≡ self.old.limit }
         ensures kept { IfErr result (λ _. self.new ≡ self.old) }
-        ensures first { (file : List ℕ) → IsListed file records.entry → IfErr result (Hinders self.old.types self.old.limit file) }
-        ensures refused { (layout : LayoutView) → RecordsWereRead layout records.entry → ListsLongInfo layout → IfErr result (HindersLayout self.old.types self.old.limit layout) }
+        ensures first { (file : List ℕ) → ListsTypes file records.entry → IfErr result (IsAddFault self.old.types self.old.limit file) }
+        ensures refused { (layout : LayoutView) → RecordsWereRead layout records.entry → ListsLongInfo layout → IfErr result (IsAddFaultRead self.old.types self.old.limit layout) }
         ensures named { IfErr result AddNamesFault }
     {
         if self.table.add_records(alloc, &records, self.limit) {
@@ -81,11 +81,11 @@ impl<S: BuildHasher, A: Allocator + Copy> Merge<S, A> {
         file: &[u8],
         buffer: &mut Buffer<A>,
     ) -> Result<(), AddFault<A>>
-        ensures value { IfOk result (λ _. Takes self.old.types self.new.types file.now) }
+        ensures value { IfOk result (λ _. AddsFile self.old.types self.new.types file.now) }
         ensures within { IfOk result (λ _. Within (IsType self.new.types) self.new.limit) }
         ensures limit { self.new.limit ≡ self.old.limit }
         ensures kept { IfErr result (λ _. self.new ≡ self.old) }
-        ensures first { IfErr result (Hinders self.old.types self.old.limit file.now) }
+        ensures first { IfErr result (IsAddFault self.old.types self.old.limit file.now) }
         ensures memory { IfErr result (λ fault. fault ≡ AddFault.Memory → first_failing (layout_checks file.now) ≡ None) }
     {
         let records = buffer.listed(alloc, file)?;
@@ -100,13 +100,13 @@ impl<S: BuildHasher, A: Allocator + Copy> Merge<S, A> {
         buffer: &mut Buffer<A>,
     ) -> Result<(), AtFault<AddFault<A>>>
         ensures keeps { R.bytes input.new ≡ R.bytes input.old }
-        ensures value { IfOk result (λ _. IfKnown (R.bytes input.old) (λ file. Takes self.old.types self.new.types file)) }
-        ensures texts { IfOk result (λ _. TakesRead self.old.types self.new.types (R.told input.old)) }
+        ensures value { IfOk result (λ _. IfKnown (R.bytes input.old) (λ file. AddsFile self.old.types self.new.types file)) }
+        ensures texts { IfOk result (λ _. AddsTexts self.old.types self.new.types (R.told input.old)) }
         ensures within { IfOk result (λ _. Within (IsType self.new.types) self.new.limit) }
         ensures limit { self.new.limit ≡ self.old.limit }
         ensures kept { IfErr result (λ _. self.new ≡ self.old) }
-        ensures first { IfErr result (IfOf (λ fault. IfKnown (R.bytes input.old) (λ file. Hinders self.old.types self.old.limit file fault))) }
-        ensures refused { IfErr result (IfOf (HindersRead self.old.types self.old.limit (R.told input.old))) }
+        ensures first { IfErr result (IfOf (λ fault. IfKnown (R.bytes input.old) (λ file. IsAddFault self.old.types self.old.limit file fault))) }
+        ensures refused { IfErr result (IfOf (IsAddFaultOfTexts self.old.types self.old.limit (R.told input.old))) }
         ensures named { IfErr result (IfOf AddNamesFault) }
         ensures memory { IfErr result (IfOf (λ fault. fault ≡ AddFault.Memory → IfKnown (R.bytes input.old) (λ file. first_failing (layout_checks file) ≡ None))) }
         ensures read { IfErr result (λ fault. fault ≡ AtFault.Read → Breaks (R.bytes input.old) (R.is_broken input.new)) }
@@ -128,11 +128,11 @@ impl<S: BuildHasher, A: Allocator + Copy> Merge<S, A> {
     /// bytes that the types of the files so far and of this one have together. `Memory` is out of
     /// memory. After a fault the merge is unchanged, and the next file may be added.
     pub fn add(&mut self, alloc: A, file: &[u8], buffer: &mut Buffer<A>) -> Result<(), AddFault<A>>
-        ensures value { IfOk result (λ _. Takes self.old.types self.new.types file.now) }
+        ensures value { IfOk result (λ _. AddsFile self.old.types self.new.types file.now) }
         ensures within { IfOk result (λ _. Within (IsType self.new.types) self.new.limit) }
         ensures limit { self.new.limit ≡ self.old.limit }
         ensures kept { IfErr result (λ _. self.new ≡ self.old) }
-        ensures first { IfErr result (Hinders self.old.types self.old.limit file.now) }
+        ensures first { IfErr result (IsAddFault self.old.types self.old.limit file.now) }
         ensures named { IfErr result AddNamesFault }
         // Out of memory comes only where the container has no fault.
         ensures memory { IfErr result (λ fault. fault ≡ AddFault.Memory → first_failing (layout_checks file.now) ≡ None) }
@@ -140,7 +140,7 @@ impl<S: BuildHasher, A: Allocator + Copy> Merge<S, A> {
         // The merge has taken the files so far, and this one.
         ensures taken { IfOk result (λ _. (files : List (List ℕ)) → HasTaken self.old files → HasTaken self.new (files ++ file.now ∷ [])) }
         // The fault is the first fault of the list of all these files.
-        ensures stops { IfErr result (λ fault. (files : List (List ℕ)) → HasTaken self.old files → Stops (files ++ file.now ∷ []) self.old.limit (of_add (length files) fault)) }
+        ensures stops { IfErr result (λ fault. (files : List (List ℕ)) → HasTaken self.old files → IsMergeFault (files ++ file.now ∷ []) self.old.limit (of_add (length files) fault)) }
         // A file that can be merged with them, and with others after it, is refused only when out
         // of memory.
         ensures found { IfErr result (λ fault. (files more : List (List ℕ)) → HasTaken self.old files → CanMerge ((files ++ file.now ∷ []) ++ more) self.old.limit → fault ≡ AddFault.Memory) }
@@ -162,15 +162,15 @@ impl<S: BuildHasher, A: Allocator + Copy> Merge<S, A> {
         buffer: &mut Buffer<A>,
     ) -> Result<(), AtFault<AddFault<A>>>
         ensures keeps { R.bytes input.new ≡ R.bytes input.old }
-        ensures value { IfOk result (λ _. IfKnown (R.bytes input.old) (λ file. Takes self.old.types self.new.types file)) }
+        ensures value { IfOk result (λ _. IfKnown (R.bytes input.old) (λ file. AddsFile self.old.types self.new.types file)) }
         // Whatever is known of the file, the merge has taken the types of the texts that were read.
-        ensures texts { IfOk result (λ _. TakesRead self.old.types self.new.types (R.told input.old)) }
+        ensures texts { IfOk result (λ _. AddsTexts self.old.types self.new.types (R.told input.old)) }
         ensures within { IfOk result (λ _. Within (IsType self.new.types) self.new.limit) }
         ensures limit { self.new.limit ≡ self.old.limit }
         ensures kept { IfErr result (λ _. self.new ≡ self.old) }
-        ensures first { IfErr result (IfOf (λ fault. IfKnown (R.bytes input.old) (λ file. Hinders self.old.types self.old.limit file fault))) }
+        ensures first { IfErr result (IfOf (λ fault. IfKnown (R.bytes input.old) (λ file. IsAddFault self.old.types self.old.limit file fault))) }
         // Whatever is known of the file, a fault is that of the texts that were read.
-        ensures refused { IfErr result (IfOf (HindersRead self.old.types self.old.limit (R.told input.old))) }
+        ensures refused { IfErr result (IfOf (IsAddFaultOfTexts self.old.types self.old.limit (R.told input.old))) }
         ensures named { IfErr result (IfOf AddNamesFault) }
         // Out of memory comes only where the container has no fault.
         ensures memory { IfErr result (IfOf (λ fault. fault ≡ AddFault.Memory → IfKnown (R.bytes input.old) (λ file. first_failing (layout_checks file) ≡ None))) }
@@ -179,7 +179,7 @@ impl<S: BuildHasher, A: Allocator + Copy> Merge<S, A> {
         // The merge has taken the files so far, and this one.
         ensures taken { IfOk result (λ _. IfKnown (R.bytes input.old) (λ file. (files : List (List ℕ)) → HasTaken self.old files → HasTaken self.new (files ++ file ∷ []))) }
         // The fault is the first fault of the list of all these files.
-        ensures stops { IfErr result (IfOf (λ fault. IfKnown (R.bytes input.old) (λ file. (files : List (List ℕ)) → HasTaken self.old files → Stops (files ++ file ∷ []) self.old.limit (of_add (length files) fault)))) }
+        ensures stops { IfErr result (IfOf (λ fault. IfKnown (R.bytes input.old) (λ file. (files : List (List ℕ)) → HasTaken self.old files → IsMergeFault (files ++ file ∷ []) self.old.limit (of_add (length files) fault)))) }
         // A file that can be merged with them, and with others after it, is refused only when out
         // of memory.
         ensures found { IfErr result (IfOf (λ fault. IfKnown (R.bytes input.old) (λ file. (files more : List (List ℕ)) → HasTaken self.old files → CanMerge ((files ++ file ∷ []) ++ more) self.old.limit → fault ≡ AddFault.Memory))) }

@@ -7,7 +7,7 @@ ghost use Rattle.msf_streams.specs.Put.{AppendsPart};
 ghost use Rattle.pdb_info.specs.Settings.{AreSettings, record_limit};
 ghost use Rattle.pdb_merge.specs.Fault.{NamesFault};
 ghost use Rattle.pdb_merge.specs.Merged.{merged_file, WroteFile, Wrote, WrotePart};
-ghost use Rattle.pdb_merge.specs.Union.{SameFiles, CanMerge, Stops, ReadsFirst};
+ghost use Rattle.pdb_merge.specs.Union.{SameFiles, CanMerge, IsMergeFault, ReadsFirst};
 ghost use Rattle.pdb_merge.specs.declared.fault.MergeFault.{MergeFault};
 
 use crate::fault::OutFault;
@@ -78,7 +78,7 @@ pub fn merge_to<I: Inputs + Drop, W: Sink, S: BuildHasher + Drop, A: Allocator +
     ensures can { (given : List (List ℕ)) → Give (I.known files) given → OnOk result (CanMerge given (record_limit settings.now)) }
     // Files that can be merged are refused only when out of memory, or by the sink.
     ensures found { (given : List (List ℕ)) → Give (I.known files) given → CanMerge given (record_limit settings.now) → IfErr result (λ fault. (fault ≡ OutFault.Merge MergeFault.Memory) ⊎ (fault ≡ OutFault.Memory) ⊎ (fault ≡ OutFault.Write)) }
-    ensures first { (given : List (List ℕ)) → Give (I.known files) given → IfErr result (λ fault. (inner : MergeFault A) → fault ≡ OutFault.Merge inner → Stops given (record_limit settings.now) inner) }
+    ensures first { (given : List (List ℕ)) → Give (I.known files) given → IfErr result (λ fault. (inner : MergeFault A) → fault ≡ OutFault.Merge inner → IsMergeFault given (record_limit settings.now) inner) }
     // Reading comes first: every file was read, or the fault is that of the first unread file.
     ensures reads { IfErr result (λ fault. (inner : MergeFault A) → fault ≡ OutFault.Merge inner → IfSome (I.known files) (λ each. ReadsFirst each inner)) }
     ensures named { IfErr result (λ fault. (inner : MergeFault A) → fault ≡ OutFault.Merge inner → NamesFault inner) }

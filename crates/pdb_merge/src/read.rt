@@ -4,7 +4,7 @@ ghost use Rattle.std.specs.Prelude.{◌≡◌, ◌⊎◌, ◌*◌, ◌≤◌, �
 ghost use Rattle.byte_fields.specs.Check.{first_failing};
 ghost use Rattle.msf_blocks.specs.Layout.{LayoutView, layout_checks};
 ghost use Rattle.type_trees.specs.Check.{AreTypes};
-ghost use Rattle.pdb_merge.specs.Read.{IsListed, IsAccepted, HasPdbFault, HasTypeRecords, ListsRecords, HasRecordsFault, HasStreamFault, HasLongInfo, HasInfoFault, RecordsWereRead, HasTypeFaultRead};
+ghost use Rattle.pdb_merge.specs.Read.{ListsTypes, IsAccepted, HasPdbFault, HasTypeRecords, ListsRecords, HasRecordsFault, HasStreamFault, HasLongInfo, HasInfoFault, RecordsWereRead, HasTypeFaultRead};
 
 use crate::buffer::Buffer;
 use crate::fault::PdbFault;
@@ -75,7 +75,7 @@ impl<A: Allocator + Copy> Buffer<A> {
         alloc: A,
         file: &'a [u8],
     ) -> Result<Records<'a, A>, PdbFault<A>>
-        ensures value { IfOk result (IsListed file.now) }
+        ensures value { IfOk result (ListsTypes file.now) }
         ensures first { IfErr result (λ fault. HasPdbFault file.now fault ⊎ (fault ≡ PdbFault.Memory)) }
         ensures memory { IfErr result (λ fault. fault ≡ PdbFault.Memory → first_failing (layout_checks file.now) ≡ None) }
     {
@@ -92,9 +92,9 @@ pub(crate) fn check_types<'a, A: Allocator + Copy>(
     alloc: A,
     records: Records<'a, A>,
 ) -> Result<Types<'a, A>, PdbFault<A>>
-    ensures value { (file : List ℕ) → IsListed file records.entry → IfOk result (IsAccepted file) }
+    ensures value { (file : List ℕ) → ListsTypes file records.entry → IfOk result (IsAccepted file) }
     ensures types { IfOk result (λ types. (types ≡ records.entry) × AreTypes types) }
-    ensures first { (file : List ℕ) → IsListed file records.entry → IfErr result (λ fault. HasPdbFault file fault ⊎ (fault ≡ PdbFault.Memory)) }
+    ensures first { (file : List ℕ) → ListsTypes file records.entry → IfErr result (λ fault. HasPdbFault file fault ⊎ (fault ≡ PdbFault.Memory)) }
     ensures refused { (layout : LayoutView) → RecordsWereRead layout records.entry → IfErr result (λ fault. HasTypeFaultRead layout fault ⊎ (fault ≡ PdbFault.Memory)) }
 {
     Ok(Types::check(alloc, records)?)

@@ -5,7 +5,7 @@ ghost use Rattle.byte_fields.specs.Bytes.{AreBytes};
 ghost use Rattle.byte_fields.specs.Check.{first_failing};
 ghost use Rattle.byte_io.specs.At.{Breaks, IfKnown, IfOf};
 ghost use Rattle.msf_blocks.specs.Layout.{LayoutView, HasLayout, HasTexts, layout_checks};
-ghost use Rattle.pdb_merge.specs.Read.{RecordsWereRead, ListsLongInfo, TypesWereRead, IsListed, IsAccepted, HasPdbFault, HasTypeRecords, ListsRecords, HasRecordsFault, HasStreamFault, HasLongInfo, HasInfoFault, IsLayoutFault, RefusesInfo, RefusesRecords, RefusesTypes, RefusesLayout, RefusesTexts};
+ghost use Rattle.pdb_merge.specs.Read.{RecordsWereRead, ListsLongInfo, TypesWereRead, ListsTypes, IsAccepted, HasPdbFault, HasTypeRecords, ListsRecords, HasRecordsFault, HasStreamFault, HasLongInfo, HasInfoFault, IsLayoutFault, HasInfoFaultRead, HasStreamFaultRead, HasPdbFaultRead, IsLayoutFaultRead, HasFaultOfTexts};
 
 use crate::buffer::Buffer;
 use crate::fault::PdbFault;
@@ -27,7 +27,7 @@ fn check_info<L: Allocator, A: Allocator>(layout: &Layout<L>) -> Result<(), PdbF
     ensures value { (file : List ℕ) → OnOk result (HasLongInfo file layout.now) }
     ensures info { OnOk result (ListsLongInfo layout.now) }
     ensures first { (file : List ℕ) → IfErr result (HasInfoFault file layout.now) }
-    ensures refused { IfErr result (RefusesInfo layout.now) }
+    ensures refused { IfErr result (HasInfoFaultRead layout.now) }
 {
     let Some(size) = layout.size(INFO_STREAM) else {
         return Err(PdbFault::Stream(StreamFault::NoStream(INFO_STREAM)));
@@ -48,7 +48,7 @@ fn layout_at<R: ReadAt, A: Allocator + Copy>(
     ensures value { IfOk result (λ layout. IfKnown (R.bytes input.old) (λ file. HasLayout file layout)) }
     ensures texts { IfOk result (HasTexts (R.told input.old)) }
     ensures first { IfErr result (IfOf (λ fault. IfKnown (R.bytes input.old) (λ file. IsLayoutFault file fault ⊎ (fault ≡ PdbFault.Memory)))) }
-    ensures refused { IfErr result (IfOf (λ fault. RefusesLayout (R.told input.old) fault ⊎ (fault ≡ PdbFault.Memory))) }
+    ensures refused { IfErr result (IfOf (λ fault. IsLayoutFaultRead (R.told input.old) fault ⊎ (fault ≡ PdbFault.Memory))) }
     ensures memory { IfErr result (IfOf (λ fault. fault ≡ PdbFault.Memory → IfKnown (R.bytes input.old) (λ file. first_failing (layout_checks file) ≡ None))) }
     ensures read { IfErr result (λ fault. fault ≡ AtFault.Read → Breaks (R.bytes input.old) (R.is_broken input.new)) }
 {
@@ -73,7 +73,7 @@ impl<A: Allocator + Copy> Buffer<A> {
         ensures value { IfOk result (λ records. IfKnown (R.bytes input.old) (λ file. ListsRecords file layout.now records)) }
         ensures texts { IfOk result (RecordsWereRead layout.now) }
         ensures first { IfErr result (IfOf (λ fault. IfKnown (R.bytes input.old) (λ file. HasStreamFault file layout.now fault ⊎ (fault ≡ PdbFault.Memory)))) }
-        ensures refused { IfErr result (IfOf (λ fault. RefusesRecords layout.now fault ⊎ (fault ≡ PdbFault.Memory))) }
+        ensures refused { IfErr result (IfOf (λ fault. HasStreamFaultRead layout.now fault ⊎ (fault ≡ PdbFault.Memory))) }
         ensures read { IfErr result (λ fault. fault ≡ AtFault.Read → Breaks (R.bytes input.old) (R.is_broken input.new)) }
     {
         match gather_at(input, layout, TPI_STREAM, &mut self.bytes) {
@@ -99,7 +99,7 @@ impl<A: Allocator + Copy> Buffer<A> {
         ensures value { IfOk result (λ records. IfKnown (R.bytes input.old) (λ file. HasTypeRecords file records)) }
         ensures texts { IfOk result (RecordsWereRead layout.now) }
         ensures first { IfErr result (IfOf (λ fault. IfKnown (R.bytes input.old) (λ file. HasRecordsFault file fault ⊎ (fault ≡ PdbFault.Memory)))) }
-        ensures refused { IfErr result (IfOf (λ fault. RefusesRecords layout.now fault ⊎ (fault ≡ PdbFault.Memory))) }
+        ensures refused { IfErr result (IfOf (λ fault. HasStreamFaultRead layout.now fault ⊎ (fault ≡ PdbFault.Memory))) }
         ensures read { IfErr result (λ fault. fault ≡ AtFault.Read → Breaks (R.bytes input.old) (R.is_broken input.new)) }
     {
         let records = self.stream_records_at(alloc, input, layout)?;
@@ -117,7 +117,7 @@ impl<A: Allocator + Copy> Buffer<A> {
         ensures value { IfOk result (λ records. IfKnown (R.bytes input.old) (λ file. HasTypeRecords file records)) }
         ensures texts { IfOk result (λ records. (layout : LayoutView) × HasTexts (R.told input.old) layout × RecordsWereRead layout records) }
         ensures first { IfErr result (IfOf (λ fault. IfKnown (R.bytes input.old) (λ file. HasRecordsFault file fault ⊎ (fault ≡ PdbFault.Memory)))) }
-        ensures refused { IfErr result (IfOf (λ fault. RefusesTexts RefusesRecords (R.told input.old) fault ⊎ (fault ≡ PdbFault.Memory))) }
+        ensures refused { IfErr result (IfOf (λ fault. HasFaultOfTexts HasStreamFaultRead (R.told input.old) fault ⊎ (fault ≡ PdbFault.Memory))) }
         ensures memory { IfErr result (IfOf (λ fault. fault ≡ PdbFault.Memory → IfKnown (R.bytes input.old) (λ file. first_failing (layout_checks file) ≡ None))) }
         ensures read { IfErr result (λ fault. fault ≡ AtFault.Read → Breaks (R.bytes input.old) (R.is_broken input.new)) }
     {
@@ -136,10 +136,10 @@ impl<A: Allocator + Copy> Buffer<A> {
         requires bytes { IfKnown (R.bytes input.old) AreBytes }
         requires layout { IfKnown (R.bytes input.old) (λ file. HasLayout file layout.now) }
         ensures keeps { R.bytes input.new ≡ R.bytes input.old }
-        ensures value { IfOk result (λ records. IfKnown (R.bytes input.old) (λ file. IsListed file records)) }
+        ensures value { IfOk result (λ records. IfKnown (R.bytes input.old) (λ file. ListsTypes file records)) }
         ensures texts { IfOk result (λ records. RecordsWereRead layout.now records × ListsLongInfo layout.now) }
         ensures first { IfErr result (IfOf (λ fault. IfKnown (R.bytes input.old) (λ file. HasPdbFault file fault ⊎ (fault ≡ PdbFault.Memory)))) }
-        ensures refused { IfErr result (IfOf (λ fault. RefusesTypes layout.now fault ⊎ (fault ≡ PdbFault.Memory))) }
+        ensures refused { IfErr result (IfOf (λ fault. HasPdbFaultRead layout.now fault ⊎ (fault ≡ PdbFault.Memory))) }
         ensures read { IfErr result (λ fault. fault ≡ AtFault.Read → Breaks (R.bytes input.old) (R.is_broken input.new)) }
     {
         if let Err(fault) = check_info(layout) {
@@ -157,10 +157,10 @@ impl<A: Allocator + Copy> Buffer<A> {
         input: &mut R,
     ) -> Result<Records<'a, A>, AtFault<PdbFault<A>>>
         ensures keeps { R.bytes input.new ≡ R.bytes input.old }
-        ensures value { IfOk result (λ records. IfKnown (R.bytes input.old) (λ file. IsListed file records)) }
+        ensures value { IfOk result (λ records. IfKnown (R.bytes input.old) (λ file. ListsTypes file records)) }
         ensures texts { IfOk result (λ records. (layout : LayoutView) × HasTexts (R.told input.old) layout × RecordsWereRead layout records × ListsLongInfo layout) }
         ensures first { IfErr result (IfOf (λ fault. IfKnown (R.bytes input.old) (λ file. HasPdbFault file fault ⊎ (fault ≡ PdbFault.Memory)))) }
-        ensures refused { IfErr result (IfOf (λ fault. RefusesTexts RefusesTypes (R.told input.old) fault ⊎ (fault ≡ PdbFault.Memory))) }
+        ensures refused { IfErr result (IfOf (λ fault. HasFaultOfTexts HasPdbFaultRead (R.told input.old) fault ⊎ (fault ≡ PdbFault.Memory))) }
         ensures memory { IfErr result (IfOf (λ fault. fault ≡ PdbFault.Memory → IfKnown (R.bytes input.old) (λ file. first_failing (layout_checks file) ≡ None))) }
         ensures read { IfErr result (λ fault. fault ≡ AtFault.Read → Breaks (R.bytes input.old) (R.is_broken input.new)) }
     {
@@ -188,7 +188,7 @@ pub fn read_records_of<'a, R: ReadAt, A: Allocator + Copy>(
     ensures texts { IfOk result (RecordsWereRead layout.now) }
     ensures first { IfErr result (IfOf (λ fault. IfKnown (R.bytes input.old) (λ file. HasRecordsFault file fault ⊎ (fault ≡ PdbFault.Memory)))) }
     // Whatever is known of the file, a fault is that of the texts that were read.
-    ensures refused { IfErr result (IfOf (λ fault. RefusesRecords layout.now fault ⊎ (fault ≡ PdbFault.Memory))) }
+    ensures refused { IfErr result (IfOf (λ fault. HasStreamFaultRead layout.now fault ⊎ (fault ≡ PdbFault.Memory))) }
     ensures read { IfErr result (λ fault. fault ≡ AtFault.Read → Breaks (R.bytes input.old) (R.is_broken input.new)) }
 {
     buffer.records_of(alloc, input, layout)
@@ -214,7 +214,7 @@ pub fn read_types_of<'a, R: ReadAt, A: Allocator + Copy>(
     ensures texts { IfOk result (TypesWereRead layout.now) }
     ensures first { IfErr result (IfOf (λ fault. IfKnown (R.bytes input.old) (λ file. HasPdbFault file fault ⊎ (fault ≡ PdbFault.Memory)))) }
     // Whatever is known of the file, a fault is that of the texts that were read.
-    ensures refused { IfErr result (IfOf (λ fault. RefusesTypes layout.now fault ⊎ (fault ≡ PdbFault.Memory))) }
+    ensures refused { IfErr result (IfOf (λ fault. HasPdbFaultRead layout.now fault ⊎ (fault ≡ PdbFault.Memory))) }
     ensures read { IfErr result (λ fault. fault ≡ AtFault.Read → Breaks (R.bytes input.old) (R.is_broken input.new)) }
 {
     let records = buffer.listed_of(alloc, input, layout)?;
@@ -243,7 +243,7 @@ pub fn read_records_at<'a, R: ReadAt, A: Allocator + Copy>(
     ensures found { IfErr result (λ fault. IfKnown (R.bytes input.old) (λ file. (records : List (List ℕ)) → HasTypeRecords file records → fault ≡ AtFault.Of PdbFault.Memory)) }
     ensures first { IfErr result (IfOf (λ fault. IfKnown (R.bytes input.old) (λ file. HasRecordsFault file fault ⊎ (fault ≡ PdbFault.Memory)))) }
     // Whatever is known of the file, a fault is that of the texts that were read.
-    ensures refused { IfErr result (IfOf (λ fault. RefusesTexts RefusesRecords (R.told input.old) fault ⊎ (fault ≡ PdbFault.Memory))) }
+    ensures refused { IfErr result (IfOf (λ fault. HasFaultOfTexts HasStreamFaultRead (R.told input.old) fault ⊎ (fault ≡ PdbFault.Memory))) }
     // Out of memory comes only where the container has no fault.
     ensures memory { IfErr result (IfOf (λ fault. fault ≡ PdbFault.Memory → IfKnown (R.bytes input.old) (λ file. first_failing (layout_checks file) ≡ None))) }
     ensures read { IfErr result (λ fault. fault ≡ AtFault.Read → Breaks (R.bytes input.old) (R.is_broken input.new)) }
@@ -261,7 +261,7 @@ fn types_at<'a, R: ReadAt, A: Allocator + Copy>(
     ensures value { IfOk result (λ types. IfKnown (R.bytes input.old) (λ file. IsAccepted file types)) }
     ensures texts { IfOk result (λ types. (layout : LayoutView) × HasTexts (R.told input.old) layout × TypesWereRead layout types) }
     ensures first { IfErr result (IfOf (λ fault. IfKnown (R.bytes input.old) (λ file. HasPdbFault file fault ⊎ (fault ≡ PdbFault.Memory)))) }
-    ensures refused { IfErr result (IfOf (λ fault. RefusesTexts RefusesTypes (R.told input.old) fault ⊎ (fault ≡ PdbFault.Memory))) }
+    ensures refused { IfErr result (IfOf (λ fault. HasFaultOfTexts HasPdbFaultRead (R.told input.old) fault ⊎ (fault ≡ PdbFault.Memory))) }
     ensures memory { IfErr result (IfOf (λ fault. fault ≡ PdbFault.Memory → IfKnown (R.bytes input.old) (λ file. first_failing (layout_checks file) ≡ None))) }
     ensures read { IfErr result (λ fault. fault ≡ AtFault.Read → Breaks (R.bytes input.old) (R.is_broken input.new)) }
 {
@@ -292,7 +292,7 @@ pub fn read_types_at<'a, R: ReadAt, A: Allocator + Copy>(
     ensures found { IfErr result (λ fault. IfKnown (R.bytes input.old) (λ file. (records : List (List ℕ)) → IsAccepted file records → fault ≡ AtFault.Of PdbFault.Memory)) }
     ensures first { IfErr result (IfOf (λ fault. IfKnown (R.bytes input.old) (λ file. HasPdbFault file fault ⊎ (fault ≡ PdbFault.Memory)))) }
     // Whatever is known of the file, a fault is that of the texts that were read.
-    ensures refused { IfErr result (IfOf (λ fault. RefusesTexts RefusesTypes (R.told input.old) fault ⊎ (fault ≡ PdbFault.Memory))) }
+    ensures refused { IfErr result (IfOf (λ fault. HasFaultOfTexts HasPdbFaultRead (R.told input.old) fault ⊎ (fault ≡ PdbFault.Memory))) }
     // Out of memory comes only where the container has no fault.
     ensures memory { IfErr result (IfOf (λ fault. fault ≡ PdbFault.Memory → IfKnown (R.bytes input.old) (λ file. first_failing (layout_checks file) ≡ None))) }
     ensures read { IfErr result (λ fault. fault ≡ AtFault.Read → Breaks (R.bytes input.old) (R.is_broken input.new)) }

@@ -13,7 +13,7 @@ use Rattle.tpi_records.specs.Records.{IsRecord}
 use Rattle.cv_leaves.specs.Place.{IsChecked}
 use Rattle.text_set.specs.TextSet.{Holds}
 use Rattle.cv_leaves.specs.References.{references, blanked, filled}
-use Rattle.type_trees.specs.Tree.{Tree, Branches, tree, no_branch, simple, branch, nothing, Stands, AreBranches, IsType, IsRanked, NamesLower}
+use Rattle.type_trees.specs.Tree.{Tree, Branches, tree, no_branch, simple, branch, nothing, IsTreeAt, AreBranches, IsType, IsRanked, NamesLower}
 use Rattle.type_trees.specs.Graph.{graph_of}
 use Rattle.type_trees.specs.Canon.{weight}
 use Rattle.byte_fields.specs.Bytes.{AreBytes}
@@ -35,7 +35,7 @@ use Rattle.tpi_records.specs.Header.{first_index}
 pub record Adds (records before after : List (List ℕ)) (f : ℕ → ℕ) (done : ℕ → Type 0) : Type 0 where
   pub table : IsTable after
   pub inside : (k : ℕ) → done k → f k < length after
-  pub stand : (k : ℕ) (t : Tree) → done k → Stands records k t → Stands after (f k) t
+  pub stand : (k : ℕ) (t : Tree) → done k → IsTreeAt records k t → IsTreeAt after (f k) t
   pub front : StartsWith after before
   pub others : (t : Tree) → IsType after t → IsType before t ⊎ IsType records t
 
@@ -90,7 +90,7 @@ renumbered_names after f r checked few h =
 
 mutual
   -- a tree at a position of the first records is also there without the others
-  pub stands_within : (r s : List (List ℕ)) (i : ℕ) (t : Tree) → IsRanked r (λ k. k) → i < length r → Stands (r ++ s) i t → Stands r i t
+  pub stands_within : (r s : List (List ℕ)) (i : ℕ) (t : Tree) → IsRanked r (λ k. k) → i < length r → IsTreeAt (r ++ s) i t → IsTreeAt r i t
   stands_within r s i (tree b bs) ranked lt h =
       let at : get_or (r ++ s) i [] ≡ get_or r i [] = get_or-append r s [] i lt in
       (lt, ap blanked (sym at) ∙ h.1, branches_within r s i (references (get_or r i [])) bs ranked (ranked i lt) (subst (λ (x : List ℕ). AreBranches (r ++ s) (references x) bs) at h.2))
@@ -128,7 +128,7 @@ starts_whole front list starts = ap (λ xs. xs ++ drop (length front) list) (sym
 -- a type of the first records is a type of all
 pub front_stands : (before after : List (List ℕ)) (t : Tree) → StartsWith after before → IsType before t → IsType after t
 front_stands before after t front (i, stands) =
-    (i, subst (λ (x : List (List ℕ)). Stands x i t) (starts_whole before after front) (stands_still before (drop (length before) after) i t stands))
+    (i, subst (λ (x : List (List ℕ)). IsTreeAt x i t) (starts_whole before after front) (stands_still before (drop (length before) after) i t stands))
 
 -- ---- One more record
 
@@ -137,7 +137,7 @@ done_placed records before after f done [] adds names = tt
 done_placed records before after f done (n ∷ ns) adds names = (elim names.0 [ inl small ↦ inl small | inr there ↦ inr (adds.inside (n - first_index) there) ], done_placed records before after f done ns adds names.1)
 
 done_stands : (records before after grown : List (List ℕ)) (f : ℕ → ℕ) (done : ℕ → Type 0) (ns : List ℕ) → Adds records before after f done → length after ≤ 4294963200
-    → ((k : ℕ) (t : Tree) → Stands after k t → Stands grown k t) → NamesDone done ns → EachNamed records (λ k u. (f k < 4294963200) × Stands grown (f k) u) ns
+    → ((k : ℕ) (t : Tree) → IsTreeAt after k t → IsTreeAt grown k t) → NamesDone done ns → EachNamed records (λ k u. (f k < 4294963200) × IsTreeAt grown (f k) u) ns
 done_stands records before after grown f done [] adds few still names = tt
 done_stands records before after grown f done (n ∷ ns) adds few still names = (
   λ large u stands. elim names.0 [
@@ -149,7 +149,7 @@ done_stands records before after grown f done (n ∷ ns) adds few still names = 
 
 -- the tree of a record is where its renumbered record is in the grown table
 row_stands : (records before after grown : List (List ℕ)) (f : ℕ → ℕ) (done : ℕ → Type 0) (i j : ℕ) (t : Tree) → IsChecked (get_or records i []) → Adds records before after f done → length after ≤ 4294963200
-    → ((k : ℕ) (u : Tree) → Stands after k u → Stands grown k u) → NamesDone done (references (get_or records i [])) → j < length grown → get_or grown j [] ≡ renumbered f (get_or records i []) → Stands records i t → Stands grown j t
+    → ((k : ℕ) (u : Tree) → IsTreeAt after k u → IsTreeAt grown k u) → NamesDone done (references (get_or records i [])) → j < length grown → get_or grown j [] ≡ renumbered f (get_or records i []) → IsTreeAt records i t → IsTreeAt grown j t
 row_stands records before after grown f done i j t checked adds few still names inside at stands =
     renumbered_stands records grown f i j t checked inside (at ∙ renumbered-is f (get_or records i [])) (done_stands records before after grown f done (references (get_or records i [])) adds few still names) stands
 
@@ -165,7 +165,7 @@ grown_table records before after grown f done r adds few framed checked bytes na
 ]
 
 -- each tree stays at its position after the table has grown
-still_stands : (after grown : List (List ℕ)) (y : List ℕ) → Holds after grown y → (k : ℕ) (t : Tree) → Stands after k t → Stands grown k t
+still_stands : (after grown : List (List ℕ)) (y : List ℕ) → Holds after grown y → (k : ℕ) (t : Tree) → IsTreeAt after k t → IsTreeAt grown k t
 still_stands after grown y holds k t stands = elim holds [ inl same ↦ rw same stands | inr more ↦ rw more.0 (stands_still after (y ∷ []) k t stands) ]
 
 grown_long : (after grown : List (List ℕ)) (y : List ℕ) → Holds after grown y → length after ≤ length grown
@@ -173,12 +173,12 @@ grown_long after grown y holds = elim holds [ inl same ↦ rw same (omega arith)
 
 -- one more record is done, if all that it names was done before
 pub adds_more : (records before after grown : List (List ℕ)) (f g : ℕ → ℕ) (done more : ℕ → Type 0) (i j : ℕ) → Adds records before after f done → length after ≤ 4294963200 → IsRecord (get_or records i []) → IsChecked (get_or records i [])
-    → ((t : Tree) × Stands records i t) → NamesDone done (references (get_or records i [])) → AreBytes (renumbered f (get_or records i [])) → Holds after grown (renumbered f (get_or records i []))
+    → ((t : Tree) × IsTreeAt records i t) → NamesDone done (references (get_or records i [])) → AreBytes (renumbered f (get_or records i [])) → Holds after grown (renumbered f (get_or records i []))
     → j < length grown → get_or grown j [] ≡ renumbered f (get_or records i []) → ((k : ℕ) → done k → g k ≡ f k) → g i ≡ j → ((k : ℕ) → more k → done k ⊎ (k ≡ i)) → Adds records before grown g more
 adds_more records before after grown f g done more i j adds few framed checked there names bytes holds inside at kept put either =
     let still = still_stands after grown (renumbered f (get_or records i [])) holds in
     let long = grown_long after grown (renumbered f (get_or records i [])) holds in
-    let row : (p : ℕ) (t : Tree) → p < length grown → get_or grown p [] ≡ renumbered f (get_or records i []) → Stands records i t → Stands grown p t = λ p t p_in p_at stands.
+    let row : (p : ℕ) (t : Tree) → p < length grown → get_or grown p [] ≡ renumbered f (get_or records i []) → IsTreeAt records i t → IsTreeAt grown p t = λ p t p_in p_at stands.
     row_stands records before after grown f done i p t checked adds few still names p_in p_at stands in
     record {
       table = grown_table records before after grown f done (get_or records i []) adds few framed checked bytes names holds;
@@ -199,9 +199,9 @@ adds_more records before after grown f g done more i j adds few framed checked t
               let len : length grown ≡ length after + 1 = rw new.0 (length-append after (renumbered f (get_or records i []) ∷ [])) in
               let last : h.0 ≡ length after = omega (arith, high, len, in_range grown h.0 t h.1) in
               let here : get_or grown (length after) [] ≡ renumbered f (get_or records i []) = rw new.0 (get_or-append_seam after (renumbered f (get_or records i [])) [] []) in
-              let own : Stands grown (length after) there.0 = row (length after) there.0 (omega (arith, len)) here there.1 in
-              let same : there.0 ≡ t = one grown (length after) there.0 t own (subst (λ (k : ℕ). Stands grown k t) last h.1) in
-              inr (i, subst (Stands records i) same there.1)
+              let own : IsTreeAt grown (length after) there.0 = row (length after) there.0 (omega (arith, len)) here there.1 in
+              let same : there.0 ≡ t = one grown (length after) there.0 t own (subst (λ (k : ℕ). IsTreeAt grown k t) last h.1) in
+              inr (i, subst (IsTreeAt records i) same there.1)
         ]
       ];
     }
@@ -238,7 +238,7 @@ union_weighs before types after table same =
         members = λ t. (
           λ h.
               let e : get_or s.0 h.0 nothing ≡ t = get_or_default s.0 h.0 nothing t h.1 ∙ h.2 in
-              (same t).0 (h.0, subst (Stands after h.0) e (s.2 h.0 (omega (arith, h.1, s.1)))),
+              (same t).0 (h.0, subst (IsTreeAt after h.0) e (s.2 h.0 (omega (arith, h.1, s.1)))),
           λ h.
               let w = (same t).1 h in
               let lt = in_range after w.0 t w.1 in

@@ -6,7 +6,7 @@ use Rattle.topological_order.specs.Cycle.{IsCycleSet}
 use Rattle.topological_order.proofs.OrderLaws.{names_inside, ranked_uncaught}
 use Rattle.topological_order.proofs.CycleLaws as graph
 use Rattle.type_trees.specs.Graph.{graph_of}
-use Rattle.type_trees.specs.Laws.{OneCycle, CyclesHaveNoRank}
+use Rattle.type_trees.specs.Laws.{OneCycle, CyclicTypesHaveNoRank}
 use Rattle.type_trees.specs.Check.{AreTypes, HasTypeFault, IsCycleFault}
 use Rattle.type_trees.specs.declared.fault.RecordFault.TheVariants as inner
 use Rattle.type_trees.specs.declared.fault.TypeFault.{TypeFault}
@@ -27,7 +27,7 @@ one_cycle records indices others a b =
     a.2 ∙ ap (λ (ps : List ℕ). map (λ p. first_index + p) ps) (graph.one_cycle_set (graph_of records) a.0 b.0 a.1 b.1) ∙ sym b.2
 
 -- if some records lead into a cycle, the records have no rank
-pub cycles_have_no_rank : CyclesHaveNoRank
+pub cycles_have_no_rank : CyclicTypesHaveNoRank
 cycles_have_no_rank records indices rank cycle ranked = ranked_uncaught (graph_of records) cycle.0 rank cycle.1 (ranked_graph records rank ranked)
 
 -- records that make types have no fault

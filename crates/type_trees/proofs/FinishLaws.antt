@@ -22,7 +22,7 @@ use Rattle.type_trees.specs.Depth.{AreDepths, HasLevels}
 use Rattle.type_trees.specs.Canon.{text, texts}
 use Rattle.type_trees.specs.Table.{IsTable, AreNumbered, renumbered}
 use Rattle.type_trees.specs.Rows.{row}
-use Rattle.type_trees.specs.Finish.{Listed, AtLevel, Numbered, IsCanonOf}
+use Rattle.type_trees.specs.Finish.{ListsBelow, AtLevel, Numbered, IsCanonOf}
 use Rattle.type_trees.proofs.GraphLaws.{concat_push}
 use Rattle.type_trees.proofs.AddLaws.{renumbered_long}
 use Rattle.type_trees.proofs.NextLaws.{in_range}
@@ -250,23 +250,23 @@ ready bytes position xs ys r d f depths rows ps is_rows is_ps fit level many kno
     record { fit = fits; are = level_rows r d f depths (map bytes ys) (map position ys) fits there many known (λ k inside. sorted k (omega (arith, inside, long))) }
 
 -- the level by which the rows continue the list
-level_of : (r : List (List ℕ)) (d : ℕ) (out rows : List (List ℕ)) (f : ℕ → ℕ) (ps : List ℕ) → IsTable r → length (concat r) < 2 ^ 32 → (l : Listed r d out f) → Ready r d f rows ps → LevelOf r d l.trees f ps
+level_of : (r : List (List ℕ)) (d : ℕ) (out rows : List (List ℕ)) (f : ℕ → ℕ) (ps : List ℕ) → IsTable r → length (concat r) < 2 ^ 32 → (l : ListsBelow r d out f) → Ready r d f rows ps → LevelOf r d l.trees f ps
 level_of r d out rows f ps table short l h = rows_continue r d l.trees f ps table (omega (arith, short)) l.canonical l.holds l.numbers h.are
 
-whole_list : (r : List (List ℕ)) (d : ℕ) (out rows : List (List ℕ)) (f : ℕ → ℕ) (ps : List ℕ) (table : IsTable r) (short : length (concat r) < 2 ^ 32) (l : Listed r d out f) (h : Ready r d f rows ps)
+whole_list : (r : List (List ℕ)) (d : ℕ) (out rows : List (List ℕ)) (f : ℕ → ℕ) (ps : List ℕ) (table : IsTable r) (short : length (concat r) < 2 ^ 32) (l : ListsBelow r d out f) (h : Ready r d f rows ps)
     → out ++ rows ≡ texts (l.trees ++ (level_of r d out rows f ps table short l h).trees)
 whole_list r d out rows f ps table short l h =
     let level = level_of r d out rows f ps table short l h in
     ap (λ (x : List (List ℕ)). x ++ rows) l.are ∙ ap (λ (x : List (List ℕ)). texts l.trees ++ x) h.fit ∙ sym level.rows
 
 -- the list has space for the level
-pub ready_few : (r : List (List ℕ)) (d : ℕ) (out rows : List (List ℕ)) (f : ℕ → ℕ) (ps : List ℕ) → IsTable r → length (concat r) < 2 ^ 32 → Listed r d out f → Ready r d f rows ps → length (concat out) + length (concat rows) < 2 ^ 34
+pub ready_few : (r : List (List ℕ)) (d : ℕ) (out rows : List (List ℕ)) (f : ℕ → ℕ) (ps : List ℕ) → IsTable r → length (concat r) < 2 ^ 32 → ListsBelow r d out f → Ready r d f rows ps → length (concat out) + length (concat rows) < 2 ^ 34
 ready_few r d out rows f ps table short l h =
     let level = level_of r d out rows f ps table short l h in
     let e = ap (λ (x : List (List ℕ)). length (concat x)) (whole_list r d out rows f ps table short l h) in
     omega (arith, e, concat_both out rows, weight_of_texts (l.trees ++ level.trees) level.canonical, level.canonical.light)
 
-pub ready_count : (r : List (List ℕ)) (d : ℕ) (out rows : List (List ℕ)) (f : ℕ → ℕ) (ps : List ℕ) → IsTable r → length (concat r) < 2 ^ 32 → Listed r d out f → Ready r d f rows ps → length out + length ps < 2 ^ 31
+pub ready_count : (r : List (List ℕ)) (d : ℕ) (out rows : List (List ℕ)) (f : ℕ → ℕ) (ps : List ℕ) → IsTable r → length (concat r) < 2 ^ 32 → ListsBelow r d out f → Ready r d f rows ps → length out + length ps < 2 ^ 31
 ready_count r d out rows f ps table short l h =
     let level = level_of r d out rows f ps table short l h in
     let both : List Tree = l.trees ++ level.trees in
@@ -285,15 +285,15 @@ ready_padded r d f rows ps table h x c =
     ap (λ (y : List ℕ). length y % 4) at ∙ ap (λ (n : ℕ). n % 4) (renumbered_long f (get_or r p []) (table.good.checked p p_in)) ∙ frame.padded
 
 -- the list and the numbers are right after the level is added
-pub ready_listed : (r : List (List ℕ)) (d : ℕ) (out rows : List (List ℕ)) (ps before after : List ℕ) → IsTable r → length (concat r) < 2 ^ 32 → Listed r d out (λ k. get_or before k 0) → Ready r d (λ k. get_or before k 0) rows ps
-    → Numbered ps (length out) (length ps) before after → Listed r (d + 1) (out ++ rows) (λ k. get_or after k 0)
+pub ready_listed : (r : List (List ℕ)) (d : ℕ) (out rows : List (List ℕ)) (ps before after : List ℕ) → IsTable r → length (concat r) < 2 ^ 32 → ListsBelow r d out (λ k. get_or before k 0) → Ready r d (λ k. get_or before k 0) rows ps
+    → Numbered ps (length out) (length ps) before after → ListsBelow r (d + 1) (out ++ rows) (λ k. get_or after k 0)
 ready_listed r d out rows ps before after table short l h numbered =
     let f : ℕ → ℕ = λ k. get_or before k 0 in
     let g : ℕ → ℕ = λ k. get_or after k 0 in
     let level = level_of r d out rows f ps table short l h in
     let a : length out ≡ length l.trees = ap length l.are ∙ length-map l.trees (text l.trees) in
     let next : suc d ≡ d + 1 = omega arith in
-    subst (λ (n : ℕ). Listed r n (out ++ rows) g) next (record {
+    subst (λ (n : ℕ). ListsBelow r n (out ++ rows) g) next (record {
       trees = l.trees ++ level.trees;
       canonical = level.canonical;
       holds = level.members;
@@ -305,10 +305,10 @@ ready_listed r d out rows ps before after table short l h numbered =
 
 -- ---- From the first level to the last
 
-pub listed_none : (r : List (List ℕ)) (f : ℕ → ℕ) → Listed r 0 [] f
+pub listed_none : (r : List (List ℕ)) (f : ℕ → ℕ) → ListsBelow r 0 [] f
 listed_none r f = record { trees = []; canonical = nothing_listed.0; holds = nothing_listed.1 r; are = refl; numbers = nothing_listed.2 r f }
 
-pub listed_all : (r : List (List ℕ)) (levels : ℕ) (out : List (List ℕ)) (f : ℕ → ℕ) → HasLevels r levels → Listed r levels out f → IsCanonOf out (IsType r)
+pub listed_all : (r : List (List ℕ)) (levels : ℕ) (out : List (List ℕ)) (f : ℕ → ℕ) → HasLevels r levels → ListsBelow r levels out f → IsCanonOf out (IsType r)
 listed_all r levels out f has l = (
   l.trees,
   l.canonical,

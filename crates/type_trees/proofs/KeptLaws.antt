@@ -1,7 +1,7 @@
 -- How the depths of a table are kept as records come.
 use Rattle.std.proofs.Common.{◌≡◌, ◌≤◌, ◌<◌, ◌^◌, ℕ, List, [], ◌∷◌, ◌++◌, length, drop, get_or, sym, subst, arith, inl, inr}
 use Rattle.cv_leaves.specs.References.{references}
-use Rattle.type_trees.specs.Tree.{Stands, IsRanked}
+use Rattle.type_trees.specs.Tree.{IsTreeAt, IsRanked}
 use Rattle.type_trees.specs.Depth.{depth_above, KnowsDepths, HasDepths, CountsLevels, HasLevels, AreBelow}
 use Rattle.type_trees.specs.Merge.{StartsWith}
 use Rattle.type_trees.specs.Table.{IsTable}
@@ -21,7 +21,7 @@ knows_more r depths d known ranked below is low = record { are = depths_more r d
 -- the depths of a table stay right when more records come after it
 pub knows_still : (before after : List (List ℕ)) (depths : List ℕ) → IsTable before → StartsWith after before → HasDepths before depths → KnowsDepths after depths
 knows_still before after depths table front has = record {
-  are = λ i t inside stands. has.known.are i t inside (stands_within before (drop (length before) after) i t table.lower (omega (arith, inside, has.many)) (subst (λ (x : List (List ℕ)). Stands x i t) (sym (starts_whole before after front)) stands));
+  are = λ i t inside stands. has.known.are i t inside (stands_within before (drop (length before) after) i t table.lower (omega (arith, inside, has.many)) (subst (λ (x : List (List ℕ)). IsTreeAt x i t) (sym (starts_whole before after front)) stands));
   low = has.known.low;
 }
 

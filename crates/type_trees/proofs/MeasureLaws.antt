@@ -7,7 +7,7 @@ use Rattle.std.proofs.lemmas.List.Elements.{All-contains, Contains-push_cases, C
 use Rattle.topological_order.specs.Order.{IsOrder}
 use Rattle.topological_order.proofs.WalkLaws.{none_in}
 use Rattle.cv_leaves.specs.References.{references}
-use Rattle.type_trees.specs.Tree.{Tree, tree, Stands}
+use Rattle.type_trees.specs.Tree.{Tree, tree, IsTreeAt}
 use Rattle.type_trees.specs.Graph.{graph_of}
 use Rattle.type_trees.specs.Check.{AreTypes, NamesThere}
 use Rattle.type_trees.specs.Depth.{depth, depth_above, AreDepths, AreBelow, HasLevels}
@@ -20,9 +20,9 @@ use Rattle.std.specs.Prelude.{◌⊎◌}
 
 -- the trees at these positions have these depths, and this many levels
 pub record AreMeasured (records : List (List ℕ)) (done depths : List ℕ) (levels : ℕ) : Type 0 where
-  pub measured : (i : ℕ) (t : Tree) → Contains done i → Stands records i t → get_or depths i 0 ≡ depth t
-  pub all : (i : ℕ) (t : Tree) → Contains done i → Stands records i t → depth t < levels
-  pub one : (levels ≡ 0) ⊎ ((i : ℕ) × (t : Tree) × Stands records i t × (depth t + 1 ≡ levels))
+  pub measured : (i : ℕ) (t : Tree) → Contains done i → IsTreeAt records i t → get_or depths i 0 ≡ depth t
+  pub all : (i : ℕ) (t : Tree) → Contains done i → IsTreeAt records i t → depth t < levels
+  pub one : (levels ≡ 0) ⊎ ((i : ℕ) × (t : Tree) × IsTreeAt records i t × (depth t + 1 ≡ levels))
 
 -- the depths give the depth of each record that is done
 gives_among : (records : List (List ℕ)) (done depths : List ℕ) (levels : ℕ) (ns : List ℕ) → AreMeasured records done depths levels → NamesDone (Contains done) ns → Gives records (λ k. get_or depths k 0) ns
@@ -31,11 +31,11 @@ gives_among records done depths levels (n ∷ ns) m among =
     ((λ large u stands. elim among.0 [ inl small ↦ absurd (omega (arith, small, large)) | inr there ↦ m.measured (n - first_index) u there stands ]), gives_among records done depths levels ns m among.1)
 
 -- the depths stay right when one more record is measured
-measured_more : (records : List (List ℕ)) (done depths : List ℕ) (levels p d : ℕ) → AreMeasured records done depths levels → p < length depths → NamesDone (Contains done) (references (get_or records p [])) → ((t : Tree) × Stands records p t)
+measured_more : (records : List (List ℕ)) (done depths : List ℕ) (levels p d : ℕ) → AreMeasured records done depths levels → p < length depths → NamesDone (Contains done) (references (get_or records p [])) → ((t : Tree) × IsTreeAt records p t)
     → d ≡ depth_above (λ k. get_or depths k 0) (references (get_or records p [])) → AreMeasured records (done ++ p ∷ []) (set depths p d) (max levels (d + 1))
 measured_more records done depths levels p d m inside among there is = record {
   measured = λ i t on stands. elim (cases_eq i p) [
-    | inl same ↦ ap (λ (k : ℕ). get_or (set depths p d) k 0) same ∙ get_or-set_same depths p d 0 inside ∙ deep t (subst (λ (k : ℕ). Stands records k t) same stands)
+    | inl same ↦ ap (λ (k : ℕ). get_or (set depths p d) k 0) same ∙ get_or-set_same depths p d 0 inside ∙ deep t (subst (λ (k : ℕ). IsTreeAt records k t) same stands)
     | inr other ↦ elim (Contains-push_cases done p i on) [
       | inl old ↦ get_or-set_other depths p i d 0 other ∙ m.measured i t old stands
       | inr same ↦ absurd (other (sym same))
@@ -43,7 +43,7 @@ measured_more records done depths levels p d m inside among there is = record {
   ];
   all = λ i t on stands. elim (Contains-push_cases done p i on) [
     | inl old ↦ omega (arith, m.all i t old stands)
-    | inr same ↦ omega (arith, deep t (subst (λ (k : ℕ). Stands records k t) (sym same) stands))
+    | inr same ↦ omega (arith, deep t (subst (λ (k : ℕ). IsTreeAt records k t) (sym same) stands))
   ];
   one = elim (cases_lt (d + 1) levels) [
     | inl less ↦ elim m.one [
@@ -54,7 +54,7 @@ measured_more records done depths levels p d m inside among there is = record {
   ];
 }
   where
-    deep : (t : Tree) → Stands records p t → d ≡ depth t
+    deep : (t : Tree) → IsTreeAt records p t → d ≡ depth t
     deep t stands = is ∙ sym (depth_of_record records (λ k. get_or depths k 0) p t (gives_among records done depths levels (references (get_or records p [])) m among) stands)
 
 -- the depths stay low when one more is set
@@ -140,5 +140,5 @@ all_measured records order left depths levels o m none =
     done : order ≡ m.done → (i : ℕ) → i < length records → Contains m.done i
     done all i inside = subst (λ (xs : List ℕ). Contains xs i) all (o.whole i (omega (arith, inside, many_nodes records)))
 
-    stands_inside : (rs : List (List ℕ)) (i : ℕ) (t : Tree) → Stands rs i t → i < length rs
+    stands_inside : (rs : List (List ℕ)) (i : ℕ) (t : Tree) → IsTreeAt rs i t → i < length rs
     stands_inside rs i (tree b bs) stands = stands.0

@@ -6,7 +6,7 @@ use Rattle.std.proofs.lemmas.List.{get_or_default}
 use Rattle.std.proofs.lemmas.List.Elements.{Contains-get_or, Contains-append_cases, Contains-append_left, Contains-append_right}
 use Rattle.std.proofs.Math.ListN.{get_or-append}
 use Rattle.std.proofs.Math.Seq.{get_or-append_seam}
-use Rattle.type_trees.specs.Tree.{Tree, Branches, tree, no_branch, simple, branch, nothing, blank_of, branches_of, trees_in, Stands, IsType}
+use Rattle.type_trees.specs.Tree.{Tree, Branches, tree, no_branch, simple, branch, nothing, blank_of, branches_of, trees_in, IsTreeAt, IsType}
 use Rattle.type_trees.specs.Depth.{depth, depth_over}
 use Rattle.type_trees.specs.Canon.{weight, text, Canonical}
 use Rattle.type_trees.specs.Table.{IsTable, HoldsBelow}
@@ -24,7 +24,7 @@ use Rattle.std.specs.Cmp.Lexicographic.{slice_cmp}
 abbrev pub TreesOfTable : Type 0
 TreesOfTable =
     (r : List (List ℕ)) → IsTable r
-    → (s : List Tree) × (length s ≡ length r) × ((i : ℕ) → i < length r → Stands r i (get_or s i nothing))
+    → (s : List Tree) × (length s ≡ length r) × ((i : ℕ) → i < length r → IsTreeAt r i (get_or s i nothing))
 
 -- distinct trees of a table weigh at most as much as the table has bytes
 abbrev pub TableWeighs : Type 0
@@ -50,7 +50,7 @@ NextLevel =
     → Canonical l → HoldsBelow r d l → IsLevelOf r d l m → Canonical (l ++ m) × HoldsBelow r (suc d) (l ++ m)
 
 -- the trees of the first n records
-first_trees : (r : List (List ℕ)) → IsTable r → (n : ℕ) → n ≤ length r → (s : List Tree) × (length s ≡ n) × ((i : ℕ) → i < n → Stands r i (get_or s i nothing))
+first_trees : (r : List (List ℕ)) → IsTable r → (n : ℕ) → n ≤ length r → (s : List Tree) × (length s ≡ n) × ((i : ℕ) → i < n → IsTreeAt r i (get_or s i nothing))
 first_trees r table zero le = ([], refl, λ i lt. absurd (omega arith))
 first_trees r table (suc n) le =
     let before = first_trees r table n (omega arith) in
@@ -66,14 +66,14 @@ first_trees r table (suc n) le =
             let e : i ≡ length s = omega arith in
             let at : get_or (s ++ t.0 ∷ []) i nothing ≡ t.0 = ap (λ (k : ℕ). get_or (s ++ t.0 ∷ []) k nothing) e ∙ get_or-append_seam s t.0 [] nothing in
             let back : n ≡ i = omega arith in
-            rw at (subst (λ (k : ℕ). Stands r k t.0) back t.1)
+            rw at (subst (λ (k : ℕ). IsTreeAt r k t.0) back t.1)
       ],
     )
 
 pub trees_of_table : TreesOfTable
 trees_of_table r table = first_trees r table (length r) (omega arith)
 
-pub in_range : (r : List (List ℕ)) (i : ℕ) (t : Tree) → Stands r i t → i < length r
+pub in_range : (r : List (List ℕ)) (i : ℕ) (t : Tree) → IsTreeAt r i t → i < length r
 in_range r i (tree b bs) h = h.0
 
 -- trees weigh as much as records have bytes, if each has as many bytes as its record
@@ -86,7 +86,7 @@ same_weight (x ∷ r) (t ∷ s) long each =
     let head : length (blank_of t) ≡ length x = each 0 (omega arith) in
     rw (weight-cons t s, length-append x (concat r)) (omega arith)
 
-long_as : (r : List (List ℕ)) (i : ℕ) (t : Tree) → IsTable r → Stands r i t → length (blank_of t) ≡ length (get_or r i [])
+long_as : (r : List (List ℕ)) (i : ℕ) (t : Tree) → IsTable r → IsTreeAt r i t → length (blank_of t) ≡ length (get_or r i [])
 long_as r i (tree b bs) table h = sym (ap length h.1) ∙ blanked_len (get_or r i []) (table.good.checked i h.0)
 
 pub table_weight : (r : List (List ℕ)) (table : IsTable r) → weight (trees_of_table r table).0 ≡ length (concat r)
@@ -102,9 +102,9 @@ apart_of_table r table = λ i j d lt j_in e.
     let i_s : i < length s.0 = omega arith in
     let a : get_or s.0 i d ≡ get_or s.0 i nothing = get_or_default s.0 i d nothing i_s in
     let b : get_or s.0 j d ≡ get_or s.0 j nothing = get_or_default s.0 j d nothing j_in in
-    let at_i : Stands r i (get_or s.0 i nothing) = s.2 i (omega arith) in
-    let at_j : Stands r j (get_or s.0 j nothing) = s.2 j (omega arith) in
-    let there : Stands r j (get_or s.0 i nothing) = subst (Stands r j) (sym (sym a ∙ e ∙ b)) at_j in
+    let at_i : IsTreeAt r i (get_or s.0 i nothing) = s.2 i (omega arith) in
+    let at_j : IsTreeAt r j (get_or s.0 j nothing) = s.2 j (omega arith) in
+    let there : IsTreeAt r j (get_or s.0 i nothing) = subst (IsTreeAt r j) (sym (sym a ∙ e ∙ b)) at_j in
     let clash : i ≡ j = table_is_set r i j (get_or s.0 i nothing) table at_i there in
     omega arith
 
@@ -130,7 +130,7 @@ table_weighs_all r l table distinct same =
     let inside : (t : Tree) → Contains s.0 t → Contains l t = λ t h.
     let i_s = h.1 in
     let e : get_or s.0 h.0 nothing ≡ t = get_or_default s.0 h.0 nothing t i_s ∙ h.2 in
-    (same t).1 (h.0, subst (Stands r h.0) e (s.2 h.0 (omega arith))) in
+    (same t).1 (h.0, subst (IsTreeAt r h.0) e (s.2 h.0 (omega arith))) in
     let more = weight_grows s.0 l apart inside in
     let w = table_weight r table in
     omega arith

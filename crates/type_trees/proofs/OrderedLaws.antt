@@ -10,7 +10,7 @@ use Rattle.cv_leaves.specs.References.{references}
 use Rattle.tpi_records.specs.Header.{first_index}
 use Rattle.tpi_records.specs.Records.{IsRecord}
 use Rattle.text_set.specs.TextSet.{Holds}
-use Rattle.type_trees.specs.Tree.{Tree, Stands, IsType, IsRanked}
+use Rattle.type_trees.specs.Tree.{Tree, IsTreeAt, IsType, IsRanked}
 use Rattle.type_trees.specs.Check.{AreTypes, NamesThere}
 use Rattle.type_trees.specs.Table.{IsTable, renumbered}
 use Rattle.type_trees.proofs.TreeLaws.{tree_there}
@@ -30,14 +30,14 @@ pub record IsEarly (records : List (List ℕ)) (k : ℕ) : Type 0 where
   pub earlier : NamesThere k (references (get_or records k []))
 
 -- there is a tree at a position, if the records up to it name only earlier ones
-tree_early : (records : List (List ℕ)) (i : ℕ) → i < length records → ((k : ℕ) → k < i + 1 → IsEarly records k) → (t : Tree) × Stands records i t
+tree_early : (records : List (List ℕ)) (i : ℕ) → i < length records → ((k : ℕ) → k < i + 1 → IsEarly records k) → (t : Tree) × IsTreeAt records i t
 tree_early records i inside early =
     let first : List (List ℕ) = take (i + 1) records in
     let long : length first ≡ i + 1 = length-take-le (i + 1) records (omega (arith, inside)) in
     let ranked : IsRanked first (λ k. k) = λ k below.
     rw (get_or-take (i + 1) records k [] (omega (arith, below, long))) (lower_names first k (references (get_or records k [])) below (early k (omega (arith, below, long))).earlier) in
     let found = tree_there first (λ k. k) i ranked (omega (arith, long)) in
-    (found.0, subst (λ (rs : List (List ℕ)). Stands rs i found.0) (take-append-drop (i + 1) records) (stands_still first (drop (i + 1) records) i found.0 found.1))
+    (found.0, subst (λ (rs : List (List ℕ)). IsTreeAt rs i found.0) (take-append-drop (i + 1) records) (stands_still first (drop (i + 1) records) i found.0 found.1))
 
 -- the records before `left` are in the table, numbers has the position of each, and together with those of the table the bytes that are left are few
 pub record IsTaking (records left before after : List (List ℕ)) (numbers : List ℕ) : Type 0 where

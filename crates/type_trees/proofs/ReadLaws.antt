@@ -6,7 +6,7 @@ use Rattle.std.proofs.lemmas.List.Sums.{sum_by-cons}
 use Rattle.cv_leaves.specs.References.{references, blanked}
 use Rattle.cv_leaves.specs.Place.{IsChecked}
 use Rattle.tpi_records.specs.Records.{IsRecord}
-use Rattle.type_trees.specs.Tree.{Tree, Branches, tree, no_branch, simple, branch, nothing, blank_of, branches_of, trees_in, IsClosed, AreClosed, Stands, AreBranches, NamesLower}
+use Rattle.type_trees.specs.Tree.{Tree, Branches, tree, no_branch, simple, branch, nothing, blank_of, branches_of, trees_in, IsClosed, AreClosed, IsTreeAt, AreBranches, NamesLower}
 use Rattle.type_trees.specs.Canon.{position_in, numbers, text, weight, Canonical}
 use Rattle.type_trees.specs.Canon.{HoldsBranches, texts}
 use Rattle.type_trees.specs.Laws.{CanonicalReadsBack}
@@ -56,7 +56,7 @@ names_lower l i (branch t bs) lt closed lower =
 
 -- each tree of l is at its position
 mutual
-  stands_at : (l : List Tree) → Canonical l → (i : ℕ) → i < length l → (t : Tree) → get_or l i nothing ≡ t → Stands (texts l) i t
+  stands_at : (l : List Tree) → Canonical l → (i : ℕ) → i < length l → (t : Tree) → get_or l i nothing ≡ t → IsTreeAt (texts l) i t
   stands_at l c i lt (tree b bs) at =
       let same = length-map l (text l) in
       let closed : IsClosed (tree b bs) = subst IsClosed at (c.closed i lt) in
@@ -72,10 +72,10 @@ mutual
   branches_at l c i lt (branch t bs) lower closed =
       let less = lower.0 in
       let e : first_index + position_in l t - first_index ≡ position_in l t = omega arith in
-      let there : Stands (texts l) (position_in l t) t = stands_at l c (position_in l t) (omega arith) t (get_or-position_in l t (omega arith)) in
-      (first_index + position_in l t, numbers l bs, refl, omega arith, subst (λ (j : ℕ). Stands (texts l) j t) (sym e) there, branches_at l c i lt bs lower.1 closed.1)
+      let there : IsTreeAt (texts l) (position_in l t) t = stands_at l c (position_in l t) (omega arith) t (get_or-position_in l t (omega arith)) in
+      (first_index + position_in l t, numbers l bs, refl, omega arith, subst (λ (j : ℕ). IsTreeAt (texts l) j t) (sym e) there, branches_at l c i lt bs lower.1 closed.1)
 
-in_range : (r : List (List ℕ)) (i : ℕ) (u : Tree) → Stands r i u → i < length r
+in_range : (r : List (List ℕ)) (i : ℕ) (u : Tree) → IsTreeAt r i u → i < length r
 in_range r i (tree b bs) h = h.0
 
 closed_branches : (t : Tree) → IsClosed t → AreClosed (branches_of t)
@@ -92,7 +92,7 @@ text-checked l (tree b bs) closed = filled_checked b (numbers l bs) closed.1
 pub canonical_reads_back : CanonicalReadsBack
 canonical_reads_back l c =
     let same = length-map l (text l) in
-    let stand : (i : ℕ) → i < length l → Stands (texts l) i (get_or l i nothing) = λ i lt. stands_at l c i lt (get_or l i nothing) refl in
+    let stand : (i : ℕ) → i < length l → IsTreeAt (texts l) i (get_or l i nothing) = λ i lt. stands_at l c i lt (get_or l i nothing) refl in
     record {
       good = record {
         framed = λ i lt. let at : i < length l = omega arith in rw (text-at l i at) (text-framed l (get_or l i nothing) (c.closed i at));

@@ -11,7 +11,7 @@ use Rattle.std.proofs.lemmas.List.Elements.{Contains-get_or}
 use Rattle.std.proofs.lemmas.Map.Lookups.{exact_bytes}
 use Rattle.std.proofs.Math.ListN.{get_or-append}
 use Rattle.cv_leaves.specs.References.{references}
-use Rattle.type_trees.specs.Tree.{Tree, Branches, tree, no_branch, simple, branch, nothing, branches_of, trees_in, IsClosed, Stands, AreBranches}
+use Rattle.type_trees.specs.Tree.{Tree, Branches, tree, no_branch, simple, branch, nothing, branches_of, trees_in, IsClosed, IsTreeAt, AreBranches}
 use Rattle.type_trees.specs.Depth.{depth, depth_over}
 use Rattle.type_trees.specs.Canon.{position_in, text, Canonical}
 use Rattle.type_trees.specs.Canon.{texts, HoldsBranches}
@@ -31,8 +31,8 @@ use Rattle.std.specs.Prelude.{suc}
 -- ps are the positions of r whose trees have depth d, each once, in the order of their rows
 pub record AreRows (r : List (List ℕ)) (d : ℕ) (f : ℕ → ℕ) (ps : List ℕ) : Type 0 where
   pub within : (k : ℕ) → k < length ps → get_or ps k 0 < length r
-  pub deep : (k : ℕ) (t : Tree) → k < length ps → Stands r (get_or ps k 0) t → depth t ≡ d
-  pub all : (i : ℕ) (t : Tree) → Stands r i t → depth t ≡ d → (k : ℕ) × (k < length ps) × (get_or ps k 0 ≡ i)
+  pub deep : (k : ℕ) (t : Tree) → k < length ps → IsTreeAt r (get_or ps k 0) t → depth t ≡ d
+  pub all : (i : ℕ) (t : Tree) → IsTreeAt r i t → depth t ≡ d → (k : ℕ) × (k < length ps) × (get_or ps k 0 ≡ i)
   pub distinct : AllPairs (λ i j. i ≢ j) ps
   pub sorted : (k : ℕ) → k + 1 < length ps → slice_cmp nat_cmp (row r f (get_or ps k 0)) (row r f (get_or ps (k + 1) 0)) ≢ Greater
 
@@ -40,7 +40,7 @@ pub record AreRows (r : List (List ℕ)) (d : ℕ) (f : ℕ → ℕ) (ps : List 
 pub record LevelOf (r : List (List ℕ)) (d : ℕ) (l : List Tree) (f : ℕ → ℕ) (ps : List ℕ) : Type 0 where
   pub trees : List Tree
   pub many : length trees ≡ length ps
-  pub stand : (k : ℕ) → k < length ps → Stands r (get_or ps k 0) (get_or trees k nothing)
+  pub stand : (k : ℕ) → k < length ps → IsTreeAt r (get_or ps k 0) (get_or trees k nothing)
   pub canonical : Canonical (l ++ trees)
   pub members : HoldsBelow r (suc d) (l ++ trees)
   pub rows : texts (l ++ trees) ≡ texts l ++ map (row r f) ps
@@ -72,7 +72,7 @@ named_less_deep r d ns (branch t bs) h le =
     subst (EachNamed r (λ k u. depth u < d)) (sym h.2)
     (λ big u s. subst (λ (x : Tree). depth x < d) (one r (h.0 - first_index) t u h.4 s) head, named_less_deep r d h.1 bs h.5 (omega arith))
 
-named_less : (r : List (List ℕ)) (i : ℕ) (t : Tree) → Stands r i t → EachNamed r (λ k u. depth u < depth t) (references (get_or r i []))
+named_less : (r : List (List ℕ)) (i : ℕ) (t : Tree) → IsTreeAt r i t → EachNamed r (λ k u. depth u < depth t) (references (get_or r i []))
 unfolding depth
 named_less r i (tree b bs) h = named_less_deep r (depth_over bs) (references (get_or r i [])) bs h.2 (omega arith)
 
@@ -81,7 +81,7 @@ numbered r d l f [] numbers each = tt
 numbered r d l f (n ∷ ns) numbers each = (λ big u s. numbers (n - first_index) u s (each.0 big u s), numbered r d l f ns numbers each.1)
 
 -- the row of a record is the text of its tree
-pub row-text : (r : List (List ℕ)) (d : ℕ) (l : List Tree) (f : ℕ → ℕ) (i : ℕ) (t : Tree) → IsTable r → i < length r → Numbers r d l f → Stands r i t → depth t ≡ d → row r f i ≡ text l t
+pub row-text : (r : List (List ℕ)) (d : ℕ) (l : List Tree) (f : ℕ → ℕ) (i : ℕ) (t : Tree) → IsTable r → i < length r → Numbers r d l f → IsTreeAt r i t → depth t ≡ d → row r f i ≡ text l t
 unfolding row renumbered
 row-text r d l f i t table lt numbers h e =
     let less : EachNamed r (λ k u. depth u < d) (references (get_or r i [])) = subst (λ (x : ℕ). EachNamed r (λ k u. depth u < x) (references (get_or r i []))) e (named_less r i t h) in
@@ -130,7 +130,7 @@ rows_continue r d l f ps table light c below numbers rows =
     let m : List Tree = map g ps in
     let many : length m ≡ length ps = length-map ps g in
     let at : (k : ℕ) → k < length ps → get_or m k nothing ≡ g (get_or ps k 0) = λ k lt. get_or-map g ps k 0 nothing lt in
-    let stand : (k : ℕ) → k < length ps → Stands r (get_or ps k 0) (get_or m k nothing) = λ k lt. rw (at k lt) (s.2 (get_or ps k 0) (rows.within k lt)) in
+    let stand : (k : ℕ) → k < length ps → IsTreeAt r (get_or ps k 0) (get_or m k nothing) = λ k lt. rw (at k lt) (s.2 (get_or ps k 0) (rows.within k lt)) in
     let deep : (k : ℕ) → k < length ps → depth (get_or m k nothing) ≡ d = λ k lt. rows.deep k (get_or m k nothing) lt (stand k lt) in
     let row_is : (k : ℕ) → k < length ps → row r f (get_or ps k 0) ≡ text l (get_or m k nothing) = λ k lt. row-text r d l f (get_or ps k 0) (get_or m k nothing) table (rows.within k lt) numbers (stand k lt) (deep k lt) in
     let closed : (k : ℕ) → k < length ps → IsClosed (get_or m k nothing) = λ k lt. standing_is_closed r (get_or ps k 0) (get_or m k nothing) table.good (stand k lt) in
@@ -147,7 +147,7 @@ rows_continue r d l f ps table light c below numbers rows =
     strict (slice_cmp nat_cmp (text l x) (text l y)) weak (λ e.
     let texts_same : text l x ≡ text l y = exact_bytes (text l x) (text l y) e in
     let same : x ≡ y = texts_differ l x y (few l c) (closed k here) (closed (k + 1) next) (held k here) (held (k + 1) next) texts_same in
-    let clash : get_or ps k 0 ≡ get_or ps (k + 1) 0 = table_is_set r (get_or ps k 0) (get_or ps (k + 1) 0) y table (subst (Stands r (get_or ps k 0)) same (stand k here)) (stand (k + 1) next) in
+    let clash : get_or ps k 0 ≡ get_or ps (k + 1) 0 = table_is_set r (get_or ps k 0) (get_or ps (k + 1) 0) y table (subst (IsTreeAt r (get_or ps k 0)) same (stand k here)) (stand (k + 1) next) in
     rows.distinct k (k + 1) 0 (omega arith) next clash) in
     let level : IsLevelOf r d l m = record {
       members = λ t. (
@@ -155,11 +155,11 @@ rows_continue r d l f ps table light c below numbers rows =
             let lt : h.0 < length ps = omega (arith, h.1, many) in
             let in_m = h.1 in
             let e : get_or m h.0 nothing ≡ t = get_or_default m h.0 nothing t in_m ∙ h.2 in
-            ((get_or ps h.0 0, subst (Stands r (get_or ps h.0 0)) e (stand h.0 lt)), subst (λ (x : Tree). depth x ≡ d) e (deep h.0 lt)),
+            ((get_or ps h.0 0, subst (IsTreeAt r (get_or ps h.0 0)) e (stand h.0 lt)), subst (λ (x : Tree). depth x ≡ d) e (deep h.0 lt)),
         λ h.
             let k = rows.all h.0.0 t h.0.1 h.1 in
             let lt : k.0 < length m = omega (arith, k.1, many) in
-            let there : Stands r h.0.0 (get_or m k.0 nothing) = subst (λ (i : ℕ). Stands r i (get_or m k.0 nothing)) k.2 (stand k.0 k.1) in
+            let there : IsTreeAt r h.0.0 (get_or m k.0 nothing) = subst (λ (i : ℕ). IsTreeAt r i (get_or m k.0 nothing)) k.2 (stand k.0 k.1) in
             subst (Contains m) (one r h.0.0 (get_or m k.0 nothing) t there h.0.1) (Contains-get_or m k.0 nothing lt),
       );
       ordered = ordered;
@@ -178,7 +178,7 @@ numbers_continue r d l f g ps table c below numbers rows level put kept k t h le
           let apart : Contains ps k → ⊥ = λ w.
           let in_ps = w.1 in
           let e : get_or ps w.0 0 ≡ k = get_or_default ps w.0 0 k in_ps ∙ w.2 in
-          let deep = rows.deep w.0 t in_ps (subst (λ (i : ℕ). Stands r i t) (sym e) h) in
+          let deep = rows.deep w.0 t in_ps (subst (λ (i : ℕ). IsTreeAt r i t) (sym e) h) in
           omega arith in
           let held : position_in l t < length l = position_in-lt-length l t ((below t).1 ((k, h), low)) in
           let still : position_in both t ≡ position_in l t = position_in-below (length l) l both t (λ i lt. sym (get_or-append l m nothing i lt)) (omega arith) (omega arith) held in
@@ -186,7 +186,7 @@ numbers_continue r d l f g ps table c below numbers rows level put kept k t h le
       | inr high ↦
           let deep : depth t ≡ d = omega arith in
           let j = rows.all k t h deep in
-          let there : Stands r k (get_or m j.0 nothing) = subst (λ (i : ℕ). Stands r i (get_or m j.0 nothing)) j.2 (level.stand j.0 j.1) in
+          let there : IsTreeAt r k (get_or m j.0 nothing) = subst (λ (i : ℕ). IsTreeAt r i (get_or m j.0 nothing)) j.2 (level.stand j.0 j.1) in
           let same : get_or m j.0 nothing ≡ t = one r k (get_or m j.0 nothing) t there h in
           let in_ps = j.1 in
           let at : get_or both (length l + j.0) nothing ≡ get_or m j.0 nothing = get_or-append-add l m j.0 nothing in

@@ -5,7 +5,7 @@ use Rattle.std.proofs.lemmas.Bool.{cases_order, lt-ltb, le-ltb}
 use Rattle.std.proofs.Math.ListN.{get_or-append}
 use Rattle.cv_leaves.specs.References.{references, blanked, filled}
 use Rattle.cv_leaves.specs.Place.{IsChecked}
-use Rattle.type_trees.specs.Tree.{Tree, Branches, tree, no_branch, simple, branch, trees_in, Stands, AreBranches, IsType, branches_of}
+use Rattle.type_trees.specs.Tree.{Tree, Branches, tree, no_branch, simple, branch, trees_in, IsTreeAt, AreBranches, IsType, branches_of}
 use Rattle.type_trees.specs.Canon.{position_in, numbers, text}
 use Rattle.byte_fields.specs.Bytes.{AreBytes}
 use Rattle.type_trees.specs.Table.{IsTable, renumber_one, renumber}
@@ -15,34 +15,34 @@ use Rattle.tpi_records.specs.Header.{first_index}
 
 -- P holds of each position that ns name and of each tree at that position
 abbrev pub EachNamed : List (List ℕ) → (ℕ → Tree → Type 0) → List ℕ → Type 0
-EachNamed r P ns = AllByRecursion (λ n. first_index ≤ n → (u : Tree) → Stands r (n - first_index) u → P (n - first_index) u) ns
+EachNamed r P ns = AllByRecursion (λ n. first_index ≤ n → (u : Tree) → IsTreeAt r (n - first_index) u → P (n - first_index) u) ns
 
 -- a tree is at most at one position of a table
 abbrev pub TableIsSet : Type 0
-TableIsSet = (r : List (List ℕ)) (i j : ℕ) (t : Tree) → IsTable r → Stands r i t → Stands r j t → i ≡ j
+TableIsSet = (r : List (List ℕ)) (i j : ℕ) (t : Tree) → IsTable r → IsTreeAt r i t → IsTreeAt r j t → i ≡ j
 
 -- if a tree is at a position of r, its branches are in r too
 abbrev pub BranchesStand : Type 0
-BranchesStand = (r : List (List ℕ)) (i : ℕ) (t : Tree) → Stands r i t → AllByRecursion (IsType r) (trees_in (branches_of t))
+BranchesStand = (r : List (List ℕ)) (i : ℕ) (t : Tree) → IsTreeAt r i t → AllByRecursion (IsType r) (trees_in (branches_of t))
 
 -- a renumbered record has the same tree, if it names the same trees
 abbrev pub RenumberedStands : Type 0
 RenumberedStands =
     (r s : List (List ℕ)) (f : ℕ → ℕ) (i j : ℕ) (t : Tree) → IsChecked (get_or r i []) → j < length s
     → get_or s j [] ≡ filled (get_or r i []) (renumber f (references (get_or r i [])))
-    → EachNamed r (λ k u. (f k < 4294963200) × Stands s (f k) u) (references (get_or r i []))
-    → Stands r i t → Stands s j t
+    → EachNamed r (λ k u. (f k < 4294963200) × IsTreeAt s (f k) u) (references (get_or r i []))
+    → IsTreeAt r i t → IsTreeAt s j t
 
 -- a record is the text of its tree, once it is renumbered by positions in l
 abbrev pub RenumberedIsText : Type 0
 RenumberedIsText =
     (r : List (List ℕ)) (l : List Tree) (f : ℕ → ℕ) (i : ℕ) (t : Tree) → IsChecked (get_or r i [])
     → EachNamed r (λ k u. f k ≡ position_in l u) (references (get_or r i []))
-    → Stands r i t → filled (get_or r i []) (renumber f (references (get_or r i []))) ≡ text l t
+    → IsTreeAt r i t → filled (get_or r i []) (renumber f (references (get_or r i []))) ≡ text l t
 
 -- a tree stays at its position when more records are added after r
 abbrev pub StandsStill : Type 0
-StandsStill = (r s : List (List ℕ)) (i : ℕ) (t : Tree) → Stands r i t → Stands (r ++ s) i t
+StandsStill = (r s : List (List ℕ)) (i : ℕ) (t : Tree) → IsTreeAt r i t → IsTreeAt (r ++ s) i t
 
 -- a tree stays at its position when more records are added after r
 mutual
@@ -115,25 +115,25 @@ own_parts : (x b : List ℕ) → IsChecked x → AreBytes x → blanked x ≡ b 
 own_parts x b ok bytes e = ap (λ (y : List ℕ). filled y (references x)) (sym e) ∙ own_fill x ok bytes
 
 -- a renumbered record has the same branches
-renumber-branches : (r s : List (List ℕ)) (f : ℕ → ℕ) (ns : List ℕ) (bs : Branches) → EachNamed r (λ k u. (f k < 4294963200) × Stands s (f k) u) ns → AreBranches r ns bs → AreBranches s (renumber f ns) bs
+renumber-branches : (r s : List (List ℕ)) (f : ℕ → ℕ) (ns : List ℕ) (bs : Branches) → EachNamed r (λ k u. (f k < 4294963200) × IsTreeAt s (f k) u) ns → AreBranches r ns bs → AreBranches s (renumber f ns) bs
 renumber-branches r s f ns no_branch each h = ap (renumber f) h ∙ renumber-none f
 renumber-branches r s f ns (simple m bs) each h =
-    let tail = subst (EachNamed r (λ k u. (f k < 4294963200) × Stands s (f k) u)) h.2 each in
+    let tail = subst (EachNamed r (λ k u. (f k < 4294963200) × IsTreeAt s (f k) u)) h.2 each in
     (h.0, renumber f h.1, ap (renumber f) h.2 ∙ renumber-simple f h.0 h.1 h.3, h.3, h.4, renumber-branches r s f h.1 bs tail.1 h.5)
 renumber-branches r s f ns (branch t bs) each h =
-    let tail = subst (EachNamed r (λ k u. (f k < 4294963200) × Stands s (f k) u)) h.2 each in
+    let tail = subst (EachNamed r (λ k u. (f k < 4294963200) × IsTreeAt s (f k) u)) h.2 each in
     let e : first_index + f (h.0 - first_index) - first_index ≡ f (h.0 - first_index) = omega arith in
     let there = tail.0 h.3 t h.4 in
-    (first_index + f (h.0 - first_index), renumber f h.1, ap (renumber f) h.2 ∙ renumber-named f h.0 h.1 h.3, omega arith, subst (λ (k : ℕ). Stands s k t) (sym e) there.1, renumber-branches r s f h.1 bs tail.1 h.5)
+    (first_index + f (h.0 - first_index), renumber f h.1, ap (renumber f) h.2 ∙ renumber-named f h.0 h.1 h.3, omega arith, subst (λ (k : ℕ). IsTreeAt s k t) (sym e) there.1, renumber-branches r s f h.1 bs tail.1 h.5)
 
-renumber-small : (r s : List (List ℕ)) (f : ℕ → ℕ) (ns : List ℕ) (bs : Branches) → EachNamed r (λ k u. (f k < 4294963200) × Stands s (f k) u) ns → AreBranches r ns bs → AllByRecursion (λ n. n < 2 ^ 32) (renumber f ns)
+renumber-small : (r s : List (List ℕ)) (f : ℕ → ℕ) (ns : List ℕ) (bs : Branches) → EachNamed r (λ k u. (f k < 4294963200) × IsTreeAt s (f k) u) ns → AreBranches r ns bs → AllByRecursion (λ n. n < 2 ^ 32) (renumber f ns)
 renumber-small r s f ns no_branch each h = subst (AllByRecursion (λ n. n < 2 ^ 32)) (sym (ap (renumber f) h ∙ renumber-none f)) tt
 renumber-small r s f ns (simple m bs) each h =
-    let tail = subst (EachNamed r (λ k u. (f k < 4294963200) × Stands s (f k) u)) h.2 each in
+    let tail = subst (EachNamed r (λ k u. (f k < 4294963200) × IsTreeAt s (f k) u)) h.2 each in
     let lt = h.3 in
     subst (AllByRecursion (λ n. n < 2 ^ 32)) (sym (ap (renumber f) h.2 ∙ renumber-simple f h.0 h.1 h.3)) (omega arith, renumber-small r s f h.1 bs tail.1 h.5)
 renumber-small r s f ns (branch t bs) each h =
-    let tail = subst (EachNamed r (λ k u. (f k < 4294963200) × Stands s (f k) u)) h.2 each in
+    let tail = subst (EachNamed r (λ k u. (f k < 4294963200) × IsTreeAt s (f k) u)) h.2 each in
     let there = tail.0 h.3 t h.4 in
     let lt = there.0 in
     subst (AllByRecursion (λ n. n < 2 ^ 32)) (sym (ap (renumber f) h.2 ∙ renumber-named f h.0 h.1 h.3)) (omega arith, renumber-small r s f h.1 bs tail.1 h.5)

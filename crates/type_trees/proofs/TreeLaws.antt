@@ -5,7 +5,7 @@ use Rattle.std.specs.List.{AllByRecursion}
 use Rattle.cv_leaves.specs.Checks.{places_of}
 use Rattle.cv_leaves.specs.Place.{IsChecked}
 use Rattle.cv_leaves.specs.References.{references, blanked}
-use Rattle.type_trees.specs.Tree.{Tree, Branches, tree, no_branch, simple, branch, count, trees_in, IsClosed, AreClosed, Stands, AreBranches, IsType, IsRanked, NamesLower}
+use Rattle.type_trees.specs.Tree.{Tree, Branches, tree, no_branch, simple, branch, count, trees_in, IsClosed, AreClosed, IsTreeAt, AreBranches, IsType, IsRanked, NamesLower}
 use Rattle.type_trees.specs.Laws.{OneTreeEach, BranchesAreTypes}
 use Rattle.type_trees.specs.Table.{AreGood}
 use Rattle.type_trees.specs.Check.{AreTypes}
@@ -15,13 +15,13 @@ use Rattle.tpi_records.specs.Header.{first_index}
 
 -- a tree at a position of good records is closed
 abbrev pub StandingIsClosed : Type 0
-StandingIsClosed = (r : List (List ℕ)) (i : ℕ) (t : Tree) → AreGood r → Stands r i t → IsClosed t
+StandingIsClosed = (r : List (List ℕ)) (i : ℕ) (t : Tree) → AreGood r → IsTreeAt r i t → IsClosed t
 
 -- ---- At most one tree
 
 mutual
   -- two trees at the same position are equal
-  pub one : (records : List (List ℕ)) (i : ℕ) (t u : Tree) → Stands records i t → Stands records i u → t ≡ u
+  pub one : (records : List (List ℕ)) (i : ℕ) (t u : Tree) → IsTreeAt records i t → IsTreeAt records i u → t ≡ u
   one records i (tree b bs) (tree c cs) h k =
       let e : bs ≡ cs = same records (references (get_or records i [])) bs cs h.2 k.2 in
       let f : b ≡ c = sym h.1 ∙ k.1 in
@@ -54,13 +54,13 @@ mutual
       let n : h.0 ≡ k.0 = cc in
       let rest : h.1 ≡ k.1 = cc in
       let tail : bs ≡ cs = same records h.1 bs cs h.5 (subst (λ (x : List ℕ). AreBranches records x cs) (sym rest) k.5) in
-      let head : t ≡ u = one records (h.0 - first_index) t u h.4 (subst (λ (x : ℕ). Stands records (x - first_index) u) (sym n) k.4) in
+      let head : t ≡ u = one records (h.0 - first_index) t u h.4 (subst (λ (x : ℕ). IsTreeAt records (x - first_index) u) (sym n) k.4) in
       rw (tail, head) refl
 
 -- ---- At least one tree
 
 -- references have branches, if there is a tree at each position of lower rank
-grown : (records : List (List ℕ)) (rank : ℕ → ℕ) (i : ℕ) (below : (j : ℕ) → j < length records → rank j < rank i → (t : Tree) × Stands records j t) (ns : List ℕ) → AllByRecursion (NamesLower records rank i) ns
+grown : (records : List (List ℕ)) (rank : ℕ → ℕ) (i : ℕ) (below : (j : ℕ) → j < length records → rank j < rank i → (t : Tree) × IsTreeAt records j t) (ns : List ℕ) → AllByRecursion (NamesLower records rank i) ns
     → (bs : Branches) × AreBranches records ns bs
 grown records rank i below [] h = (no_branch, refl)
 grown records rank i below (n ∷ ns) h =
@@ -74,15 +74,15 @@ grown records rank i below (n ∷ ns) h =
     ]
 
 -- there is a tree at each position of rank below k, by induction on k
-some_below : (records : List (List ℕ)) (rank : ℕ → ℕ) (ranked : IsRanked records rank) (k i : ℕ) → rank i < k → i < length records → (t : Tree) × Stands records i t
+some_below : (records : List (List ℕ)) (rank : ℕ → ℕ) (ranked : IsRanked records rank) (k i : ℕ) → rank i < k → i < length records → (t : Tree) × IsTreeAt records i t
 some_below records rank ranked zero i lt inside = absurd (omega (arith, lt))
 some_below records rank ranked (suc k) i lt inside =
-    let below : (j : ℕ) → j < length records → rank j < rank i → (t : Tree) × Stands records j t = λ j in_records l. some_below records rank ranked k j (omega (arith, l, lt)) in_records in
+    let below : (j : ℕ) → j < length records → rank j < rank i → (t : Tree) × IsTreeAt records j t = λ j in_records l. some_below records rank ranked k j (omega (arith, l, lt)) in_records in
     let bs = grown records rank i below (references (get_or records i [])) (ranked i inside) in
     (tree (blanked (get_or records i [])) bs.0, (inside, refl, bs.1))
 
 -- there is a tree at each position of records that have a rank
-pub tree_there : (records : List (List ℕ)) (rank : ℕ → ℕ) (i : ℕ) → IsRanked records rank → i < length records → (t : Tree) × Stands records i t
+pub tree_there : (records : List (List ℕ)) (rank : ℕ → ℕ) (i : ℕ) → IsRanked records rank → i < length records → (t : Tree) × IsTreeAt records i t
 tree_there records rank i ranked inside = some_below records rank ranked (suc (rank i)) i (omega arith) inside
 
 -- ---- Closed trees

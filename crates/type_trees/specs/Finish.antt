@@ -8,7 +8,7 @@ use Rattle.type_trees.specs.Table.{IsTable, HoldsBelow}
 use Rattle.type_trees.specs.Rows.{Numbers}
 
 -- `out` is the canonical list of those types of r that are less deep than d, and f gives the position of each in it
-pub record Listed (r : List (List ℕ)) (d : ℕ) (out : List (List ℕ)) (f : ℕ → ℕ) : Type 0 where
+pub record ListsBelow (r : List (List ℕ)) (d : ℕ) (out : List (List ℕ)) (f : ℕ → ℕ) : Type 0 where
   pub trees : List Tree
   pub canonical : Canonical trees
   pub holds : HoldsBelow r d trees

@@ -1,7 +1,7 @@
 -- Laws of the types of records, and of canonical lists.
 use Rattle.std.specs.Prelude.{ℕ, ◌≡◌, ◌≢◌, ◌<◌, ◌≤◌, ◌↔◌, List, length, get_or}
 use Rattle.std.specs.List.{AllByRecursion, AllPairs, Contains, concat}
-use Rattle.type_trees.specs.Tree.{Tree, nothing, branches_of, trees_in, IsClosed, Stands, IsType, IsRanked}
+use Rattle.type_trees.specs.Tree.{Tree, nothing, branches_of, trees_in, IsClosed, IsTreeAt, IsType, IsRanked}
 use Rattle.type_trees.specs.Canon.{text, texts, weight, HoldsBranches, Canonical}
 use Rattle.type_trees.specs.Table.{AreGood}
 use Rattle.type_trees.specs.Check.{AreTypes, IsCycle}
@@ -10,7 +10,7 @@ use Rattle.type_trees.specs.Check.{AreTypes, IsCycle}
 abbrev pub OneTreeEach : Type 0
 OneTreeEach =
     (records : List (List ℕ)) → AreTypes records → (i : ℕ) → i < length records
-    → (t : Tree) × IsClosed t × Stands records i t × ((u : Tree) → Stands records i u → t ≡ u)
+    → (t : Tree) × IsClosed t × IsTreeAt records i t × ((u : Tree) → IsTreeAt records i u → t ≡ u)
 
 -- if a branch of a type of some records is a tree, it is a type of these records
 abbrev pub BranchesAreTypes : Type 0
@@ -21,8 +21,8 @@ abbrev pub OneCycle : Type 0
 OneCycle = (records : List (List ℕ)) (indices others : List ℕ) → IsCycle records indices → IsCycle records others → indices ≡ others
 
 -- if some records lead into a cycle, the records have no rank
-abbrev pub CyclesHaveNoRank : Type 0
-CyclesHaveNoRank = (records : List (List ℕ)) (indices : List ℕ) (rank : ℕ → ℕ) → IsCycle records indices → IsRanked records rank → ⊥
+abbrev pub CyclicTypesHaveNoRank : Type 0
+CyclicTypesHaveNoRank = (records : List (List ℕ)) (indices : List ℕ) (rank : ℕ → ℕ) → IsCycle records indices → IsRanked records rank → ⊥
 
 -- two closed trees with equal texts are equal, where l holds their branches
 abbrev pub TextsDiffer : Type 0
@@ -36,15 +36,15 @@ OneCanonicalList =
     (l m : List Tree) → Canonical l → Canonical m → ((t : Tree) → Contains l t ↔ Contains m t) → l ≡ m
 
 -- the texts of l are good records, each names earlier ones, each tree of l is at its position, and no other tree is there
-pub record ReadsBack (l : List Tree) : Type 0 where
+pub record IsReadBack (l : List Tree) : Type 0 where
   pub good : AreGood (texts l)
   pub lower : IsRanked (texts l) (λ i. i)
-  pub stand : (i : ℕ) → i < length l → Stands (texts l) i (get_or l i nothing)
-  pub alone : (i : ℕ) (u : Tree) → Stands (texts l) i u → u ≡ get_or l i nothing
+  pub stand : (i : ℕ) → i < length l → IsTreeAt (texts l) i (get_or l i nothing)
+  pub alone : (i : ℕ) (u : Tree) → IsTreeAt (texts l) i u → u ≡ get_or l i nothing
 
 -- a canonical list reads back from its texts
 abbrev pub CanonicalReadsBack : Type 0
-CanonicalReadsBack = (l : List Tree) → Canonical l → ReadsBack l
+CanonicalReadsBack = (l : List Tree) → Canonical l → IsReadBack l
 
 -- the weight of a canonical list is the number of bytes of its texts
 abbrev pub WeightOfTexts : Type 0

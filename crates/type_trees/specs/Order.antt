@@ -7,7 +7,7 @@ use Rattle.type_trees.specs.declared.order.Order.TheVariants as order
 
 -- the positions of this number of records, in this order
 abbrev pub order_list : {A : Type 0} → ℕ → Order A → List ℕ
-order_list many order.AsTheyStand = range_with_len 0 many
+order_list many order.InFileOrder = range_with_len 0 many
 order_list many (order.Listed list) = list.items
 
 -- the positions from an index of the list on; if there is no list, all numbers from this one up to the end

@@ -1,14 +1,14 @@
 -- How the records of a level continue a canonical list, once they are renumbered and sorted.
 use Rattle.std.specs.Prelude.{ℕ, zero, suc, ◌≡◌, ◌+◌, ◌*◌, ◌^◌, ◌<◌, List, [], ◌∷◌, get_or}
 use Rattle.byte_fields.specs.Bytes.{AreBytes}
-use Rattle.type_trees.specs.Tree.{Tree, Stands}
+use Rattle.type_trees.specs.Tree.{Tree, IsTreeAt}
 use Rattle.type_trees.specs.Depth.{depth}
 use Rattle.type_trees.specs.Canon.{position_in}
 use Rattle.type_trees.specs.Table.{renumbered}
 
 -- f gives the position in l of each tree of r that is less deep than d
 abbrev pub Numbers : List (List ℕ) → ℕ → List Tree → (ℕ → ℕ) → Type 0
-Numbers r d l f = (k : ℕ) (t : Tree) → Stands r k t → depth t < d → f k ≡ position_in l t
+Numbers r d l f = (k : ℕ) (t : Tree) → IsTreeAt r k t → depth t < d → f k ≡ position_in l t
 
 -- the row of the record at i: the record, renumbered by f
 unfoldable pub row : List (List ℕ) → (ℕ → ℕ) → ℕ → List ℕ

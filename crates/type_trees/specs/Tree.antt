@@ -56,18 +56,18 @@ abbrev mutual
 
 abbrev mutual
   -- this tree is at position i of the records: it has the record with zeros at its places, and its branches
-  pub Stands : List (List ℕ) → ℕ → Tree → Type 0
-  Stands records i (tree b bs) = (i < length records) × (blanked (get_or records i []) ≡ b) × AreBranches records (references (get_or records i [])) bs
+  pub IsTreeAt : List (List ℕ) → ℕ → Tree → Type 0
+  IsTreeAt records i (tree b bs) = (i < length records) × (blanked (get_or records i []) ≡ b) × AreBranches records (references (get_or records i [])) bs
 
   -- each reference below 0x1000 is a simple branch, and every other one names a position at which its branch is
   pub AreBranches : List (List ℕ) → List ℕ → Branches → Type 0
   AreBranches records ns no_branch = ns ≡ []
   AreBranches records ns (simple m bs) = (n : ℕ) × (rest : List ℕ) × (ns ≡ n ∷ rest) × (n < first_index) × (n ≡ m) × AreBranches records rest bs
-  AreBranches records ns (branch t bs) = (n : ℕ) × (rest : List ℕ) × (ns ≡ n ∷ rest) × (first_index ≤ n) × Stands records (n - first_index) t × AreBranches records rest bs
+  AreBranches records ns (branch t bs) = (n : ℕ) × (rest : List ℕ) × (ns ≡ n ∷ rest) × (first_index ≤ n) × IsTreeAt records (n - first_index) t × AreBranches records rest bs
 
 -- the tree is one of the types of these records: it is at one of their positions
 abbrev pub IsType : List (List ℕ) → Tree → Type 0
-IsType records t = (i : ℕ) × Stands records i t
+IsType records t = (i : ℕ) × IsTreeAt records i t
 
 -- the reference is simple, or names a record of lower rank than the one at i
 abbrev pub NamesLower : List (List ℕ) → (ℕ → ℕ) → ℕ → ℕ → Type 0

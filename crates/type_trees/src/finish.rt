@@ -18,7 +18,7 @@ ghost use Rattle.type_trees.specs.Depth.{AreDepths, HasDepths, HasLevels};
 ghost use Rattle.type_trees.specs.Tree.{Tree, IsType};
 ghost use Rattle.type_trees.specs.Table.{IsTable, AreNumbered, renumbered};
 ghost use Rattle.type_trees.specs.Rows.{row, IsKeyed};
-ghost use Rattle.type_trees.specs.Finish.{Listed, AtLevel, Numbered, IsCanonOf};
+ghost use Rattle.type_trees.specs.Finish.{ListsBelow, AtLevel, Numbered, IsCanonOf};
 
 use crate::levels::{Levels, levels_of};
 use crate::renumber::renumber_into;
@@ -186,10 +186,10 @@ fn list_level<S: BuildHasher, A: Allocator + Copy>(
     requires short { length (concat table.now) < 2 ^ 32 }
     requires many { length depths.now ≡ length table.now }
     requires depths { AreDepths table.now depths.now }
-    requires listed { Listed table.now level out.old (λ k. get_or numbers.old k 0) }
+    requires listed { ListsBelow table.now level out.old (λ k. get_or numbers.old k 0) }
     requires numbered { length numbers.old ≡ length table.now }
     requires bounded { (k : ℕ) → get_or numbers.old k 0 < 2 ^ 31 }
-    ensures listed { IfOk result (λ _. Listed table.now (level + 1) out.new (λ k. get_or numbers.new k 0)) }
+    ensures listed { IfOk result (λ _. ListsBelow table.now (level + 1) out.new (λ k. get_or numbers.new k 0)) }
     ensures numbered { length numbers.new ≡ length table.now }
     ensures bounded { (k : ℕ) → get_or numbers.new k 0 < 2 ^ 31 }
 {

@@ -4,7 +4,7 @@
 //! here. The *text* of a tree is its record, which names other trees by their positions in the
 //! list.
 
-ghost use Rattle.type_trees.specs.Laws.{OneTreeEach, BranchesAreTypes, OneCycle, CyclesHaveNoRank, TextsDiffer, OneCanonicalList, CanonicalReadsBack, WeightOfTexts, WeightGrows};
+ghost use Rattle.type_trees.specs.Laws.{OneTreeEach, BranchesAreTypes, OneCycle, CyclicTypesHaveNoRank, TextsDiffer, OneCanonicalList, CanonicalReadsBack, WeightOfTexts, WeightGrows};
 
 /// There is exactly one tree at each position of records that make types, and it is closed.
 pub fn one_tree_each()
@@ -23,7 +23,7 @@ pub fn one_cycle()
 
 /// If some records lead into a cycle, no rank makes each record higher than those that it names.
 pub fn cycles_have_no_rank()
-    ensures { CyclesHaveNoRank }
+    ensures { CyclicTypesHaveNoRank }
 {}
 
 /// Two trees with equal texts are equal, if the list holds their branches.

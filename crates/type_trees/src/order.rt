@@ -34,7 +34,7 @@ pub fn record_at<'a, A: Allocator>(records: &mut Cursor<'_, 'a, A>, position: us
 #[derive(Drop)]
 pub enum Order<A: Allocator = Global> {
     /// The order of the records themselves.
-    AsTheyStand,
+    InFileOrder,
     /// The order of these positions.
     Listed(Vec<u32, A>),
 }
@@ -45,7 +45,7 @@ impl<A: Allocator> Order<A> {
         ensures { result ≡ order_list len self.now }
     {
         match self {
-            Order::AsTheyStand => InOrder {
+            Order::InFileOrder => InOrder {
                 listed: None,
                 next: 0,
                 end: len,

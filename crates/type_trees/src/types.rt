@@ -6,7 +6,7 @@ ghost use Rattle.byte_fields.specs.Check.{Makes};
 ghost use Rattle.tpi_records.specs.Records.{IsRecord};
 ghost use Rattle.cv_leaves.specs.Place.{IsChecked};
 ghost use Rattle.topological_order.specs.Order.{IsOrder};
-ghost use Rattle.type_trees.specs.Tree.{Tree, Stands, IsRanked};
+ghost use Rattle.type_trees.specs.Tree.{Tree, IsTreeAt, IsRanked};
 ghost use Rattle.type_trees.specs.Graph.{graph_of};
 ghost use Rattle.type_trees.specs.Depth.{depth, AreBelow, AreDepths, HasLevels};
 ghost use Rattle.type_trees.specs.Check.{AreTypes, checks_of, IsTypeFault};
@@ -125,7 +125,7 @@ impl<'a, A: Allocator + Copy> Types<'a, A> {
         if let Some(levels) = check_all(&records, &mut depths)? {
             return Ok(Types {
                 records,
-                order: Order::AsTheyStand,
+                order: Order::InFileOrder,
                 depths,
                 levels,
             });
@@ -194,7 +194,7 @@ impl<'a, A: Allocator> Types<'a, A> {
     /// otherwise one more than the depth of the deepest type that it names. `None` where there is
     /// no such position.
     pub fn depth(&self, i: usize) -> Option<u32>
-        ensures value { IfSome result (λ d. (i < length self.now) × ((t : Tree) → Stands self.now i t → d ≡ depth t)) }
+        ensures value { IfSome result (λ d. (i < length self.now) × ((t : Tree) → IsTreeAt self.now i t → d ≡ depth t)) }
         ensures none { IfNone result (length self.now ≤ i) }
     {
         self.depths.get(i).copied()

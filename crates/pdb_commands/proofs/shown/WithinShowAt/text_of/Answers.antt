@@ -1,12 +1,12 @@
 use Rattle.std.proofs.Common.{inl}
 use Rattle.std.proofs.lemmas.Result.{err_from_is_err_and}
 use Rattle.std.specs.Prelude.{string_bytes}
-use Rattle.pdb_commands.specs.Check.{ShowsChecked, ShowsCheckedRead, HasNoAccepted, HasNoAcceptedRead}
-use Rattle.pdb_commands.specs.Info.{ShowsInfo, ShowsInfoRead, HasNoInfo, HasNoInfoRead}
-use Rattle.pdb_commands.specs.Record.{ShowsRecord, ShowsRecordRead, HasNoRecord, HasNoRecordRead}
-use Rattle.pdb_commands.specs.Records.{ShowsRecords, ShowsRecordsRead, HasNoTypeRecords, HasNoTypeRecordsRead}
-use Rattle.pdb_commands.specs.Streams.{ShowsStreamsRead, RefusesNoLayout}
-use Rattle.pdb_commands.specs.Types.{ShowsTypes, ShowsTypesRead, HasNoTypes, HasNoTypesRead}
+use Rattle.pdb_commands.specs.Check.{ShowsChecked, ShowsCheckedRead, RefusesCheck, RefusesCheckRead}
+use Rattle.pdb_commands.specs.Info.{ShowsInfo, ShowsInfoRead, RefusesInfo, RefusesInfoRead}
+use Rattle.pdb_commands.specs.Record.{ShowsRecord, ShowsRecordRead, RefusesRecord, RefusesRecordRead}
+use Rattle.pdb_commands.specs.Records.{ShowsRecords, ShowsRecordsRead, RefusesRecords, RefusesRecordsRead}
+use Rattle.pdb_commands.specs.Streams.{ShowsStreamsRead, RefusesStreamsRead}
+use Rattle.pdb_commands.specs.Types.{ShowsTypes, ShowsTypesRead, RefusesTypes, RefusesTypesRead}
 use Rattle.pdb_commands.proofs.ShownLaws.{shows_within, refuses_within, read_within, refused_within}
 use Rattle.pdb_commands.proofs.shown.WithinShowAt.text_of.Goals as goal
 
@@ -29,7 +29,7 @@ returns-in-Records-clause-value g c =
 
 pub returns-in-Records-clause-first : goal.returns-in-Records-clause-first
 returns-in-Records-clause-first g c =
-    refuses_within HasNoTypeRecords c.args.self.now.command c.args.self.now.limit (g.R.ReadAt.bytes c.args.input.now) c.text_of.result (λ file fault refused. rw c.in-Records.is refused)
+    refuses_within RefusesRecords c.args.self.now.command c.args.self.now.limit (g.R.ReadAt.bytes c.args.input.now) c.text_of.result (λ file fault refused. rw c.in-Records.is refused)
     (λ file known. c.in_ok-check_layout.ensures.value file (c.requires.bytes file known) (c.requires.layout file known)) c.text_of.ensures.first
 
 pub returns-in-Record-clause-value : goal.returns-in-Record-clause-value
@@ -39,7 +39,7 @@ returns-in-Record-clause-value g c =
 
 pub returns-in-Record-clause-first : goal.returns-in-Record-clause-first
 returns-in-Record-clause-first g c =
-    refuses_within (HasNoRecord c.in-Record.index) c.args.self.now.command c.args.self.now.limit (g.R.ReadAt.bytes c.args.input.now) c.text_of-in-Record.result (λ file fault refused. rw c.in-Record.is refused)
+    refuses_within (RefusesRecord c.in-Record.index) c.args.self.now.command c.args.self.now.limit (g.R.ReadAt.bytes c.args.input.now) c.text_of-in-Record.result (λ file fault refused. rw c.in-Record.is refused)
     (λ file known. c.in_ok-check_layout.ensures.value file (c.requires.bytes file known) (c.requires.layout file known)) c.text_of-in-Record.ensures.first
 
 pub returns-in-Types-clause-value : goal.returns-in-Types-clause-value
@@ -49,7 +49,7 @@ returns-in-Types-clause-value g c =
 
 pub returns-in-Types-clause-first : goal.returns-in-Types-clause-first
 returns-in-Types-clause-first g c =
-    refuses_within HasNoTypes c.args.self.now.command c.args.self.now.limit (g.R.ReadAt.bytes c.args.input.now) c.text_of-in-Types.result (λ file fault refused. rw c.in-Types.is refused)
+    refuses_within RefusesTypes c.args.self.now.command c.args.self.now.limit (g.R.ReadAt.bytes c.args.input.now) c.text_of-in-Types.result (λ file fault refused. rw c.in-Types.is refused)
     (λ file known. c.in_ok-check_layout.ensures.value file (c.requires.bytes file known) (c.requires.layout file known)) c.text_of-in-Types.ensures.first
 
 pub returns-in-Check-clause-value : goal.returns-in-Check-clause-value
@@ -59,7 +59,7 @@ returns-in-Check-clause-value g c =
 
 pub returns-in-Check-clause-first : goal.returns-in-Check-clause-first
 returns-in-Check-clause-first g c =
-    refuses_within HasNoAccepted c.args.self.now.command c.args.self.now.limit (g.R.ReadAt.bytes c.args.input.now) c.text_of-in-Check.result (λ file fault refused. rw c.in-Check.is refused)
+    refuses_within RefusesCheck c.args.self.now.command c.args.self.now.limit (g.R.ReadAt.bytes c.args.input.now) c.text_of-in-Check.result (λ file fault refused. rw c.in-Check.is refused)
     (λ file known. c.in_ok-check_layout.ensures.value file (c.requires.bytes file known) (c.requires.layout file known)) c.text_of-in-Check.ensures.first
 
 pub returns-in-Info-clause-value : goal.returns-in-Info-clause-value
@@ -69,7 +69,7 @@ returns-in-Info-clause-value g c =
 
 pub returns-in-Info-clause-first : goal.returns-in-Info-clause-first
 returns-in-Info-clause-first g c =
-    refuses_within HasNoInfo c.args.self.now.command c.args.self.now.limit (g.R.ReadAt.bytes c.args.input.now) c.text_of-in-Info.result (λ file fault refused. rw c.in-Info.is refused)
+    refuses_within RefusesInfo c.args.self.now.command c.args.self.now.limit (g.R.ReadAt.bytes c.args.input.now) c.text_of-in-Info.result (λ file fault refused. rw c.in-Info.is refused)
     (λ file known. c.in_ok-check_layout.ensures.value file (c.requires.bytes file known) (c.requires.layout file known)) c.text_of-in-Info.ensures.first
 
 pub returns-in-Records-clause-texts : goal.returns-in-Records-clause-texts
@@ -78,7 +78,7 @@ returns-in-Records-clause-texts g c =
 
 pub returns-in-Records-clause-refused : goal.returns-in-Records-clause-refused
 returns-in-Records-clause-refused g c =
-    refused_within HasNoTypeRecordsRead c.args.self.now.command c.args.self.now.limit c.args.layout.now c.text_of.result (λ fault refused. rw c.in-Records.is refused) c.in_ok-check_layout.ensures.short c.text_of.ensures.refused
+    refused_within RefusesRecordsRead c.args.self.now.command c.args.self.now.limit c.args.layout.now c.text_of.result (λ fault refused. rw c.in-Records.is refused) c.in_ok-check_layout.ensures.short c.text_of.ensures.refused
 
 pub returns-in-Record-clause-texts : goal.returns-in-Record-clause-texts
 returns-in-Record-clause-texts g c =
@@ -86,7 +86,7 @@ returns-in-Record-clause-texts g c =
 
 pub returns-in-Record-clause-refused : goal.returns-in-Record-clause-refused
 returns-in-Record-clause-refused g c =
-    refused_within (HasNoRecordRead c.in-Record.index) c.args.self.now.command c.args.self.now.limit c.args.layout.now c.text_of-in-Record.result (λ fault refused. rw c.in-Record.is refused) c.in_ok-check_layout.ensures.short c.text_of-in-Record.ensures.refused
+    refused_within (RefusesRecordRead c.in-Record.index) c.args.self.now.command c.args.self.now.limit c.args.layout.now c.text_of-in-Record.result (λ fault refused. rw c.in-Record.is refused) c.in_ok-check_layout.ensures.short c.text_of-in-Record.ensures.refused
 
 pub returns-in-Types-clause-texts : goal.returns-in-Types-clause-texts
 returns-in-Types-clause-texts g c =
@@ -94,7 +94,7 @@ returns-in-Types-clause-texts g c =
 
 pub returns-in-Types-clause-refused : goal.returns-in-Types-clause-refused
 returns-in-Types-clause-refused g c =
-    refused_within HasNoTypesRead c.args.self.now.command c.args.self.now.limit c.args.layout.now c.text_of-in-Types.result (λ fault refused. rw c.in-Types.is refused) c.in_ok-check_layout.ensures.short c.text_of-in-Types.ensures.refused
+    refused_within RefusesTypesRead c.args.self.now.command c.args.self.now.limit c.args.layout.now c.text_of-in-Types.result (λ fault refused. rw c.in-Types.is refused) c.in_ok-check_layout.ensures.short c.text_of-in-Types.ensures.refused
 
 pub returns-in-Check-clause-texts : goal.returns-in-Check-clause-texts
 returns-in-Check-clause-texts g c =
@@ -102,7 +102,7 @@ returns-in-Check-clause-texts g c =
 
 pub returns-in-Check-clause-refused : goal.returns-in-Check-clause-refused
 returns-in-Check-clause-refused g c =
-    refused_within HasNoAcceptedRead c.args.self.now.command c.args.self.now.limit c.args.layout.now c.text_of-in-Check.result (λ fault refused. rw c.in-Check.is refused) c.in_ok-check_layout.ensures.short c.text_of-in-Check.ensures.refused
+    refused_within RefusesCheckRead c.args.self.now.command c.args.self.now.limit c.args.layout.now c.text_of-in-Check.result (λ fault refused. rw c.in-Check.is refused) c.in_ok-check_layout.ensures.short c.text_of-in-Check.ensures.refused
 
 pub returns-in-Info-clause-texts : goal.returns-in-Info-clause-texts
 returns-in-Info-clause-texts g c =
@@ -110,7 +110,7 @@ returns-in-Info-clause-texts g c =
 
 pub returns-in-Info-clause-refused : goal.returns-in-Info-clause-refused
 returns-in-Info-clause-refused g c =
-    refused_within HasNoInfoRead c.args.self.now.command c.args.self.now.limit c.args.layout.now c.text_of-in-Info.result (λ fault refused. rw c.in-Info.is refused) c.in_ok-check_layout.ensures.short c.text_of-in-Info.ensures.refused
+    refused_within RefusesInfoRead c.args.self.now.command c.args.self.now.limit c.args.layout.now c.text_of-in-Info.result (λ fault refused. rw c.in-Info.is refused) c.in_ok-check_layout.ensures.short c.text_of-in-Info.ensures.refused
 
 pub returns-in-Streams-clause-texts : goal.returns-in-Streams-clause-texts
 returns-in-Streams-clause-texts g c =
@@ -118,4 +118,4 @@ returns-in-Streams-clause-texts g c =
 
 pub returns-in-Streams-clause-refused : goal.returns-in-Streams-clause-refused
 returns-in-Streams-clause-refused g c =
-    refused_within RefusesNoLayout c.args.self.now.command c.args.self.now.limit c.args.layout.now c.text_of-in-Streams.result (λ fault refused. rw c.in-Streams.is refused) c.in_ok-check_layout.ensures.short c.text_of-in-Streams.ensures.refused
+    refused_within RefusesStreamsRead c.args.self.now.command c.args.self.now.limit c.args.layout.now c.text_of-in-Streams.result (λ fault refused. rw c.in-Streams.is refused) c.in_ok-check_layout.ensures.short c.text_of-in-Streams.ensures.refused
