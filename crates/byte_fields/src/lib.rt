@@ -12,7 +12,7 @@
 //!
 //! The lemmas about numbers, names, checks and bytes are in `proofs/`, for the crates above.
 //!
-//! The file `src/examples.rt` of the crate `acceptance` shows this crate in use, in a few lines.
+//! The file `src/examples.rt` of the crate `test_examples` shows this crate in use, in a few lines.
 #![tactic(auto)]
 
 mod field;

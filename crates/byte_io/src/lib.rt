@@ -16,7 +16,7 @@
 //! took a proper prefix of the bytes. A sink or a source that broke stays broken. All of this says
 //! nothing where the bytes of a writer or a reader are not known, as those of a file.
 //!
-//! The file `src/examples.rt` of the crate `acceptance` shows this crate in use, in a few lines.
+//! The file `src/examples.rt` of the crate `test_examples` shows this crate in use, in a few lines.
 #![tactic(auto)]
 
 mod at;

@@ -33,7 +33,7 @@
 //! with the record's own references, is the record again. The entries of a method list fill its
 //! body, and so do the members of a field list. No function allocates. ("CodeView Type Records".)
 //!
-//! The file `src/examples.rt` of the crate `acceptance` shows this crate in use, in a few lines.
+//! The file `src/examples.rt` of the crate `test_examples` shows this crate in use, in a few lines.
 #![tactic(auto)]
 
 mod checks;

@@ -5,7 +5,7 @@
 //! lie anywhere. The owner compares the value at each position that is found, because different
 //! values may have the same hash.
 //!
-//! The file `src/examples.rt` of the crate `acceptance` shows this crate in use, in a few lines.
+//! The file `src/examples.rt` of the crate `test_examples` shows this crate in use, in a few lines.
 #![tactic(auto)]
 
 ghost use Rattle.std.specs.Prelude.{◌≡◌, ◌≢◌, ◌+◌, ◌-◌, ◌^◌, ◌<◌, ◌≤◌, ◌++◌, ◌↔◌, [], ◌∷◌, ℕ, length, get_or, take, nat_eq, unwrap_or, if◌then◌else◌, IsTrue, IfOk, IfErr, IfSome, IfNone};

@@ -21,7 +21,7 @@
 //! A reader refuses a container with the fault of the first check that fails. The checks are made
 //! in the order of the variants of [`MsfFault`].
 //!
-//! The file `src/examples.rt` of the crate `acceptance` shows this crate in use, in a few lines.
+//! The file `src/examples.rt` of the crate `test_examples` shows this crate in use, in a few lines.
 #![tactic(auto)]
 
 mod block_number;

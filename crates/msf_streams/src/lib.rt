@@ -37,7 +37,7 @@
 //! sink breaks. Streams are refused exactly where they have no image.
 //! ("The MSF File Format", "The Stream Directory".)
 //!
-//! The file `src/examples.rt` of the crate `acceptance` shows this crate in use, in a few lines.
+//! The file `src/examples.rt` of the crate `test_examples` shows this crate in use, in a few lines.
 #![tactic(auto)]
 
 mod at;

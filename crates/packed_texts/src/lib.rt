@@ -4,7 +4,7 @@
 //! which it ends. The length of each text is a multiple of four bytes. So these offsets count
 //! groups of four bytes, and 32 bits are enough for 16 GB of text.
 //!
-//! The file `src/examples.rt` of the crate `acceptance` shows this crate in use, in a few lines.
+//! The file `src/examples.rt` of the crate `test_examples` shows this crate in use, in a few lines.
 #![tactic(auto)]
 
 ghost use Rattle.std.specs.Prelude.{◌≡◌, ◌+◌, ◌-◌, ◌*◌, ◌%◌, ◌^◌, ◌<◌, ◌≤◌, ◌++◌, ◌↔◌, [], ◌∷◌, ℕ, length, get_or, take, IsTrue, IfOk, IfErr};

@@ -21,7 +21,7 @@
 //! The module `show` runs the commands that show a file. Each command has a module of its own.
 //! `text` prints numbers and names.
 //!
-//! The file `src/examples.rt` of the crate `acceptance` shows this crate in use, in a few lines.
+//! The file `src/examples.rt` of the crate `test_examples` shows this crate in use, in a few lines.
 #![tactic(auto)]
 
 mod bound;

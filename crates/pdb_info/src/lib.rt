@@ -32,7 +32,7 @@
 //! memory. A fault names the first check that fails, or `Memory` where no check fails. A written
 //! info stream has this form, for the age and the GUID of its settings. ("The PDB Info Stream".)
 //!
-//! The file `src/examples.rt` of the crate `acceptance` shows this crate in use, in a few lines.
+//! The file `src/examples.rt` of the crate `test_examples` shows this crate in use, in a few lines.
 #![tactic(auto)]
 
 mod ends;

@@ -24,7 +24,7 @@
 //! has the same bytes. A refusal is the first fault. The [`laws`] hold of every file that is
 //! written so.
 //!
-//! The file `src/examples.rt` of the crate `acceptance` shows this crate in use, in a few lines.
+//! The file `src/examples.rt` of the crate `test_examples` shows this crate in use, in a few lines.
 #![tactic(auto)]
 
 mod buffer;

@@ -3,7 +3,7 @@
 //! [`TextSet`] finds a text by its bytes. The text is hashed, by one `write` of all its bytes. The
 //! bytes are compared before two texts count as equal, so the result never depends on the hash.
 //!
-//! The file `src/examples.rt` of the crate `acceptance` shows this crate in use, in a few lines.
+//! The file `src/examples.rt` of the crate `test_examples` shows this crate in use, in a few lines.
 #![tactic(auto)]
 
 mod find;

@@ -7,7 +7,7 @@
 //!
 //! The walk keeps its path in a list. It doesn't recurse, and it reads each name at most twice.
 //!
-//! The file `src/examples.rt` of the crate `acceptance` shows this crate in use, in a few lines.
+//! The file `src/examples.rt` of the crate `test_examples` shows this crate in use, in a few lines.
 #![tactic(auto)]
 
 mod fault;

@@ -27,7 +27,7 @@
 //! fails. A stream that begins with a written header has the records that follow it.
 //! ("The PDB TPI and IPI Streams".)
 //!
-//! The file `src/examples.rt` of the crate `acceptance` shows this crate in use, in a few lines.
+//! The file `src/examples.rt` of the crate `test_examples` shows this crate in use, in a few lines.
 #![tactic(auto)]
 
 mod cursor;

@@ -33,7 +33,7 @@
 //! rank; and that a set of types has one canonical list, which reads back as that set. Nothing
 //! recurses along references: a record is read after those that it names.
 //!
-//! The file `src/examples.rt` of the crate `acceptance` shows this crate in use, in a few lines.
+//! The file `src/examples.rt` of the crate `test_examples` shows this crate in use, in a few lines.
 #![tactic(auto)]
 
 mod canon;

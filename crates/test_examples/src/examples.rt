@@ -1,0 +1,203 @@
+//! A short example for each library, as a user of that library writes it.
+
+use crate::orders::names_nodes;
+use byte_fields::{u16_at, u32_at};
+use byte_io::{In, Out, put_all};
+use cv_leaves::{places, ref_at, type_name};
+use key_chains::KeyChains;
+use msf_blocks::Layout;
+use msf_streams::{gather, pieces};
+use packed_texts::PackedTexts;
+use pdb_commands::run_check;
+use pdb_info::{Info, Settings, guid_of};
+use pdb_merge::{Buffer, merge_to, read_records, read_types};
+use std::test::Fail;
+use test_samples::{TO_INT, folding, sample};
+use text_set::TextSet;
+use topological_order::{Graph, topological_order};
+use tpi_records::{Records, tpi_header_bytes};
+use type_trees::{Table, Types};
+
+/// `byte_fields` reads little-endian numbers.
+#[test]
+fn numbers_at_offsets(rt: HostRuntime) {
+    let bytes = b"\x10\0\x34\x12\0\0";
+    assert_eq!(rt; u16_at(bytes, 0), 16);
+    assert_eq!(rt; u32_at(bytes, 2), 0x1234);
+}
+
+/// `byte_io` writes into whatever takes bytes.
+#[test]
+fn bytes_into_a_sink(rt: HostRuntime) -> Result<(), Fail> {
+    let mut file = Vec::new(rt.alloc());
+    put_all(&mut Out::new(&mut file), b"two parts")?;
+    assert_eq!(rt; file.as_slice(), b"two parts".as_slice());
+    Ok(())
+}
+
+/// `key_chains` finds the positions of a key, the newest first.
+#[test]
+fn positions_of_a_key(rt: HostRuntime) -> Result<(), Fail> {
+    let mut chains = KeyChains::new(rt.alloc());
+    chains.push(7)?;
+    chains.push(9)?;
+    chains.push(7)?;
+    let newest = chains.newest(7).ok_or("no such key")?;
+    assert_eq!(rt; newest, 2);
+    assert_eq!(rt; chains.older(newest), Some(0));
+    Ok(())
+}
+
+/// `packed_texts` keeps texts one after the other.
+#[test]
+fn texts_in_one_vector(rt: HostRuntime) -> Result<(), Fail> {
+    let mut texts = PackedTexts::new(rt.alloc());
+    texts.push(b"four")?;
+    texts.push(b"and more")?;
+    assert_eq!(rt; texts.get(1), b"and more".as_slice());
+    assert_eq!(rt; texts.bytes(), b"fourand more".as_slice());
+    Ok(())
+}
+
+/// `text_set` gives equal texts one position.
+#[test]
+fn each_text_once(rt: HostRuntime) -> Result<(), Fail> {
+    let mut set = TextSet::with_hasher(rt.alloc(), folding());
+    let first = set.intern(b"four")?;
+    set.intern(b"more")?;
+    assert_eq!(rt; set.intern(b"four")?, first);
+    assert_eq!(rt; set.len(), 2);
+    Ok(())
+}
+
+/// `topological_order` puts each node of a graph after the nodes that it names.
+#[test]
+fn nodes_after_what_they_name(rt: HostRuntime) -> Result<(), Fail> {
+    let mut graph = Graph::with_capacity(rt.alloc(), 3)?;
+    graph.push(&[1])?;
+    graph.push(&[2])?;
+    graph.push(&[])?;
+    // A caller shows that no node names one that the graph does not have.
+    assert!(rt; names_nodes(&graph));
+    let order = topological_order(rt.alloc(), &graph)?;
+    assert_eq!(rt; order.as_slice(), [2, 1, 0].as_slice());
+    Ok(())
+}
+
+/// `msf_blocks` reads where the streams of a file are.
+#[test]
+fn the_streams_of_a_file(rt: HostRuntime) -> Result<(), Fail> {
+    let file = sample(rt.alloc())?;
+    let layout = Layout::read(rt.alloc(), &file)?;
+    assert_eq!(rt; layout.superblock().block_size(), 512);
+    assert_eq!(rt; layout.streams(), 5);
+    assert_eq!(rt; layout.size(2), Some(80));
+    assert_eq!(rt; layout.block(2, 0), Some(6));
+    Ok(())
+}
+
+/// `msf_streams` gathers the bytes of a stream, or lends them.
+#[test]
+fn the_bytes_of_a_stream(rt: HostRuntime) -> Result<(), Fail> {
+    let file = sample(rt.alloc())?;
+    let layout = Layout::read(rt.alloc(), &file)?;
+    let stream = gather(rt.alloc(), &file, &layout, 2)?;
+    assert_eq!(rt; stream.len(), 80);
+    for piece in pieces(&file, &layout, 2).ok_or("no stream 2")? {
+        assert_eq!(rt; piece, stream.as_slice());
+    }
+    Ok(())
+}
+
+/// `pdb_info` reads what identifies a file.
+#[test]
+fn the_guid_of_a_file(rt: HostRuntime) -> Result<(), Fail> {
+    let file = sample(rt.alloc())?;
+    let layout = Layout::read(rt.alloc(), &file)?;
+    let stream = gather(rt.alloc(), &file, &layout, 1)?;
+    let info = Info::read(rt.alloc(), &stream)?;
+    let guid = info.header().guid().to_string(rt.alloc())?;
+    assert_eq!(rt; info.header().age(), 1);
+    assert_eq!(rt; guid.as_str(), "00112233-4455-6677-8899-aabbccddeeff");
+    Ok(())
+}
+
+/// `tpi_records` cuts a stream into records.
+#[test]
+fn the_records_of_a_stream(rt: HostRuntime) -> Result<(), Fail> {
+    let mut stream = Vec::new(rt.alloc());
+    stream.extend_from_slice(&tpi_header_bytes(1, 12))?;
+    stream.extend_from_slice(TO_INT)?;
+    let records = Records::read(rt.alloc(), &stream)?;
+    assert_eq!(rt; records.len(), 1);
+    assert_eq!(rt; records.get(0), Some(TO_INT));
+    Ok(())
+}
+
+/// `cv_leaves` finds the type indices in a record.
+#[test]
+fn the_references_of_a_record(rt: HostRuntime) -> Result<(), Fail> {
+    cv_leaves::check(TO_INT)?;
+    let place = places(TO_INT).next().ok_or("it names no type")?;
+    assert_eq!(rt; place, 0);
+    assert_eq!(rt; ref_at(TO_INT, place), 0x74);
+    assert_eq!(rt; type_name(TO_INT), None);
+    Ok(())
+}
+
+/// `type_trees` checks records, and lists the types of several files in canonical order.
+#[test]
+fn types_in_canonical_order(rt: HostRuntime) -> Result<(), Fail> {
+    let file = sample(rt.alloc())?;
+    let mut buffer = Buffer::new(rt.alloc());
+    let types = Types::check(rt.alloc(), read_records(rt.alloc(), &file, &mut buffer)?)?;
+    assert_eq!(rt; types.levels(), 1);
+    let mut table = Table::with_hasher(rt.alloc(), folding());
+    table.add(rt.alloc(), &types, 1000)?;
+    drop(types);
+    let records = read_records(rt.alloc(), &file, &mut buffer)?;
+    // each record names only earlier ones, so the records can be added as they stand
+    assert!(rt; table.add_records(rt.alloc(), &records, 1000));
+    let canon = table.finish(rt.alloc())?;
+    assert_eq!(rt; canon.len(), 2);
+    assert_eq!(rt; canon.get(1), Some(TO_INT));
+    Ok(())
+}
+
+/// `pdb_merge` writes one file with the types of several.
+#[test]
+fn a_merge_of_two_files(rt: HostRuntime) -> Result<(), Fail> {
+    let file = sample(rt.alloc())?;
+    let settings = Settings::new(guid_of([0x11; 16]), 1, 1000, 4096).ok_or("no settings")?;
+    let mut merged = Vec::new(rt.alloc());
+    let files: [&[u8]; 2] = [&file, &file];
+    let summary = merge_to(
+        rt.alloc(),
+        files.as_slice(),
+        &settings,
+        &mut Out::new(&mut merged),
+        folding(),
+    )?;
+    assert_eq!(rt; summary.types, 2);
+    let mut buffer = Buffer::new(rt.alloc());
+    assert_eq!(rt; read_types(rt.alloc(), &merged, &mut buffer)?.len(), 2);
+    Ok(())
+}
+
+/// `pdb_commands` runs a command on bytes.
+#[test]
+fn a_check_of_a_file(rt: HostRuntime) -> Result<(), Fail> {
+    let file = sample(rt.alloc())?;
+    let mut text = Vec::new(rt.alloc());
+    run_check(
+        rt.alloc(),
+        &mut In::new(file.as_slice()),
+        u32::MAX,
+        &mut Out::new(&mut text),
+    )?;
+    assert_eq!(rt;
+        text.as_slice(),
+        b"accepted\nrecords 2\nbytes 24\nlevels 1\n".as_slice()
+    );
+    Ok(())
+}

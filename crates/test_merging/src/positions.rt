@@ -1,0 +1,189 @@
+//! Merges of files that are read by position: the rows of merges, a read that fails, a later file
+//! that cannot be opened, and refused memory.
+
+ghost use Rattle.std.specs.Prelude.{None};
+
+use super::merging::{ROWS, is_listed, wanted, zeros};
+use byte_io::{InputFault, Inputs, Opened};
+use pdb_info::Settings;
+use pdb_merge::{MergeFault, PdbFault, merge_files};
+use std::alloc::{Allocator, Global};
+use std::test::Fail;
+use test_samples::{LIMIT, Positions, folding, pdb_with, refusals, sample, settings};
+use type_trees::Canon;
+
+/// Files that are read by position. In each of them the read with a number fails. Clauses do not
+/// see their bytes.
+#[derive(Drop)]
+struct Parts<'p> {
+    files: &'p [&'p [u8]],
+    fails_at: usize,
+    /// whether each file can be read whole as well
+    whole: bool,
+}
+
+impl<'p> Parts<'p> {
+    /// The bytes of the file at a position. A file without bytes cannot be opened.
+    fn file(&self, input: usize) -> Result<&'p [u8], InputFault> {
+        match self.files.get(input) {
+            Some(file) if !file.is_empty() => Ok(*file),
+            _ => Err(InputFault::Open),
+        }
+    }
+}
+
+impl<'p> Inputs for Parts<'p> {
+    ghost known = { λ _. None };
+
+    type File = Positions<'p>;
+
+    fn count(&self) -> usize {
+        self.files.len()
+    }
+
+    fn read<'a, A: Allocator>(
+        &'a self,
+        input: usize,
+        _buffer: &'a mut Vec<u8, A>,
+    ) -> Result<&'a [u8], InputFault> {
+        if self.whole {
+            self.file(input)
+        } else {
+            Err(InputFault::Open)
+        }
+    }
+
+    fn open<'a, A: Allocator>(
+        &'a self,
+        input: usize,
+        _buffer: &'a mut Vec<u8, A>,
+    ) -> Result<Opened<'a, Positions<'p>>, InputFault> {
+        Ok(Opened::At(Positions::new(self.file(input)?, self.fails_at)))
+    }
+
+    fn check(&self, input: usize) -> Result<(), InputFault> {
+        self.file(input)?;
+        Ok(())
+    }
+}
+
+/// The list of the types of files that are read by position.
+fn list_at<A: Allocator + Copy>(
+    alloc: A,
+    files: Parts<'_>,
+    settings: &Settings,
+) -> Result<Canon<A>, MergeFault<A>> {
+    merge_files(alloc, files, settings, folding())
+}
+
+/// The list of the types of files that are read by position and cannot be read whole.
+fn parts_alone(
+    alloc: Global,
+    files: &[&[u8]],
+    fails_at: usize,
+    settings: &Settings,
+) -> Result<Canon, MergeFault> {
+    let files = Parts {
+        files,
+        fails_at,
+        whole: false,
+    };
+    list_at(alloc, files, settings)
+}
+
+#[test]
+fn each_type_once_by_position(rt: HostRuntime) -> Result<(), Fail> {
+    let settings = settings(LIMIT, 4096)?;
+    for (some, others, all) in ROWS {
+        let first = pdb_with(rt.alloc(), some)?;
+        let second = pdb_with(rt.alloc(), others)?;
+        let want = wanted(rt.alloc(), all)?;
+        let files = [first.as_slice(), second.as_slice(), first.as_slice()];
+        let list = parts_alone(rt.alloc(), &files, usize::MAX, &settings);
+        assert!(rt; list.is_ok_and(|canon| is_listed(&canon, &want)));
+    }
+    Ok(())
+}
+
+#[test]
+fn after_a_read_that_fails_the_file_is_read_whole(rt: HostRuntime) -> Result<(), Fail> {
+    let file = sample(rt.alloc())?;
+    let files = [file.as_slice(), file.as_slice()];
+    let settings = settings(LIMIT, 4096)?;
+    let want = merge_files(rt.alloc(), &files[..], &settings, folding());
+    let want = want.ok().ok_or("the sample is refused")?;
+    for fails_at in 0..100usize {
+        let files_at = Parts {
+            files: &files,
+            fails_at,
+            whole: true,
+        };
+        let list = list_at(rt.alloc(), files_at, &settings);
+        assert!(rt;
+            list.is_ok_and(|canon| canon.bytes() == want.bytes()),
+            "read {fails_at}"
+        );
+        match parts_alone(rt.alloc(), &files, fails_at, &settings) {
+            Ok(_) => {
+                // no read has this number
+                assert!(rt; 0 < fails_at);
+                return Ok(());
+            }
+            Err(fault) => assert_eq!(rt;
+                fault,
+                MergeFault::Input {
+                    file: 0,
+                    fault: InputFault::Open
+                },
+                "read {fails_at}"
+            ),
+        }
+    }
+    Err("too many reads".into())
+}
+
+#[test]
+fn a_later_file_that_cannot_be_opened_is_refused_first(rt: HostRuntime) -> Result<(), Fail> {
+    let good = sample(rt.alloc())?;
+    let bad = zeros(rt.alloc())?;
+    let settings = settings(LIMIT, 4096)?;
+    let list = parts_alone(rt.alloc(), &[&bad, &good, &[]], usize::MAX, &settings);
+    assert_eq!(rt;
+        list.err(),
+        Some(MergeFault::Input {
+            file: 2,
+            fault: InputFault::Open
+        })
+    );
+    let list = parts_alone(rt.alloc(), &[&good, &bad, &good], usize::MAX, &settings);
+    assert!(rt;
+        matches!(
+            list.err(),
+            Some(MergeFault::Refused {
+                file: 1,
+                fault: PdbFault::Msf(_)
+            })
+        )
+    );
+    Ok(())
+}
+
+#[test]
+fn growth_is_refused_by_position(rt: HostRuntime) -> Result<(), Fail> {
+    let file = sample(rt.alloc())?;
+    let files = [file.as_slice(), file.as_slice()];
+    let settings = settings(LIMIT, 4096)?;
+    refusals(rt.alloc(), 64, 96, |heap| {
+        let files_at = Parts {
+            files: &files,
+            fails_at: usize::MAX,
+            whole: false,
+        };
+        match list_at(heap, files_at, &settings) {
+            Ok(_) => Ok(false),
+            Err(MergeFault::Memory) => Ok(true),
+            Err(_) => Err("refused for another reason".into()),
+        }
+    })?;
+    Ok(())
+}
