@@ -35,12 +35,12 @@
 //! The file `src/examples.rt` of the crate `test_examples` shows this crate in use, in a few lines.
 #![tactic(auto)]
 
-mod ends;
 mod fault;
 mod guid;
 mod header;
 mod info;
 mod map;
+mod name_ends;
 mod names;
 mod pairs;
 mod settings;

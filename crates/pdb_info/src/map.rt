@@ -50,16 +50,16 @@ fn number(stream: &[u8], offset: usize) -> Result<u32, InfoFault>
     Ok(u32_at(stream, offset))
 }
 
-/// How many bits are 1 in the `u32s` words at `start`.
+/// How many bits are 1 in the `words` numbers of four bytes at `start`.
 #[tactic(auto, using(crate::proofs::MapLaws::present_more, crate::proofs::MapLaws::ones_few))]
-fn present_count(stream: &[u8], start: usize, u32s: u32) -> u64
-    requires { start + 4 * u32s ≤ length stream.now }
-    ensures { result ≡ present_count (numbers_at stream.now start u32s) }
+fn present_count(stream: &[u8], start: usize, words: u32) -> u64
+    requires { start + 4 * words ≤ length stream.now }
+    ensures { result ≡ present_count (numbers_at stream.now start words) }
 {
     let mut present = 0u64;
-    for w in 0..u32s {
-        let nth_u32 = u32_at(stream, start + 4 * w as usize);
-        present += u64::from(nth_u32.count_ones());
+    for w in 0..words {
+        let word = u32_at(stream, start + 4 * w as usize);
+        present += u64::from(word.count_ones());
     }
     present
 }

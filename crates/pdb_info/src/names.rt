@@ -7,9 +7,9 @@ ghost use Rattle.pdb_info.specs.Names.{IsMap, is_named, named_in, pair_at, pair_
 ghost use Rattle.pdb_info.specs.Ends.{AreEnds};
 ghost use Rattle.pdb_info.specs.Name.{named};
 
-use crate::ends::{between, end_at, ends_of};
 use crate::fault::InfoFault;
 use crate::map::NameMap;
+use crate::name_ends::{between, end_at, ends_of};
 use byte_fields::u32_at;
 use std::alloc::Allocator;
 

@@ -4,10 +4,10 @@ ghost use Rattle.std.specs.Prelude.{◌≡◌, ◌+◌, ◌*◌, ◌<◌, ◌≤
 ghost use Rattle.byte_fields.specs.Check.{Makes, checks_below};
 ghost use Rattle.pdb_info.specs.Names.{IsMap, is_named, is_present, present_of, present_buckets, pair_offset, pairs_offset, pair_checks, size_of, buffer_of};
 
-use crate::ends::ended_length;
 use crate::fault::InfoFault;
 use crate::header::HEADER_LENGTH;
 use crate::map::{COUNTS, NameMap, check_fits};
+use crate::name_ends::ended_length;
 use byte_fields::u32_at;
 
 impl NameMap {
@@ -27,11 +27,11 @@ impl NameMap {
         requires below { bucket < 32 * self.now.present_words }
         ensures { result ≡ is_present (present_of stream.now) bucket }
     {
-        let nth_u32 = u32_at(
+        let word = u32_at(
             stream,
             self.size_offset + COUNTS + 4 * (bucket / 32) as usize,
         );
-        nth_u32 >> (bucket % 32) & 1 == 1
+        word >> (bucket % 32) & 1 == 1
     }
 
     /// Checks the `k`-th pair, which belongs to this bucket. A name has an end if it begins before

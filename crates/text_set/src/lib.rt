@@ -7,7 +7,7 @@
 #![tactic(auto)]
 
 mod find;
-mod place;
+mod insert;
 mod set;
 
 pub use set::TextSet;

@@ -5,7 +5,7 @@ ghost use Rattle.std.specs.List.{concat};
 ghost use Rattle.text_set.specs.TextSet.{AreDistinct, Holds};
 
 use crate::find::hash_of;
-use crate::place::place;
+use crate::insert::insert;
 use key_chains::KeyChains;
 use packed_texts::PackedTexts;
 use std::alloc::{AllocError, Allocator, Global};
@@ -95,7 +95,7 @@ impl<S: BuildHasher, A: Allocator> TextSet<S, A> {
         ensures small { length self.new < 2 ^ 31 }
     {
         let hash = hash_of(&self.hasher, text);
-        let position = place(&mut self.texts, &mut self.hashes, text, hash)?;
+        let position = insert(&mut self.texts, &mut self.hashes, text, hash)?;
         Ok(position)
     }
 

@@ -1,5 +1,5 @@
 use Rattle.pdb_info.proofs.EndLaws.{IsEnding}
-use Rattle.pdb_info.proofs.ends.ends_of.Given as goal
+use Rattle.pdb_info.proofs.name_ends.ends_of.Given as goal
 
 abbrev pub invariant-loop-parts : goal.invariant-loop-parts
 invariant-loop-parts g l = IsEnding l.buffer l.ends.items l.parts l.stop l.end

@@ -37,7 +37,7 @@ fn append<A: Allocator>(
 }
 
 /// The position of a text that has this hash. The text is appended if it isn't there.
-pub(crate) fn place<A: Allocator>(
+pub(crate) fn insert<A: Allocator>(
     texts: &mut PackedTexts<A>,
     hashes: &mut KeyChains<A>,
     text: &[u8],

@@ -1,5 +1,5 @@
 use Rattle.pdb_info.proofs.EndLaws.{none_named, last_named}
-use Rattle.pdb_info.proofs.ends.ended_length.Goals as goal
+use Rattle.pdb_info.proofs.name_ends.ended_length.Goals as goal
 
 pub returns-in-Some : goal.returns-in-Some
 returns-in-Some c = last_named c.args.buffer.now c.in-Some.last (rw c.in-Some.is at c.rfind_byte.ensures)

@@ -1,6 +1,6 @@
 use Rattle.std.proofs.Common.{◌≡◌, ◌-◌, ◌*◌, arith, rules}
 use Rattle.pdb_info.proofs.EndLaws.{end_inside, ending_more, ending_ends}
-use Rattle.pdb_info.proofs.ends.ends_of.Goals as goal
+use Rattle.pdb_info.proofs.name_ends.ends_of.Goals as goal
 
 pub overflow_cast-end : goal.overflow_cast-end
 overflow_cast-end g c =
