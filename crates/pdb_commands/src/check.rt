@@ -6,8 +6,8 @@ ghost use Rattle.pdb_commands.specs.Check.{ShowsChecked, ShowsCheckedRead, Refus
 ghost use Rattle.pdb_commands.specs.Show.{Answers, AnswersAt};
 ghost use Rattle.pdb_merge.specs.Read.{IsAccepted, TypesWereRead};
 
+use crate::command::{Show, ShowAt, run, run_at};
 use crate::fault::RunFault;
-use crate::show::{Show, ShowAt, run, run_at};
 use crate::text::push_named;
 use byte_io::{AtFault, ReadAt, Sink, Source};
 use msf_blocks::{Layout, MsfFault};

@@ -10,8 +10,8 @@ ghost use Rattle.pdb_commands.specs.Show.{Answers, AnswersAt};
 ghost use Rattle.pdb_commands.specs.Info.{ShowsInfo, ShowsInfoRead, RefusesInfo, RefusesInfoRead, HasNoInfoStream, HasNoInfoStreamRead, IsInfoFault, IsInfoText, signature_line, guid_line, header_lines, name_line, feature_line};
 
 use crate::bound::INFO_STREAM;
+use crate::command::{Show, ShowAt, run, run_at};
 use crate::fault::RunFault;
-use crate::show::{Show, ShowAt, run, run_at};
 use crate::streams::read_layout;
 use crate::text::{push_index, push_named, push_quoted};
 use byte_io::{AtFault, ReadAt, Sink, Source};

@@ -18,7 +18,7 @@
 //! any file a length above the limit is refused first, and the text, or the fault, is that of the
 //! texts that were read (`ShowsItRead`, `RefusesItRead`).
 //!
-//! The module `show` runs the commands that show a file. Each command has a module of its own.
+//! The module `command` runs the commands that show a file. Each command has a module of its own.
 //! `text` prints numbers and names.
 //!
 //! The file `src/examples.rt` of the crate `test_examples` shows this crate in use, in a few lines.
@@ -26,12 +26,12 @@
 
 mod bound;
 mod check;
+mod command;
 mod fault;
 mod info;
 mod merge;
 mod record;
 mod records;
-mod show;
 mod shown;
 mod streams;
 mod text;

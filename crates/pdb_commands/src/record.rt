@@ -9,8 +9,8 @@ ghost use Rattle.pdb_commands.specs.Record.{ShowsRecord, ShowsRecordRead, Refuse
 ghost use Rattle.pdb_commands.specs.Show.{Answers, AnswersAt, IsOfText};
 ghost use Rattle.pdb_merge.specs.Read.{HasTypeRecords, RecordsWereRead};
 
+use crate::command::{Show, ShowAt, run, run_at};
 use crate::fault::RunFault;
-use crate::show::{Show, ShowAt, run, run_at};
 use crate::text::{push_index, push_quoted};
 use byte_io::{AtFault, ReadAt, Sink, Source};
 use cv_leaves::{check, places, ref_at, type_name};

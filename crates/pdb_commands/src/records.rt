@@ -5,8 +5,8 @@ ghost use Rattle.tpi_records.specs.Records.{IsRecord};
 ghost use Rattle.pdb_commands.specs.Records.{ShowsRecords, ShowsRecordsRead, RefusesRecords, RefusesRecordsRead, record_line, record_lines};
 ghost use Rattle.pdb_commands.specs.Show.{Answers, AnswersAt};
 
+use crate::command::{Show, ShowAt, run, run_at};
 use crate::fault::RunFault;
-use crate::show::{Show, ShowAt, run, run_at};
 use crate::text::{push_index, push_kind};
 use byte_io::{AtFault, ReadAt, Sink, Source};
 use cv_leaves::kind_of;

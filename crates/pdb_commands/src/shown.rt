@@ -8,11 +8,11 @@ ghost use Rattle.pdb_commands.specs.Shown.{ShowsWithin, ShowsWithinRead, Refuses
 
 use crate::bound::{INFO_STREAM, TPI_STREAM, check_size, check_stream};
 use crate::check::Check;
+use crate::command::{Show, ShowAt, run, run_at};
 use crate::fault::RunFault;
 use crate::info::Info;
 use crate::record::Record;
 use crate::records::Records;
-use crate::show::{Show, ShowAt, run, run_at};
 use crate::streams::Streams;
 use crate::types::Types;
 use byte_io::{AtFault, ReadAt, ReadFault, Sink, Source};

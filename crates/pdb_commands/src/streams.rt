@@ -11,8 +11,8 @@ ghost use Rattle.msf_blocks.specs.Layout.{HasLayout};
 ghost use Rattle.pdb_commands.specs.Show.{Answers, AnswersAt};
 ghost use Rattle.pdb_commands.specs.Streams.{ShowsStreams, ShowsStreamsRead, HasLayoutFault, RefusesStreams, RefusesStreamsRead, HasMap, free_blocks, is_free_by, bit_of, blank_number, container_with, stream_line, stream_lines};
 
+use crate::command::{Show, ShowAt, run, run_at};
 use crate::fault::RunFault;
-use crate::show::{Show, ShowAt, run, run_at};
 use crate::text::push_named;
 use byte_io::{AtFault, ReadAt, Sink, Source};
 use msf_blocks::{Layout, MsfFault, Superblock, blocks_for, free_bit};

@@ -13,8 +13,8 @@ ghost use Rattle.pdb_commands.specs.Show.{Answers, AnswersAt};
 ghost use Rattle.pdb_commands.specs.Text.{index_text};
 ghost use Rattle.pdb_commands.specs.Types.{ShowsTypes, ShowsTypesRead, RefusesTypes, RefusesTypesRead, AreTypeLines, HasLeafFault, type_line, reference, quoted_name, leaf_name};
 
+use crate::command::{Show, ShowAt, run, run_at};
 use crate::fault::RunFault;
-use crate::show::{Show, ShowAt, run, run_at};
 use crate::text::{push_index, push_quoted};
 use byte_io::{AtFault, ReadAt, Sink, Source};
 use cv_leaves::{check, kind_of, leaf_text, places, ref_at, type_name};
