@@ -23,11 +23,21 @@ made_longer old zeros at size whole long =
     let all : take size old ≡ old = take_all size old (omega (arith, whole, long)) in
     rw (all, whole) (take-append_seam old zeros)
 
--- the first bytes of a buffer whose room was filled: those that it had, and the first of the piece
+-- a buffer whose room was filled has the bytes that it had, and behind them the piece
+filled : (old text piece post more : List ℕ) (at : ℕ) → take at text ≡ old → (take at text ++ (piece ++ post)) ++ more ≡ old ++ (piece ++ (post ++ more))
+filled old text piece post more at front =
+    rw front (append_assoc old (piece ++ post) more ∙ ap (λ (s : List ℕ). old ++ s) (append_assoc piece post more))
+
+-- its first bytes are those that it had, and the first of the piece
 pub filled_front : (old text piece post more : List ℕ) (at n size : ℕ) → at ≡ length old → take at text ≡ old → n ≤ length piece → at + n ≤ size
     → take (at + n) (take size ((take at text ++ (piece ++ post)) ++ more)) ≡ old ++ take n piece
 filled_front old text piece post more at n size behind front few fits =
-    let whole = (take at text ++ (piece ++ post)) ++ more in
-    let joined : whole ≡ old ++ (piece ++ (post ++ more)) = rw front (append_assoc old (piece ++ post) more ∙ ap (λ (s : List ℕ). old ++ s) (append_assoc piece post more)) in
-    take-take (at + n) size whole fits ∙ ap (take (at + n)) joined ∙ rw behind (take-append-add old (piece ++ (post ++ more)) n)
+    take-take (at + n) size ((take at text ++ (piece ++ post)) ++ more) fits ∙ ap (take (at + n)) (filled old text piece post more at front) ∙ rw behind (take-append-add old (piece ++ (post ++ more)) n)
     ∙ ap (λ (s : List ℕ). old ++ s) (take-append-le n piece (post ++ more) few)
+
+-- up to the end of the piece it has those that it had, and the piece
+pub filled_room : (old text piece post more : List ℕ) (at size : ℕ) → at ≡ length old → take at text ≡ old → size ≡ at + length piece
+    → take size ((take at text ++ (piece ++ post)) ++ more) ≡ old ++ piece
+filled_room old text piece post more at size behind front whole =
+    ap (take size) (filled old text piece post more at front) ∙ rw (whole, behind) (take-append-add old (piece ++ (post ++ more)) (length piece))
+    ∙ ap (λ (s : List ℕ). old ++ s) (take-append_seam piece (post ++ more))

@@ -1,11 +1,36 @@
 -- Bytes that are read by position, of a file that may be known.
-use Rattle.std.specs.Prelude.{ℕ, ◌≡◌, ◌+◌, ◌≤◌, Bool, true, List, length, take, drop, Option, Some, None}
+use Rattle.std.specs.Prelude.{ℕ, ◌≡◌, ◌+◌, ◌<◌, ◌≤◌, ◌==◌, Bool, true, List, ◌++◌, length, take, drop, get_or, Option, Some, None}
 use Rattle.byte_io.specs.declared.at.AtFault.{AtFault}
 use Rattle.byte_io.specs.declared.at.AtFault.TheVariants as at
 
--- this holds of the file, where it is known
-abbrev pub IfKnown : Option (List ℕ) → (List ℕ → Type 0) → Type 0
-IfKnown known P = (file : List ℕ) → known ≡ Some file → P file
+-- what is known of bytes that are read by position
+pub record Bytes : Type 0 where
+  -- all of them, where they are known
+  pub known : Option (List ℕ)
+  -- how many there are said to be
+  pub told : ℕ
+  -- whether a read gives this byte at this offset: of bytes that change, reads may give several
+  pub gives : ℕ → ℕ → Bool
+
+-- a list of bytes that are known, and do not change
+abbrev pub stable : List ℕ → Bytes
+stable file = record { known = Some file; told = length file; gives = λ offset byte. get_or file offset 256 == byte }
+
+-- this holds of the bytes, where they are known
+abbrev pub IfKnown : Bytes → (List ℕ → Type 0) → Type 0
+IfKnown bytes P = (file : List ℕ) → bytes ≡ stable file → P file
+
+-- so many bytes of which nothing is known: any may come from anywhere
+abbrev pub unknown : ℕ → Bytes
+unknown told = record { known = None; told = told; gives = λ _ _. true }
+
+-- reads gave these bytes, from this offset on
+abbrev pub AreGiven : Bytes → ℕ → List ℕ → Type 0
+AreGiven bytes offset text = (i : ℕ) → i < length text → bytes.gives (offset + i) (get_or text i 0) ≡ true
+
+-- reads gave the bytes behind those that the buffer had, from this offset on
+abbrev pub GivesBehind : Bytes → ℕ → List ℕ → List ℕ → Type 0
+GivesBehind bytes offset before after = (more : List ℕ) × (after ≡ before ++ more) × AreGiven bytes offset more
 
 -- these bytes are in the file from this offset on
 pub record StandsAt (file : List ℕ) (offset : ℕ) (bytes : List ℕ) : Type 0 where
@@ -13,8 +38,8 @@ pub record StandsAt (file : List ℕ) (offset : ℕ) (bytes : List ℕ) : Type 0
   pub is : bytes ≡ take (length bytes) (drop offset file)
 
 -- a read failed: the bytes of the reader are not known, and it is broken
-abbrev pub Breaks : Option (List ℕ) → Bool → Type 0
-Breaks known broken = (known ≡ None) × (broken ≡ true)
+abbrev pub Breaks : Bytes → Bool → Type 0
+Breaks bytes broken = (bytes.known ≡ None) × (broken ≡ true)
 
 -- if the fault is one of what was read, P holds of it
 abbrev pub IfOf : {F : Type 0} → (F → Type 0) → AtFault F → Type 0

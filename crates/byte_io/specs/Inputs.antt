@@ -1,5 +1,6 @@
 -- What reading each of several inputs gives.
 use Rattle.std.specs.Prelude.{ℕ, ◌≡◌, ◌<◌, List, Option, Some, Result, Ok, Err, map, slice_get}
+use Rattle.byte_io.specs.At.{Bytes, stable}
 use Rattle.byte_io.specs.declared.inputs.InputFault.{InputFault}
 use Rattle.byte_io.specs.declared.inputs.Opened.{Opened}
 use Rattle.byte_io.specs.declared.inputs.Opened.TheVariants.{Whole, At}
@@ -17,6 +18,6 @@ abbrev pub IsFirstUnread : List (Result (List ℕ) InputFault) → ℕ → Input
 IsFirstUnread each input fault = CanRead each input × (slice_get each input ≡ Some (Err fault))
 
 -- an input that was opened has these bytes
-abbrev pub HasBytes : {F : Type 0} → (F → Option (List ℕ)) → Opened F → List ℕ → Type 0
+abbrev pub HasBytes : {F : Type 0} → (F → Bytes) → Opened F → List ℕ → Type 0
 HasBytes bytes (Whole file) given = file.now ≡ given
-HasBytes bytes (At input) given = bytes input ≡ Some given
+HasBytes bytes (At input) given = bytes input ≡ stable given

@@ -1,7 +1,7 @@
 //! Bytes that are read by position.
 
 ghost use Rattle.std.specs.Prelude.{◌≡◌, ◌⊎◌, ◌+◌, ◌<◌, ◌≤◌, ◌^◌, ◌++◌, ℕ, List, Option, Some, None, Bool, true, false, length, take, drop, get_or, OnOk, IfErr, IfSome, IfNone};
-ghost use Rattle.byte_io.specs.At.{Breaks, IfKnown, StandsAt};
+ghost use Rattle.byte_io.specs.At.{AreGiven, Breaks, Bytes, GivesBehind, IfKnown, StandsAt, stable, unknown};
 ghost use Rattle.byte_io.specs.declared.at.AtFault.TheVariants as at;
 
 use crate::input::ReadFault;
@@ -27,21 +27,18 @@ impl<F> From<F> for AtFault<F> {
 
 /// Gives bytes from any position.
 ///
-/// A slice has its bytes in memory. The bytes of a file are not known to contracts, which then
-/// claim nothing about them. Only a reader whose bytes are not known can fail.
+/// A slice has its bytes in memory. The bytes of a file are not known to contracts: of them they say
+/// which ones reads gave, and nothing else. Only a reader whose bytes are not known can fail.
 pub trait ReadAt {
-    /// All the bytes, where they are known.
-    ghost bytes: { Self → Option (List ℕ) };
-
-    /// How many bytes it says that it has.
-    ghost told: { Self → ℕ };
+    /// What is known of its bytes.
+    ghost bytes: { Self → Bytes };
 
     /// Whether a read failed.
     ghost is_broken: { Self → Bool };
 
     /// How many bytes there are. Where the bytes are not known, this is what is said of them.
     fn len(&self) -> u64
-        ensures told { result ≡ told self.now }
+        ensures told { result ≡ (bytes self.now).told }
         ensures value { IfKnown (bytes self.now) (λ file. result ≡ length file) }
         ensures small { IfKnown (bytes self.now) (λ file. (i : ℕ) → get_or file i 0 < 256) };
 
@@ -51,6 +48,7 @@ pub trait ReadAt {
         ensures keeps { bytes self.new ≡ bytes self.old }
         ensures same { length into.new ≡ length into.old }
         ensures value { IfSome result (λ _. IfKnown (bytes self.old) (λ file. StandsAt file offset into.new)) }
+        ensures given { IfSome result (λ _. AreGiven (bytes self.old) offset into.new) }
         ensures whole { IfSome result (λ _. is_broken self.new ≡ is_broken self.old) }
         ensures refuses { IfNone result (Breaks (bytes self.old) (is_broken self.new)) }
         ensures stays { is_broken self.old ≡ true → is_broken self.new ≡ true };
@@ -70,6 +68,7 @@ pub fn read_more<R: ReadAt, A: Allocator>(
     ensures keeps { R.bytes input.new ≡ R.bytes input.old }
     ensures value { OnOk result (IfKnown (R.bytes input.old) (λ file. buffer.new.items ≡ buffer.old.items ++ take count (drop offset file))) }
     ensures len { OnOk result (length buffer.new.items ≡ length buffer.old.items + count) }
+    ensures given { OnOk result (GivesBehind (R.bytes input.old) offset buffer.old.items buffer.new.items) }
     ensures first { IfErr result (λ fault. ((fault ≡ ReadFault.Read) × Breaks (R.bytes input.old) (R.is_broken input.new)) ⊎ (fault ≡ ReadFault.Memory)) }
 {
     let length = buffer.len();
@@ -89,9 +88,7 @@ fn slice_len(bytes: &[u8]) -> u64
 }
 
 impl<'a> ReadAt for &'a [u8] {
-    ghost bytes = { λ s. Some s.now };
-
-    ghost told = { λ s. length s.now };
+    ghost bytes = { λ s. stable s.now };
 
     ghost is_broken = { λ _. false };
 
@@ -119,7 +116,7 @@ pub struct Seeking<F> {
 impl<F: Read + Seek> Seeking<F> {
     /// A file that is said to have this many bytes. It is not broken.
     pub fn new(file: F, len: u64) -> Seeking<F>
-        ensures told { ⟦<Seeking<F> as ReadAt>⟧.told result ≡ len }
+        ensures told { (⟦<Seeking<F> as ReadAt>⟧.bytes result).told ≡ len }
         ensures whole { ⟦<Seeking<F> as ReadAt>⟧.is_broken result ≡ false }
     {
         Seeking {
@@ -131,9 +128,8 @@ impl<F: Read + Seek> Seeking<F> {
 }
 
 impl<F: Read + Seek> ReadAt for Seeking<F> {
-    ghost bytes = { λ _. None };
-
-    ghost told = { λ s. s.len };
+    // No contract can say what a file gives.
+    ghost bytes = { λ s. unknown s.len };
 
     ghost is_broken = { λ s. s.broken };
 

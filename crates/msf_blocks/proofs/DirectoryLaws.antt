@@ -21,16 +21,16 @@ unfolding directory_contents
 contents_length file fields = length-map-range_with_len _ 0 fields.directory_bytes
 
 -- the four bytes of a number of the directory are next to each other in one block
-record LiesInBlock (b d j : ℕ) : Type 0 where
-  same_block : (i : ℕ) → i < 4 → ((4 * j + i) / b ≡ 4 * j / b) × ((4 * j + i) % b ≡ 4 * j % b + i)
-  below : 4 * j / b < blocks_for b d
-  inside : 4 * j % b + 4 ≤ b
+pub record LiesInBlock (b d j : ℕ) : Type 0 where
+  pub same_block : (i : ℕ) → i < 4 → ((4 * j + i) / b ≡ 4 * j / b) × ((4 * j + i) % b ≡ 4 * j % b + i)
+  pub below : 4 * j / b < blocks_for b d
+  pub inside : 4 * j % b + 4 ≤ b
 
 -- a block holds whole numbers
 whole_numbers : (b c q r j : ℕ) → b ≡ 4 * c → q * b + r ≡ 4 * j → r < b → r + 4 ≤ b
 whole_numbers b c q r j is e lt = let fours : q * b ≡ 4 * (q * c) = ap (λ (n : ℕ). q * n) is ∙ omega arith in omega arith
 
-lies_in_block : (b d j : ℕ) → IsBlockSize b → 4 * j + 4 ≤ d → LiesInBlock b d j
+pub lies_in_block : (b d j : ℕ) → IsBlockSize b → 4 * j + 4 ≤ d → LiesInBlock b d j
 lies_in_block b d j size room =
     let facts = size_facts b size in
     let some = some_bytes b size in

@@ -5,9 +5,11 @@ pub mod BlocksLaws
 pub mod MemoryLaws
 pub mod DirectoryLaws
 pub mod AtLaws
+pub mod GivenLaws
 pub mod LayoutLaws
 pub mod ListsLaws
 pub mod FoundLaws
+pub mod ReadNumberLaws
 pub mod RefusedLaws
 pub mod AtLayoutLaws
 pub mod BlockLaws

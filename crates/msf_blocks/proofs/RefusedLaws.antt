@@ -1,102 +1,109 @@
--- A block map and contents that have a fault. Where the bytes of a file are not known, they are made of the numbers that the fault rests on.
-use Rattle.std.proofs.Common.{◌≡◌, ℕ, zero, suc, ◌+◌, ◌-◌, ◌*◌, ◌<◌, ◌≤◌, ◌^◌, true, false, List, [], ◌∷◌, ◌++◌, Some, None, length, take, get_or, replicate, refl, sym, ap, ◌∙◌, arith, inl, inr}
+-- A block map and contents that have a fault, made of the numbers that were read one at a time.
+use Rattle.std.proofs.Common.{◌≡◌, ℕ, zero, suc, ◌+◌, ◌-◌, ◌*◌, ◌<◌, ◌≤◌, ◌^◌, true, false, List, [], ◌∷◌, ◌++◌, Some, None, length, take, get_or, refl, sym, ap, ◌∙◌, arith, append_assoc, inl, inr}
 use Rattle.std.specs.Prelude.{All}
-use Rattle.std.proofs.Math.Seq.{take-append_seam}
-use Rattle.std.proofs.lemmas.Nat.{div_below}
+use Rattle.std.proofs.Math.Seq.{take-append_seam, get_or-append_seam}
+use Rattle.std.proofs.lemmas.Bool.{cases_lt}
 use Rattle.std.proofs.lemmas.Bool.Decides.{nat_tests}
-use Rattle.std.proofs.lemmas.List.{take_all, length-append, length-replicate, get_or-replicate, get_or_append_left, get_or-append-add}
-use Rattle.std.proofs.lemmas.List.Sums.{sum_by-append, sum_by-cons, sum_by_push, sum_by_more}
-use Rattle.std.proofs.lemmas.List.Folds.{sum_by-replicate}
-use Rattle.std.proofs.lemmas.List.Elements.{All-nil, All-cons, All-push, All-append, All-replicate, All-get_or}
+use Rattle.std.proofs.lemmas.List.{append-nil, take_all, length-append, get_or_append_left}
+use Rattle.std.proofs.lemmas.List.Sums.{sum_by-append, sum_by-cons, sum_by_more}
+use Rattle.std.proofs.lemmas.List.Elements.{All-nil, All-push, All-append, All-get_or}
 use Rattle.byte_fields.specs.Number.{nth_u32, u32s}
 use Rattle.byte_fields.specs.Check.{first_failing, checks_below}
 use Rattle.byte_fields.proofs.NumberLaws.{nth_u32-u32s, length-u32s}
 use Rattle.byte_fields.proofs.CheckLaws.{first_failing-append_none, first_failing-append_some, checks_below-all, checks_below-stop, check_holds, check_fails}
-use Rattle.msf_blocks.specs.BlockNumber.{is_ordinary, blocks_for}
+use Rattle.byte_io.specs.At.{Bytes}
+use Rattle.msf_blocks.specs.BlockNumber.{IsOrdinary, is_ordinary, blocks_for}
 use Rattle.msf_blocks.specs.Superblock.{Fields}
-use Rattle.msf_blocks.specs.Directory.{directory_blocks, number_check, number_checks, bytes_of, length_checks, stream_blocks, stream_block_check, stream_checks, directory_checks, list_start, blocks_together, HasSize, HasSizes, HasBlockMap, BlockMapRefuses, ListRefuses, ContentsRefuse}
+use Rattle.msf_blocks.specs.Directory.{AreMapNumbers, IsNumberGiven, AreDirectoryBytes, AreDirectoryNumbers, IsDirectoryNumber, directory_blocks, map_start, number_check, number_checks, bytes_of, length_checks, stream_blocks, stream_block_check, stream_checks, directory_checks, list_start, blocks_together, HasSize, HasSizes, HasRoom, LacksRoom, HasBlocks, HasBadBlock, HasLists, HasBlockMap, BlockMapRefuses, ListRefuses, ContentsRefuse}
 use Rattle.msf_blocks.specs.declared.fault.MsfFault.{MsfFault}
 use Rattle.msf_blocks.specs.declared.fault.MsfFault.TheVariants.{DirectoryBlock, DirectoryShort, StreamBlock, Memory}
 use Rattle.msf_blocks.proofs.AtLaws.{short_count, short_sizes, short_lists, long_enough}
 use Rattle.msf_blocks.proofs.DirectoryLaws.{list_start_zero, list_start_more, list_start_first, list_start_upto}
 use Rattle.msf_blocks.proofs.FoundLaws.{Spells, spelled_count, spelled_size, spelled_block}
+use Rattle.msf_blocks.proofs.ReadNumberLaws.{none_given, more_given, one_given, text_given}
 
--- Block 1 stands for every number that does not matter: it is ordinary wherever there is a block map.
+-- an ordinary number passes its test
+ordinary_passes : (num_blocks n : ℕ) → IsOrdinary num_blocks n → is_ordinary num_blocks n ≡ true
+ordinary_passes num_blocks n is = grind (arith, nat_tests, is.0, is.1)
 
-ordinary_one : (num_blocks : ℕ) → 1 < num_blocks → is_ordinary num_blocks 1 ≡ true
-ordinary_one num_blocks some = grind (arith, nat_tests)
-
--- a number of four bytes
-abbrev IsShort : ℕ → Type 0
-IsShort n = n < 2 ^ 32
+-- a number that passes its test is ordinary
+pub passes_ordinary : (num_blocks n : ℕ) → is_ordinary num_blocks n ≡ true → IsOrdinary num_blocks n
+passes_ordinary num_blocks n is = (grind (arith, nat_tests), grind (arith, nat_tests))
 
 -- ---- the block map
 
+-- reads gave the first numbers of the block map, and all of them are ordinary
+pub record HasMapBelow (bytes : Bytes) (fields : Fields) (count : ℕ) : Type 0 where
+  pub numbers : List ℕ
+  pub many : length numbers ≡ count
+  pub given : AreMapNumbers bytes fields numbers
+  pub ordinary : All (IsOrdinary fields.num_blocks) numbers
+
+-- no number was read
+pub no_map : (bytes : Bytes) (fields : Fields) → HasMapBelow bytes fields 0
+no_map bytes fields = record { numbers = []; many = refl; given = λ k lt. absurd (omega (arith, lt)); ordinary = All-nil (IsOrdinary fields.num_blocks) }
+
+-- one more number was read
+pushed_given : (bytes : Bytes) (fields : Fields) (numbers : List ℕ) (n : ℕ) → AreMapNumbers bytes fields numbers → IsNumberGiven bytes (map_start fields + 4 * length numbers) n → AreMapNumbers bytes fields (numbers ++ n ∷ [])
+pushed_given bytes fields numbers n given here = λ k lt. elim (cases_lt k (length numbers)) [
+  | inl below ↦ rw (get_or_append_left numbers (n ∷ []) 0 k below) (given k below)
+  | inr le ↦
+      let last : k ≡ length numbers = omega (arith, le, lt, length-append numbers (n ∷ [])) in
+      rw (last, get_or-append_seam numbers n [] 0) here
+]
+
+-- one more number was read, and it is ordinary
+pub more_map : (bytes : Bytes) (fields : Fields) (count n : ℕ) → HasMapBelow bytes fields count → IsNumberGiven bytes (map_start fields + 4 * count) n → is_ordinary fields.num_blocks n ≡ true → HasMapBelow bytes fields (count + 1)
+more_map bytes fields count n h here ordinary = record {
+  numbers = h.numbers ++ n ∷ [];
+  many = omega (arith, length-append h.numbers (n ∷ []), h.many);
+  given = pushed_given bytes fields h.numbers n h.given (rw h.many here);
+  ordinary = All-push (IsOrdinary fields.num_blocks) h.numbers n h.ordinary (passes_ordinary fields.num_blocks n ordinary);
+}
+
+-- the checks of the first numbers hold, whatever comes after them
+map_holds : (fields : Fields) (numbers rest : List ℕ) → All (IsOrdinary fields.num_blocks) numbers → first_failing (checks_below (length numbers) (number_check (numbers ++ rest) fields)) ≡ None
+map_holds fields numbers rest ordinary =
+    checks_below-all (number_check (numbers ++ rest) fields) (length numbers) (λ k below.
+    let n = get_or (numbers ++ rest) k 0 in
+    let is : n ≡ get_or numbers k 0 = get_or_append_left numbers rest 0 k below in
+    check_holds (is_ordinary fields.num_blocks n) (DirectoryBlock k n) (rw is (ordinary_passes fields.num_blocks (get_or numbers k 0) (All-get_or (IsOrdinary fields.num_blocks) numbers k 0 below ordinary))))
+
 -- a number that is not ordinary, after ordinary ones
-pub map_refuses : (fields : Fields) (at n : ℕ) → 1 < fields.num_blocks → at < directory_blocks fields → is_ordinary fields.num_blocks n ≡ false → BlockMapRefuses fields (DirectoryBlock at n)
+pub map_refuses : (bytes : Bytes) (fields : Fields) (at n : ℕ) → HasMapBelow bytes fields at → IsNumberGiven bytes (map_start fields + 4 * at) n → at < directory_blocks fields → is_ordinary fields.num_blocks n ≡ false
+    → BlockMapRefuses bytes fields (DirectoryBlock at n)
 unfolding number_checks
-map_refuses fields at n some lt bad =
-    let count = directory_blocks fields in
-    let front = replicate at 1 in
-    let back = n ∷ replicate (count - at - 1) 1 in
-    let numbers = front ++ back in
-    let many : length front ≡ at = length-replicate {A = ℕ} at 1 in
-    let len : length numbers ≡ count = omega (arith, lt, length-append front back, many, length-replicate {A = ℕ} (count - at - 1) 1) in
-    let zeroth : length front + 0 ≡ at = omega (arith, many) in
-    let here : get_or numbers at 0 ≡ n = rw zeroth at (get_or-append-add front back 0 0) in
-    let before : first_failing (checks_below at (number_check numbers fields)) ≡ None =
-    checks_below-all (number_check numbers fields) at (λ k below.
-    let is : get_or numbers k 0 ≡ 1 = get_or_append_left front back 0 k (omega (arith, below, many)) ∙ get_or-replicate {A = ℕ} at k 1 0 below in
-    check_holds (is_ordinary fields.num_blocks (get_or numbers k 0)) (DirectoryBlock k (get_or numbers k 0)) (rw is (ordinary_one fields.num_blocks some))) in (
-      numbers,
-      len,
-      checks_below-stop (number_check numbers fields) at count (DirectoryBlock at n) before
-          (check_fails (is_ordinary fields.num_blocks (get_or numbers at 0)) (DirectoryBlock at (get_or numbers at 0)) (DirectoryBlock at n) (rw here bad) (ap (DirectoryBlock at) here)) lt,
-    )
+map_refuses bytes fields at n h here lt bad = record {
+  numbers = h.numbers ++ n ∷ [];
+  given = pushed_given bytes fields h.numbers n h.given (rw h.many here);
+  few = omega (arith, lt, h.many, length-append h.numbers (n ∷ []));
+  refused = λ rest all.
+      let whole = h.numbers ++ n ∷ rest in
+      let same : (h.numbers ++ n ∷ []) ++ rest ≡ whole = append_assoc h.numbers (n ∷ []) rest in
+      let this : get_or whole at 0 ≡ n = rw h.many at (get_or-append_seam h.numbers n rest 0) in
+      let before : first_failing (checks_below at (number_check whole fields)) ≡ None = rw h.many at (map_holds fields h.numbers (n ∷ rest) h.ordinary) in
+      rw same (checks_below-stop (number_check whole fields) at (directory_blocks fields) (DirectoryBlock at n) before
+      (check_fails (is_ordinary fields.num_blocks (get_or whole at 0)) (DirectoryBlock at (get_or whole at 0)) (DirectoryBlock at n) (rw this bad) (ap (DirectoryBlock at) this)) lt);
+}
 
 -- a block map without a fault
-pub map_holds : (fields : Fields) → 1 < fields.num_blocks → HasBlockMap fields
+pub map_read : (bytes : Bytes) (fields : Fields) → HasMapBelow bytes fields (directory_blocks fields) → HasBlockMap bytes fields
 unfolding number_checks
-map_holds fields some =
-    let count = directory_blocks fields in
-    let numbers = replicate count 1 in (
-      numbers,
-      length-replicate {A = ℕ} count 1,
-      checks_below-all (number_check numbers fields) count (λ k below.
-          let is : get_or numbers k 0 ≡ 1 = get_or-replicate {A = ℕ} count k 1 0 below in
-          check_holds (is_ordinary fields.num_blocks (get_or numbers k 0)) (DirectoryBlock k (get_or numbers k 0)) (rw is (ordinary_one fields.num_blocks some))),
-    )
+map_read bytes fields h = (
+  h.numbers,
+  record {
+    count = h.many;
+    given = h.given;
+    sound = rw (append-nil h.numbers, h.many) at (map_holds fields h.numbers [] h.ordinary);
+  },
+)
 
 -- ---- the sizes of the streams
 
 -- no size was read
-pub no_sizes : (b streams : ℕ) → HasSizes b streams 0 (1 + streams)
+pub no_sizes : (bytes : Bytes) (fields : Fields) (from start : ℕ) → HasSizes bytes fields from from start start
 unfolding blocks_together
-no_sizes b streams = record { sizes = []; many = refl; short = All-nil IsShort; end_is = omega arith }
-
--- one more size was read
-pub more_sizes : (b streams count end blocks : ℕ) → HasSizes b streams count end → HasSize b blocks → HasSizes b streams (count + 1) (end + blocks)
-unfolding blocks_together
-more_sizes b streams count end blocks h one =
-    let f = λ (size : ℕ). blocks_for b (bytes_of size) in
-    record {
-      sizes = h.sizes ++ one.0 ∷ [];
-      many = omega (arith, length-append h.sizes (one.0 ∷ []), h.many);
-      short = All-push IsShort h.sizes one.0 h.short one.1;
-      end_is = omega (arith, sum_by_push f h.sizes one.0, h.end_is, one.2);
-    }
-
-no_blocks : (b : ℕ) → blocks_for b 0 ≡ 0
-no_blocks zero = refl
-no_blocks (suc b) = let lt = div_below (0 + suc b - 1) (suc b) 1 (omega arith) (omega arith) in omega (arith, lt)
-
--- streams of no bytes have no blocks
-empty_together : (b k : ℕ) → blocks_together b (replicate k 0) ≡ 0
-unfolding blocks_together
-empty_together b k =
-    let f = λ (size : ℕ). blocks_for b (bytes_of size) in
-    let none : f 0 ≡ 0 = no_blocks b in
-    sum_by-replicate f k 0 ∙ rw none (omega arith)
+no_sizes bytes fields from start = record { sizes = []; given = none_given bytes fields (1 + from); many = omega arith; end_is = omega arith }
 
 together-append : (b : ℕ) (front back : List ℕ) → blocks_together b (front ++ back) ≡ blocks_together b front + blocks_together b back
 unfolding blocks_together
@@ -110,35 +117,75 @@ together_more : (b : ℕ) (sizes : List ℕ) (t : ℕ) → t < length sizes → 
 unfolding blocks_together
 together_more b sizes t lt = sum_by_more (λ (size : ℕ). blocks_for b (bytes_of size)) sizes t 0 lt
 
--- the streams whose sizes were not read have no bytes
-pub all_sizes : (b streams count end : ℕ) → count ≤ streams → HasSizes b streams count end → HasSizes b streams streams end
-all_sizes b streams count end le h =
-    let left = streams - count in
+-- sizes of some streams, and of the streams after them
+pub join_sizes : (bytes : Bytes) (fields : Fields) (from middle to start between end : ℕ) → HasSizes bytes fields from middle start between → HasSizes bytes fields middle to between end → HasSizes bytes fields from to start end
+join_sizes bytes fields from middle to start between end first later =
+    let at : 1 + middle ≡ 1 + from + length first.sizes = omega (arith, first.many) in
     record {
-      sizes = h.sizes ++ replicate left 0;
-      many = omega (arith, le, length-append h.sizes (replicate left 0), h.many, length-replicate {A = ℕ} left 0);
-      short = All-append IsShort h.sizes (replicate left 0) h.short (All-replicate IsShort left 0 (omega arith));
-      end_is = omega (arith, h.end_is, together-append b h.sizes (replicate left 0), empty_together b left);
+      sizes = first.sizes ++ later.sizes;
+      given = more_given bytes fields (1 + from) first.sizes later.sizes first.given (rw at at later.given);
+      many = omega (arith, first.many, later.many, length-append first.sizes later.sizes);
+      end_is = omega (arith, first.end_is, later.end_is, together-append fields.block_size first.sizes later.sizes);
     }
+
+-- one size
+one_size : (bytes : Bytes) (fields : Fields) (stream start blocks : ℕ) → HasSize bytes fields stream blocks → HasSizes bytes fields stream (stream + 1) start (start + blocks)
+unfolding blocks_together
+one_size bytes fields stream start blocks h = record {
+  sizes = h.0 ∷ [];
+  given = one_given bytes fields (1 + stream) h.0 h.1;
+  many = omega arith;
+  end_is = omega (arith, h.2, together-cons fields.block_size h.0 []);
+}
+
+-- one more size was read
+pub more_sizes : (bytes : Bytes) (fields : Fields) (from stream start end blocks : ℕ) → HasSizes bytes fields from stream start end → HasSize bytes fields stream blocks → HasSizes bytes fields from (stream + 1) start (end + blocks)
+more_sizes bytes fields from stream start end blocks h one = join_sizes bytes fields from stream (stream + 1) start end (end + blocks) h (one_size bytes fields stream end blocks one)
+
+-- ---- the numbers of the blocks
+
+-- no number was read
+pub no_blocks : (bytes : Bytes) (fields : Fields) (start : ℕ) → HasBlocks bytes fields start start
+no_blocks bytes fields start = record { blocks = []; given = none_given bytes fields start; end_is = omega arith; ordinary = All-nil (IsOrdinary fields.num_blocks) }
+
+-- some numbers, and those after them
+pub join_blocks : (bytes : Bytes) (fields : Fields) (start middle end : ℕ) → HasBlocks bytes fields start middle → HasBlocks bytes fields middle end → HasBlocks bytes fields start end
+join_blocks bytes fields start middle end first later = record {
+  blocks = first.blocks ++ later.blocks;
+  given = more_given bytes fields start first.blocks later.blocks first.given (rw first.end_is at later.given);
+  end_is = omega (arith, first.end_is, later.end_is, length-append first.blocks later.blocks);
+  ordinary = All-append (IsOrdinary fields.num_blocks) first.blocks later.blocks first.ordinary later.ordinary;
+}
+
+-- one more number was read, and it is ordinary
+pub more_blocks : (bytes : Bytes) (fields : Fields) (start end n : ℕ) → HasBlocks bytes fields start end → IsDirectoryNumber bytes fields end n → is_ordinary fields.num_blocks n ≡ true → HasBlocks bytes fields start (end + 1)
+more_blocks bytes fields start end n h one ordinary =
+    join_blocks bytes fields start end (end + 1) h (record {
+      blocks = n ∷ [];
+      given = one_given bytes fields end n one;
+      end_is = omega arith;
+      ordinary = All-push (IsOrdinary fields.num_blocks) [] n (All-nil (IsOrdinary fields.num_blocks)) (passes_ordinary fields.num_blocks n ordinary);
+    })
 
 -- ---- the contents
 
--- a directory of so many bytes that begins with these sizes and these numbers of blocks
-spelled : ℕ → List ℕ → List ℕ → List ℕ
-spelled bytes sizes blocks =
-    u32s (length sizes ∷ sizes ++ blocks) ++ replicate (bytes - 4 * (1 + (length sizes + length blocks))) 0
+-- the text of the number of streams, their sizes, and numbers of blocks
+abbrev listing : List ℕ → List ℕ → List ℕ
+listing sizes blocks = u32s (length sizes ∷ sizes ++ blocks)
 
-length-spelled : (bytes : ℕ) (sizes blocks : List ℕ) → 4 * (1 + (length sizes + length blocks)) ≤ bytes → length (spelled bytes sizes blocks) ≡ bytes
-unfolding spelled
-length-spelled bytes sizes blocks room =
-    let numbers = length sizes ∷ sizes ++ blocks in
-    let left = bytes - 4 * (1 + (length sizes + length blocks)) in
-    length-append (u32s numbers) (replicate left 0) ∙ omega (arith, room, length-u32s numbers, length-append sizes blocks, length-replicate {A = ℕ} left 0)
+length-listing : (sizes blocks : List ℕ) → length (listing sizes blocks) ≡ 4 * (1 + (length sizes + length blocks))
+length-listing sizes blocks = length-u32s (length sizes ∷ sizes ++ blocks) ∙ omega (arith, length-append sizes blocks)
 
-spelled_spells : (bytes : ℕ) (sizes blocks : List ℕ) → length sizes < 2 ^ 32 → All IsShort sizes → Spells (spelled bytes sizes blocks) sizes blocks
-unfolding spelled
-spelled_spells bytes sizes blocks few short =
-    record { rest = replicate (bytes - 4 * (1 + (length sizes + length blocks))) 0; parts = refl; few = few; short = λ t lt. All-get_or IsShort sizes t 0 lt short }
+-- such a text is spelled, whatever comes after it
+listing_spells : (bytes : Bytes) (fields : Fields) (sizes blocks rest : List ℕ) → length sizes < 2 ^ 32 → AreDirectoryNumbers bytes fields 1 sizes → Spells (listing sizes blocks ++ rest) sizes blocks
+listing_spells bytes fields sizes blocks rest few given = record { rest = rest; parts = refl; few = few; short = λ t lt. (given t lt).short }
+
+-- it was given if its numbers were
+listing_given : (bytes : Bytes) (fields : Fields) (streams : ℕ) (sizes blocks : List ℕ) → streams ≡ length sizes → IsDirectoryNumber bytes fields 0 streams → AreDirectoryNumbers bytes fields 1 sizes → AreDirectoryNumbers bytes fields (1 + streams) blocks
+    → AreDirectoryBytes bytes fields 0 (listing sizes blocks)
+listing_given bytes fields streams sizes blocks many count sizes_given blocks_given =
+    let tail = more_given bytes fields 1 sizes blocks sizes_given (rw many at blocks_given) in
+    text_given bytes fields 0 (length sizes ∷ sizes ++ blocks) (more_given bytes fields 0 (length sizes ∷ []) (sizes ++ blocks) (one_given bytes fields 0 (length sizes) (rw many at count)) tail)
 
 -- a stream has as many blocks as its size needs
 spelled_blocks : (b : ℕ) (contents sizes blocks : List ℕ) (t : ℕ) → Spells contents sizes blocks → t < length sizes → stream_blocks b contents t ≡ blocks_for b (bytes_of (get_or sizes t 0))
@@ -162,163 +209,223 @@ spelled_end b contents sizes blocks h =
 -- ---- contents that are too short
 
 -- too short for the number of streams
-pub count_refused : (fields : Fields) → fields.directory_bytes < 4 → ContentsRefuse fields (DirectoryShort 4 fields.directory_bytes)
-count_refused fields lt =
-    let contents = replicate fields.directory_bytes 0 in
-    let len : length contents ≡ fields.directory_bytes = length-replicate {A = ℕ} fields.directory_bytes 0 in
-    let first : first_failing (length_checks fields.block_size contents) ≡ Some (DirectoryShort 4 fields.directory_bytes) = rw len at (short_count fields.block_size contents (omega (arith, len, lt))) in
-    (contents, len, inl (first_failing-append_some (length_checks fields.block_size contents) _ _ first))
+pub count_refused : (bytes : Bytes) (fields : Fields) → fields.directory_bytes < 4 → ContentsRefuse bytes fields (DirectoryShort 4 fields.directory_bytes)
+count_refused bytes fields lt = record {
+  text = [];
+  given = λ i below. absurd (omega (arith, below));
+  few = omega arith;
+  refused = λ rest all.
+      let len : length rest ≡ fields.directory_bytes = omega (arith, all) in
+      let first : first_failing (length_checks fields.block_size rest) ≡ Some (DirectoryShort 4 fields.directory_bytes) = rw len at (short_count fields.block_size rest (omega (arith, len, lt))) in
+      inl (first_failing-append_some (length_checks fields.block_size rest) _ _ first);
+}
 
 -- too short for the sizes
-pub sizes_refused : (fields : Fields) (streams : ℕ) → streams < 2 ^ 32 → 4 ≤ fields.directory_bytes → fields.directory_bytes < 4 + 4 * streams → ContentsRefuse fields (DirectoryShort (4 + 4 * streams) fields.directory_bytes)
-sizes_refused fields streams few le lt =
+pub sizes_refused : (bytes : Bytes) (fields : Fields) (streams : ℕ) → IsDirectoryNumber bytes fields 0 streams → 4 ≤ fields.directory_bytes → fields.directory_bytes < 4 + 4 * streams
+    → ContentsRefuse bytes fields (DirectoryShort (4 + 4 * streams) fields.directory_bytes)
+sizes_refused bytes fields streams given le lt =
     let b = fields.block_size in
     let have = fields.directory_bytes in
-    let rest = replicate (have - 4) 0 in
-    let contents = u32s (streams ∷ []) ++ rest in
-    let len : length contents ≡ have = length-append (u32s (streams ∷ [])) rest ∙ omega (arith, le, length-u32s (streams ∷ []), length-replicate {A = ℕ} (have - 4) 0) in
-    let count : nth_u32 contents 0 ≡ streams = nth_u32-u32s (streams ∷ []) rest 0 (omega arith) few in
-    let first : first_failing (length_checks b contents) ≡ Some (DirectoryShort (4 + 4 * streams) have) =
-    rw (len, count) at (short_sizes b contents (omega (arith, len, le)) (omega (arith, len, count, lt))) in
-    (contents, len, inl (first_failing-append_some (length_checks b contents) _ _ first))
+    let text = u32s (streams ∷ []) in
+    record {
+      text = text;
+      given = text_given bytes fields 0 (streams ∷ []) (one_given bytes fields 0 streams given);
+      few = omega (arith, le, length-u32s (streams ∷ []));
+      refused = λ rest all.
+          let contents = text ++ rest in
+          let len : length contents ≡ have = length-append text rest ∙ all in
+          let count : nth_u32 contents 0 ≡ streams = nth_u32-u32s (streams ∷ []) rest 0 (omega arith) given.short in
+          let first : first_failing (length_checks b contents) ≡ Some (DirectoryShort (4 + 4 * streams) have) =
+          rw (len, count) at (short_sizes b contents (omega (arith, len, le)) (omega (arith, len, count, lt))) in
+          inl (first_failing-append_some (length_checks b contents) _ _ first);
+    }
 
 -- too short for the lists of blocks
-pub lists_refused : (fields : Fields) (streams end : ℕ) → HasSizes fields.block_size streams streams end → fields.directory_bytes < 2 ^ 32 → 4 * (1 + streams) ≤ fields.directory_bytes → fields.directory_bytes < 4 * end
-    → ContentsRefuse fields (DirectoryShort (4 * end) fields.directory_bytes)
-lists_refused fields streams end h short room lt =
+pub lists_refused : (bytes : Bytes) (fields : Fields) (streams : ℕ) (fault : MsfFault) → IsDirectoryNumber bytes fields 0 streams → LacksRoom bytes fields 0 streams (1 + streams) fault → 4 * (1 + streams) ≤ fields.directory_bytes
+    → ContentsRefuse bytes fields fault
+lists_refused bytes fields streams fault count lacks room =
     let b = fields.block_size in
     let have = fields.directory_bytes in
-    let contents = spelled have h.sizes [] in
-    let len : length contents ≡ have = length-spelled have h.sizes [] (omega (arith, room, h.many)) in
-    let spells : Spells contents h.sizes [] = spelled_spells have h.sizes [] (omega (arith, short, room, h.many)) h.short in
-    let count : nth_u32 contents 0 ≡ streams = spelled_count contents h.sizes [] spells ∙ h.many in
-    let last : list_start b contents (nth_u32 contents 0) ≡ end = omega (arith, spelled_end b contents h.sizes [] spells, h.end_is, h.many) in
-    let first : first_failing (length_checks b contents) ≡ Some (DirectoryShort (4 * end) have) =
-    rw (len, last) at (short_lists b contents (omega (arith, len, room)) (omega (arith, len, count, room)) (omega (arith, len, last, lt))) in
-    (contents, len, inl (first_failing-append_some (length_checks b contents) _ _ first))
+    let end = lacks.0 in
+    let sizes = lacks.1.sizes in
+    let many : streams ≡ length sizes = omega (arith, lacks.1.many) in
+    let text = listing sizes [] in
+    record {
+      text = text;
+      given = listing_given bytes fields streams sizes [] many count lacks.1.given (none_given bytes fields (1 + streams));
+      few = omega (arith, length-listing sizes [], many, room);
+      refused = λ rest all.
+          let contents = text ++ rest in
+          let len : length contents ≡ have = length-append text rest ∙ all in
+          let spells : Spells contents sizes [] = listing_spells bytes fields sizes [] rest (omega (arith, many, count.short)) lacks.1.given in
+          let first_count : nth_u32 contents 0 ≡ streams = omega (arith, spelled_count contents sizes [] spells, many) in
+          let last : list_start b contents (nth_u32 contents 0) ≡ end = omega (arith, spelled_end b contents sizes [] spells, lacks.1.end_is, many) in
+          let first : first_failing (length_checks b contents) ≡ Some (DirectoryShort (4 * end) have) =
+          rw (len, last) at (short_lists b contents (omega (arith, len, room)) (omega (arith, len, first_count, room)) (omega (arith, len, last, lacks.2))) in
+          rw lacks.3 (inl (first_failing-append_some (length_checks b contents) _ _ first));
+    }
 
 -- ---- contents that are long enough
 
--- contents with these sizes: their first `m` numbers of blocks are 1, and these come after them
-record IsFilled (fields : Fields) (contents sizes back : List ℕ) (m : ℕ) : Type 0 where
-  spells : Spells contents sizes (replicate m 1 ++ back)
+-- contents with these sizes and numbers of blocks, of which the first `m` are ordinary
+record IsFilled (fields : Fields) (contents sizes blocks : List ℕ) (m : ℕ) : Type 0 where
+  spells : Spells contents sizes blocks
   count : length contents ≡ fields.directory_bytes
   long : 4 * (1 + length sizes + blocks_together fields.block_size sizes) ≤ fields.directory_bytes
-  some : 1 < fields.num_blocks
+  short : (j : ℕ) → j < length blocks → get_or blocks j 0 < 2 ^ 32
+  some : m ≤ length blocks
+  ordinary : (j : ℕ) → j < m → is_ordinary fields.num_blocks (get_or blocks j 0) ≡ true
 
--- a number before the others is 1
-filled_one : (fields : Fields) (contents sizes back : List ℕ) (m j : ℕ) → IsFilled fields contents sizes back m → j < m → nth_u32 contents (1 + length sizes + j) ≡ 1
-filled_one fields contents sizes back m j h lt =
-    let front = replicate m 1 in
-    let many : length front ≡ m = length-replicate {A = ℕ} m 1 in
-    let is : get_or (front ++ back) j 0 ≡ 1 = get_or_append_left front back 0 j (omega (arith, many, lt)) ∙ get_or-replicate {A = ℕ} m j 1 0 lt in
-    spelled_block contents sizes (front ++ back) j h.spells (omega (arith, many, lt, length-append front back)) (rw is (omega arith)) ∙ is
-
--- the number after them
-filled_next : (fields : Fields) (contents sizes : List ℕ) (m n : ℕ) → IsFilled fields contents sizes (n ∷ []) m → n < 2 ^ 32 → nth_u32 contents (1 + length sizes + m) ≡ n
-filled_next fields contents sizes m n h small =
-    let front = replicate m 1 in
-    let many : length front ≡ m = length-replicate {A = ℕ} m 1 in
-    let end : length front + 0 ≡ m = omega (arith, many) in
-    let is : get_or (front ++ n ∷ []) m 0 ≡ n = rw end at (get_or-append-add front (n ∷ []) 0 0) in
-    spelled_block contents sizes (front ++ n ∷ []) m h.spells (omega (arith, many, length-append front (n ∷ []))) (rw is small) ∙ is
+-- the number of a block
+filled_block : (fields : Fields) (contents sizes blocks : List ℕ) (m j : ℕ) → IsFilled fields contents sizes blocks m → j < length blocks → nth_u32 contents (1 + length sizes + j) ≡ get_or blocks j 0
+filled_block fields contents sizes blocks m j h lt = spelled_block contents sizes blocks j h.spells lt (h.short j lt)
 
 -- the first numbers of a stream are ordinary
-numbers_hold : (fields : Fields) (contents sizes back : List ℕ) (m t upto : ℕ) → IsFilled fields contents sizes back m → list_start fields.block_size contents t + upto ≤ 1 + length sizes + m
+numbers_hold : (fields : Fields) (contents sizes blocks : List ℕ) (m t upto : ℕ) → IsFilled fields contents sizes blocks m → list_start fields.block_size contents t + upto ≤ 1 + length sizes + m
     → first_failing (checks_below upto (stream_block_check fields contents t)) ≡ None
-numbers_hold fields contents sizes back m t upto h within =
+numbers_hold fields contents sizes blocks m t upto h within =
     let start = list_start fields.block_size contents t in
     let first : 1 + length sizes ≤ start = omega (arith, list_start_first fields.block_size contents t, spelled_count contents sizes _ h.spells) in
     checks_below-all (stream_block_check fields contents t) upto (λ k below.
     let block = nth_u32 contents (start + k) in
-    let at : start + k ≡ 1 + length sizes + (start + k - (1 + length sizes)) = omega (arith, first) in
-    let is : block ≡ 1 = rw at (filled_one fields contents sizes back m (start + k - (1 + length sizes)) h (omega (arith, within, below, first))) in
-    check_holds (is_ordinary fields.num_blocks block) (StreamBlock t k block) (rw is (ordinary_one fields.num_blocks h.some)))
+    let j = start + k - (1 + length sizes) in
+    let at : start + k ≡ 1 + length sizes + j = omega (arith, first) in
+    let lt : j < m = omega (arith, within, below, first) in
+    let is : block ≡ get_or blocks j 0 = ap (nth_u32 contents) at ∙ filled_block fields contents sizes blocks m j h (omega (arith, lt, h.some)) in
+    check_holds (is_ordinary fields.num_blocks block) (StreamBlock t k block) (rw is (h.ordinary j lt)))
 
 -- the checks of the first streams hold
-streams_hold : (fields : Fields) (contents sizes back : List ℕ) (m n : ℕ) → IsFilled fields contents sizes back m → list_start fields.block_size contents n ≤ 1 + length sizes + m
+streams_hold : (fields : Fields) (contents sizes blocks : List ℕ) (m n : ℕ) → IsFilled fields contents sizes blocks m → list_start fields.block_size contents n ≤ 1 + length sizes + m
     → first_failing (checks_below n (stream_checks fields contents)) ≡ None
 unfolding stream_checks
-streams_hold fields contents sizes back m n h within =
+streams_hold fields contents sizes blocks m n h within =
     let b = fields.block_size in
     checks_below-all (stream_checks fields contents) n (λ t lt.
-    numbers_hold fields contents sizes back m t (stream_blocks b contents t) h (omega (arith, within, (list_start_upto b contents t n lt).0)))
+    numbers_hold fields contents sizes blocks m t (stream_blocks b contents t) h (omega (arith, within, (list_start_upto b contents t n lt).0)))
 
 -- the checks of the length hold
-filled_long : (fields : Fields) (contents sizes back : List ℕ) (m : ℕ) → IsFilled fields contents sizes back m → first_failing (length_checks fields.block_size contents) ≡ None
-filled_long fields contents sizes back m h =
+filled_long : (fields : Fields) (contents sizes blocks : List ℕ) (m : ℕ) → IsFilled fields contents sizes blocks m → first_failing (length_checks fields.block_size contents) ≡ None
+filled_long fields contents sizes blocks m h =
     let count = spelled_count contents sizes _ h.spells in
     let end = spelled_end fields.block_size contents sizes _ h.spells in
     long_enough fields.block_size contents (omega (arith, h.long, h.count)) (omega (arith, h.long, h.count, count)) (omega (arith, h.long, h.count, end))
 
--- all checks hold where all numbers are 1
-filled_holds : (fields : Fields) (contents sizes back : List ℕ) (m : ℕ) → IsFilled fields contents sizes back m → blocks_together fields.block_size sizes ≡ m → first_failing (directory_checks fields contents) ≡ None
-filled_holds fields contents sizes back m h all =
+-- all checks hold where all numbers are ordinary
+filled_holds : (fields : Fields) (contents sizes blocks : List ℕ) (m : ℕ) → IsFilled fields contents sizes blocks m → blocks_together fields.block_size sizes ≡ m → first_failing (directory_checks fields contents) ≡ None
+filled_holds fields contents sizes blocks m h all =
     let end = spelled_end fields.block_size contents sizes _ h.spells in
-    first_failing-append_none (length_checks fields.block_size contents) _ (filled_long fields contents sizes back m h)
-    ∙ streams_hold fields contents sizes back m (nth_u32 contents 0) h (omega (arith, end, all))
+    first_failing-append_none (length_checks fields.block_size contents) _ (filled_long fields contents sizes blocks m h)
+    ∙ streams_hold fields contents sizes blocks m (nth_u32 contents 0) h (omega (arith, end, all))
 
 -- the first fault is that of the number after them
-filled_stops : (fields : Fields) (contents sizes : List ℕ) (m t at n : ℕ) → IsFilled fields contents sizes (n ∷ []) m → t < length sizes → at < stream_blocks fields.block_size contents t
-    → list_start fields.block_size contents t + at ≡ 1 + length sizes + m → n < 2 ^ 32 → is_ordinary fields.num_blocks n ≡ false → first_failing (directory_checks fields contents) ≡ Some (StreamBlock t at n)
+filled_stops : (fields : Fields) (contents sizes blocks : List ℕ) (m t at n : ℕ) → IsFilled fields contents sizes blocks m → t < length sizes → at < stream_blocks fields.block_size contents t
+    → list_start fields.block_size contents t + at ≡ 1 + length sizes + m → m < length blocks → get_or blocks m 0 ≡ n → is_ordinary fields.num_blocks n ≡ false → first_failing (directory_checks fields contents) ≡ Some (StreamBlock t at n)
 unfolding stream_checks
-filled_stops fields contents sizes m t at n h lt below there small bad =
+filled_stops fields contents sizes blocks m t at n h lt below there inside this bad =
     let b = fields.block_size in
     let block = nth_u32 contents (list_start b contents t + at) in
-    let is : block ≡ n = ap (nth_u32 contents) there ∙ filled_next fields contents sizes m n h small in
+    let is : block ≡ n = ap (nth_u32 contents) there ∙ filled_block fields contents sizes blocks m m h inside ∙ this in
     let here : first_failing (stream_checks fields contents t) ≡ Some (StreamBlock t at n) =
-    checks_below-stop (stream_block_check fields contents t) at (stream_blocks b contents t) (StreamBlock t at n) (numbers_hold fields contents sizes (n ∷ []) m t at h (omega (arith, there)))
+    checks_below-stop (stream_block_check fields contents t) at (stream_blocks b contents t) (StreamBlock t at n) (numbers_hold fields contents sizes blocks m t at h (omega (arith, there)))
     (check_fails (is_ordinary fields.num_blocks block) (StreamBlock t at block) (StreamBlock t at n) (rw is bad) (ap (StreamBlock t at) is)) below in
-    first_failing-append_none (length_checks b contents) _ (filled_long fields contents sizes (n ∷ []) m h)
-    ∙ checks_below-stop (stream_checks fields contents) t (nth_u32 contents 0) (StreamBlock t at n) (streams_hold fields contents sizes (n ∷ []) m t h (omega (arith, there))) here
+    first_failing-append_none (length_checks b contents) _ (filled_long fields contents sizes blocks m h)
+    ∙ checks_below-stop (stream_checks fields contents) t (nth_u32 contents 0) (StreamBlock t at n) (streams_hold fields contents sizes blocks m t h (omega (arith, there))) here
     (omega (arith, lt, spelled_count contents sizes _ h.spells))
 
--- contents that are made of sizes
-filled_spelled : (fields : Fields) (streams end m : ℕ) (back : List ℕ) (h : HasSizes fields.block_size streams streams end) → 1 < fields.num_blocks → fields.directory_bytes < 2 ^ 32 → 4 * end ≤ fields.directory_bytes
-    → 1 + streams + m + length back ≤ end → IsFilled fields (spelled fields.directory_bytes h.sizes (replicate m 1 ++ back)) h.sizes back m
-filled_spelled fields streams end m back h some short room fits =
-    let blocks = replicate m 1 ++ back in
-    let many : length blocks ≡ m + length back = omega (arith, length-append (replicate m 1) back, length-replicate {A = ℕ} m 1) in
+-- contents that begin with what reads gave
+listing_filled : (bytes : Bytes) (fields : Fields) (streams end : ℕ) (blocks rest : List ℕ) (m : ℕ) (h : HasSizes bytes fields 0 streams (1 + streams) end) → streams < 2 ^ 32 → 4 * end ≤ fields.directory_bytes
+    → length (listing h.sizes blocks) + length rest ≡ fields.directory_bytes → AreDirectoryNumbers bytes fields (1 + streams) blocks → m ≤ length blocks → ((j : ℕ) → j < m → is_ordinary fields.num_blocks (get_or blocks j 0) ≡ true)
+    → IsFilled fields (listing h.sizes blocks ++ rest) h.sizes blocks m
+listing_filled bytes fields streams end blocks rest m h few room all given some ordinary =
+    let many : streams ≡ length h.sizes = omega (arith, h.many) in
     record {
-      spells = spelled_spells fields.directory_bytes h.sizes blocks (omega (arith, short, room, fits, h.many)) h.short;
-      count = length-spelled fields.directory_bytes h.sizes blocks (omega (arith, room, fits, h.many, many));
-      long = omega (arith, room, h.end_is, h.many);
+      spells = listing_spells bytes fields h.sizes blocks rest (omega (arith, many, few)) h.given;
+      count = length-append (listing h.sizes blocks) rest ∙ all;
+      long = omega (arith, room, h.end_is, many);
+      short = λ j lt. (given j lt).short;
       some = some;
+      ordinary = ordinary;
     }
 
+-- ordinary numbers pass their tests
+all_pass : (num_blocks : ℕ) (blocks : List ℕ) (j : ℕ) → All (IsOrdinary num_blocks) blocks → j < length blocks → is_ordinary num_blocks (get_or blocks j 0) ≡ true
+all_pass num_blocks blocks j all lt = ordinary_passes num_blocks (get_or blocks j 0) (All-get_or (IsOrdinary num_blocks) blocks j 0 lt all)
+
 -- contents without a fault
-pub contents_sound : (fields : Fields) (streams end : ℕ) → HasSizes fields.block_size streams streams end → 1 < fields.num_blocks → fields.directory_bytes < 2 ^ 32 → 4 * end ≤ fields.directory_bytes → ContentsRefuse fields Memory
-contents_sound fields streams end h some short room =
-    let m = end - (1 + streams) in
-    let none : 1 + streams + m + length {A = ℕ} [] ≤ end = omega (arith, h.end_is) in
-    let filled = filled_spelled fields streams end m [] h some short room none in
-    (spelled fields.directory_bytes h.sizes (replicate m 1 ++ []), filled.count, inr (refl, filled_holds fields _ h.sizes [] m filled (omega (arith, h.end_is))))
+pub contents_sound : (bytes : Bytes) (fields : Fields) (streams end : ℕ) → HasLists bytes fields streams streams end → 4 * end ≤ fields.directory_bytes → ContentsRefuse bytes fields Memory
+contents_sound bytes fields streams end h room =
+    let sizes = h.sizes.sizes in
+    let blocks = h.blocks.blocks in
+    let many : streams ≡ length sizes = omega (arith, h.sizes.many) in
+    record {
+      text = listing sizes blocks;
+      given = listing_given bytes fields streams sizes blocks many h.count h.sizes.given h.blocks.given;
+      few = omega (arith, length-listing sizes blocks, many, h.blocks.end_is, room);
+      refused = λ rest all.
+          let filled = listing_filled bytes fields streams end blocks rest (length blocks) h.sizes h.count.short room all h.blocks.given (omega arith) (λ j lt. all_pass fields.num_blocks blocks j h.blocks.ordinary lt) in
+          inr (refl, filled_holds fields (listing sizes blocks ++ rest) sizes blocks (length blocks) filled (omega (arith, h.sizes.end_is, h.blocks.end_is)));
+    }
 
 -- contents with a number that is not ordinary, after ordinary ones
-pub block_refused : (fields : Fields) (streams t start count : ℕ) (fault : MsfFault) → HasSizes fields.block_size streams t start → HasSize fields.block_size count → t < streams → ListRefuses fields t count fault
-    → 1 < fields.num_blocks → fields.directory_bytes < 2 ^ 32 → 4 * (start + count) ≤ fields.directory_bytes → ContentsRefuse fields fault
-block_refused fields streams t start count fault h one lt bad some short room =
+pub block_refused : (bytes : Bytes) (fields : Fields) (streams t start count : ℕ) (fault : MsfFault) → HasLists bytes fields streams t start → HasSize bytes fields t count → HasRoom bytes fields (t + 1) streams (start + count)
+    → HasBadBlock bytes fields t start count fault → ContentsRefuse bytes fields fault
+unfolding join_sizes one_size
+block_refused bytes fields streams t start count fault h one room bad =
     let b = fields.block_size in
-    let left = replicate (streams - (t + 1)) 0 in
-    let others = one.0 ∷ left in
-    let sizes = h.sizes ++ others in
-    let together : blocks_together b sizes ≡ blocks_together b h.sizes + count =
-    omega (arith, together-append b h.sizes others, together-cons b one.0 left, empty_together b (streams - (t + 1)), one.2) in
-    let all : HasSizes b streams streams (start + count) = record {
-      sizes = sizes;
-      many = omega (arith, lt, h.many, length-append h.sizes others, length-replicate {A = ℕ} (streams - (t + 1)) 0);
-      short = All-append IsShort h.sizes others h.short (All-cons IsShort one.0 left one.1 (All-replicate IsShort (streams - (t + 1)) 0 (omega arith)));
-      end_is = omega (arith, together, h.end_is);
-    } in
-    let m = start + bad.at - (1 + streams) in
-    let back = bad.n ∷ [] in
-    let blocks = replicate m 1 ++ back in
-    let filled = filled_spelled fields streams (start + count) m back all some short room (omega (arith, bad.below, h.end_is)) in
-    let contents = spelled fields.directory_bytes sizes blocks in
-    let inside : t < length sizes = omega (arith, all.many, lt) in
-    let zeroth : length h.sizes + 0 ≡ t = omega (arith, h.many) in
-    let this : get_or sizes t 0 ≡ one.0 = rw zeroth at (get_or-append-add h.sizes others 0 0) in
-    let here : stream_blocks b contents t ≡ count = spelled_blocks b contents sizes blocks t filled.spells inside ∙ rw this (sym one.2) in
-    let front : take t sizes ≡ h.sizes = rw h.many at (take-append_seam h.sizes others) in
-    let begin : list_start b contents t ≡ start = omega (arith, rw front at (spelled_start b contents sizes blocks t filled.spells (omega (arith, inside))), all.many, h.end_is) in
-    rw bad.fault_is (contents, filled.count, inl (filled_stops fields contents sizes m t bad.at bad.n filled inside (omega (arith, here, bad.below)) (omega (arith, begin, all.many, h.end_is)) bad.short bad.bad))
+    let end = room.0 in
+    let this = one_size bytes fields t start count one in
+    let others = join_sizes bytes fields t (t + 1) streams start (start + count) end this room.1 in
+    let every = join_sizes bytes fields 0 t streams (1 + streams) start end h.sizes others in
+    let sizes = every.sizes in
+    let many : streams ≡ length sizes = omega (arith, every.many) in
+    let before = join_blocks bytes fields (1 + streams) start (start + bad.at) h.blocks bad.before in
+    let m = length before.blocks in
+    let blocks = before.blocks ++ bad.n ∷ [] in
+    let at_end : start + bad.at ≡ 1 + streams + m = before.end_is in
+    let given : AreDirectoryNumbers bytes fields (1 + streams) blocks = more_given bytes fields (1 + streams) before.blocks (bad.n ∷ []) before.given (rw at_end at (one_given bytes fields (start + bad.at) bad.n bad.given)) in
+    let one_more : length blocks ≡ m + 1 = length-append before.blocks (bad.n ∷ []) in
+    let fits : start + count ≤ end = omega (arith, room.1.end_is) in
+    record {
+      text = listing sizes blocks;
+      given = listing_given bytes fields streams sizes blocks many h.count every.given given;
+      few = omega (arith, length-listing sizes blocks, many, at_end, one_more, bad.below, fits, room.2);
+      refused = λ rest all.
+          let contents = listing sizes blocks ++ rest in
+          let filled = listing_filled bytes fields streams end blocks rest m every h.count.short room.2 all given (omega (arith, one_more)) (λ j lt.
+          rw (get_or_append_left before.blocks (bad.n ∷ []) 0 j lt) (all_pass fields.num_blocks before.blocks j before.ordinary lt)) in
+          let inside : t < length sizes = omega (arith, many, room.1.many) in
+          let first_sizes : t ≡ length h.sizes.sizes = omega (arith, h.sizes.many) in
+          let listed : get_or sizes t 0 ≡ one.0 = ap (λ (i : ℕ). get_or sizes i 0) first_sizes ∙ get_or-append_seam h.sizes.sizes one.0 room.1.sizes 0 in
+          let here : stream_blocks b contents t ≡ count = spelled_blocks b contents sizes blocks t filled.spells inside ∙ rw listed (sym one.2) in
+          let front : take t sizes ≡ h.sizes.sizes = ap (λ (i : ℕ). take i sizes) first_sizes ∙ take-append_seam h.sizes.sizes others.sizes in
+          let begin : list_start b contents t ≡ start = omega (arith, rw front at (spelled_start b contents sizes blocks t filled.spells (omega (arith, inside))), many, h.sizes.end_is) in
+          rw bad.fault_is (inl (filled_stops fields contents sizes blocks m t bad.at bad.n filled inside (omega (arith, here, bad.below)) (omega (arith, begin, many, at_end)) (omega (arith, one_more))
+          (get_or-append_seam before.blocks bad.n [] 0) bad.bad));
+    }
+
+-- contents that are too short for the lists: those read before, one more, and those after it
+pub rest_refused : (bytes : Bytes) (fields : Fields) (streams t start count : ℕ) (fault : MsfFault) → HasLists bytes fields streams t start → HasSize bytes fields t count → LacksRoom bytes fields (t + 1) streams (start + count) fault
+    → 4 * (1 + streams) ≤ fields.directory_bytes → ContentsRefuse bytes fields fault
+rest_refused bytes fields streams t start count fault h one lacks room =
+    let read = more_sizes bytes fields 0 t (1 + streams) start count h.sizes one in
+    lists_refused bytes fields streams fault h.count (lacks.0, join_sizes bytes fields 0 (t + 1) streams (1 + streams) (start + count) lacks.0 read lacks.1, lacks.2, lacks.3) room
+
+-- a list with a fault, in a directory that is long enough for all lists
+pub list_refused : (bytes : Bytes) (fields : Fields) (streams t start count : ℕ) (fault : MsfFault) → HasLists bytes fields streams t start → HasSize bytes fields t count → HasRoom bytes fields (t + 1) streams (start + count)
+    → ListRefuses bytes fields t start count fault → ContentsRefuse bytes fields fault
+list_refused bytes fields streams t start count fault h one room refuses = elim refuses [
+  | inl short ↦ absurd (omega (arith, short, room.2, room.1.end_is))
+  | inr bad ↦ block_refused bytes fields streams t start count fault h one room bad
+]
+
+-- the list of one more stream was read
+pub more_lists : (bytes : Bytes) (fields : Fields) (streams t start count : ℕ) → HasLists bytes fields streams t start → HasSize bytes fields t count → HasBlocks bytes fields start (start + count) → HasLists bytes fields streams (t + 1) (start + count)
+more_lists bytes fields streams t start count h one blocks = record {
+  count = h.count;
+  sizes = more_sizes bytes fields 0 t (1 + streams) start count h.sizes one;
+  blocks = join_blocks bytes fields (1 + streams) start (start + count) h.blocks blocks;
+}
+
+-- no list was read
+pub no_lists : (bytes : Bytes) (fields : Fields) (streams : ℕ) → IsDirectoryNumber bytes fields 0 streams → HasLists bytes fields streams 0 (1 + streams)
+no_lists bytes fields streams count = record { count = count; sizes = no_sizes bytes fields 0 (1 + streams); blocks = no_blocks bytes fields (1 + streams) }

@@ -1,9 +1,11 @@
 -- The stream directory: where its blocks are, and what it lists ("The MSF File Format", "The Stream Directory").
-use Rattle.std.specs.Prelude.{ℕ, zero, suc, false, Some, None, if◌then◌else◌, ◌==◌, ◌≡◌, ◌⊎◌, ◌+◌, ◌-◌, ◌*◌, ◌/◌, ◌%◌, ◌<◌, ◌≤◌, ◌^◌, nat_le, List, [], ◌∷◌, ◌++◌, length, slice_index, get_or, map, All}
+use Rattle.std.specs.Prelude.{ℕ, zero, suc, true, false, Some, None, if◌then◌else◌, ◌==◌, ◌≡◌, ◌⊎◌, ◌+◌, ◌*◌, ◌/◌, ◌%◌, ◌<◌, ◌≤◌, ◌^◌, nat_le, List, [], ◌∷◌, ◌++◌, length, slice_index, get_or, map, All}
 use Rattle.std.specs.List.{range_with_len, flat_map, sum_by}
-use Rattle.byte_fields.specs.Number.{number_at, nth_u32, u32s}
+use Rattle.byte_fields.specs.Number.{number_at, four_bytes, nth_u32, u32s}
 use Rattle.byte_fields.specs.Check.{Check, Refuses, checks_below, first_failing}
+use Rattle.byte_io.specs.At.{Bytes, AreGiven}
 use Rattle.msf_blocks.specs.BlockNumber.{blocks_for, IsOrdinary, is_ordinary}
+use Rattle.msf_blocks.specs.Blocks.{AreGivenIn}
 use Rattle.msf_blocks.specs.Superblock.{Fields}
 use Rattle.msf_blocks.specs.declared.fault.MsfFault.{MsfFault}
 use Rattle.msf_blocks.specs.declared.fault.MsfFault.TheVariants.{DirectoryBlock, DirectoryShort, StreamBlock, Memory}
@@ -125,45 +127,121 @@ number_check numbers fields k = record { holds = is_ordinary fields.num_blocks (
 unfoldable pub number_checks : List ℕ → Fields → List (Check MsfFault)
 number_checks numbers fields = checks_below (directory_blocks fields) (number_check numbers fields)
 
--- there is a block map for this superblock: as many numbers as the directory has blocks, and all of them are ordinary
-abbrev pub HasBlockMap : Fields → Type 0
-HasBlockMap fields = (numbers : List ℕ) × (length numbers ≡ directory_blocks fields) × (first_failing (number_checks numbers fields) ≡ None)
+-- reads gave this number of four bytes, at this offset
+abbrev pub IsNumberGiven : Bytes → ℕ → ℕ → Type 0
+IsNumberGiven bytes offset n = (text : List ℕ) × AreGiven bytes offset text × (length text ≡ 4) × (n ≡ number_at 4 text 0)
 
--- there is a block map for this superblock with this fault: its first number that is not ordinary
-abbrev pub BlockMapRefuses : Fields → MsfFault → Type 0
-BlockMapRefuses fields fault = (numbers : List ℕ) × (length numbers ≡ directory_blocks fields) × (first_failing (number_checks numbers fields) ≡ Some fault)
+-- where the block map begins
+abbrev pub map_start : Fields → ℕ
+map_start fields = fields.block_map_addr * fields.block_size
+
+-- reads gave these numbers of the block map, from its first number on
+abbrev pub AreMapNumbers : Bytes → Fields → List ℕ → Type 0
+AreMapNumbers bytes fields numbers = (k : ℕ) → k < length numbers → IsNumberGiven bytes (map_start fields + 4 * k) (get_or numbers k 0)
+
+-- reads gave this block map: as many numbers as the directory has blocks, and all of them are ordinary
+pub record IsBlockMap (bytes : Bytes) (fields : Fields) (numbers : List ℕ) : Type 0 where
+  pub count : length numbers ≡ directory_blocks fields
+  pub given : AreMapNumbers bytes fields numbers
+  pub sound : first_failing (number_checks numbers fields) ≡ None
+
+-- reads gave a block map
+abbrev pub HasBlockMap : Bytes → Fields → Type 0
+HasBlockMap bytes fields = (numbers : List ℕ) × IsBlockMap bytes fields numbers
+
+-- reads gave numbers of the block map with this fault, whatever comes after them
+pub record BlockMapRefuses (bytes : Bytes) (fields : Fields) (fault : MsfFault) : Type 0 where
+  pub numbers : List ℕ
+  pub given : AreMapNumbers bytes fields numbers
+  pub few : length numbers ≤ directory_blocks fields
+  pub refused : (rest : List ℕ) → length numbers + length rest ≡ directory_blocks fields → first_failing (number_checks (numbers ++ rest) fields) ≡ Some fault
 
 -- how many blocks streams of these listed sizes have together
 unfoldable pub blocks_together : ℕ → List ℕ → ℕ
 blocks_together block_size sizes = sum_by (λ size. blocks_for block_size (bytes_of size)) sizes
 
--- a stream of some listed size has this many blocks
-abbrev pub HasSize : ℕ → ℕ → Type 0
-HasSize block_size blocks = (size : ℕ) × (size < 2 ^ 32) × (blocks ≡ blocks_for block_size (bytes_of size))
+-- reads gave these contents of the directory, in the blocks that the block map lists
+pub record HasContents (bytes : Bytes) (fields : Fields) (contents : List ℕ) : Type 0 where
+  pub numbers : List ℕ
+  pub block_map : IsBlockMap bytes fields numbers
+  pub given : AreGivenIn bytes fields.block_size numbers contents
+  pub count : length contents ≡ fields.directory_bytes
 
--- there are sizes of the first `count` of these streams, with which the lists of their blocks end at this position
-pub record HasSizes (block_size streams count end : ℕ) : Type 0 where
+-- reads gave this byte of the directory, in a block whose number they gave in the block map
+abbrev pub IsDirectoryByte : Bytes → Fields → ℕ → ℕ → Type 0
+IsDirectoryByte bytes fields i byte =
+    (block : ℕ) × IsNumberGiven bytes (map_start fields + 4 * (i / fields.block_size)) block × (bytes.gives (block * fields.block_size + i % fields.block_size) byte ≡ true)
+
+-- reads gave these bytes of the directory, from this offset in it on
+abbrev pub AreDirectoryBytes : Bytes → Fields → ℕ → List ℕ → Type 0
+AreDirectoryBytes bytes fields from text = (i : ℕ) → i < length text → IsDirectoryByte bytes fields (from + i) (get_or text i 0)
+
+-- reads gave the bytes of this number of the directory, which has this position in it
+pub record IsDirectoryNumber (bytes : Bytes) (fields : Fields) (position n : ℕ) : Type 0 where
+  pub short : n < 2 ^ 32
+  pub given : AreDirectoryBytes bytes fields (4 * position) (four_bytes n)
+
+-- reads gave these numbers of the directory, from this position in it on
+abbrev pub AreDirectoryNumbers : Bytes → Fields → ℕ → List ℕ → Type 0
+AreDirectoryNumbers bytes fields from numbers = (k : ℕ) → k < length numbers → IsDirectoryNumber bytes fields (from + k) (get_or numbers k 0)
+
+-- reads gave a size of this stream, with which it has so many blocks
+abbrev pub HasSize : Bytes → Fields → ℕ → ℕ → Type 0
+HasSize bytes fields stream blocks = (size : ℕ) × IsDirectoryNumber bytes fields (1 + stream) size × (blocks ≡ blocks_for fields.block_size (bytes_of size))
+
+-- reads gave sizes of the streams from one up to another, with which their lists lie between these positions
+pub record HasSizes (bytes : Bytes) (fields : Fields) (from to start end : ℕ) : Type 0 where
   pub sizes : List ℕ
-  pub many : length sizes ≡ count
-  pub short : All (λ size. size < 2 ^ 32) sizes
-  pub end_is : end ≡ 1 + streams + blocks_together block_size sizes
+  pub given : AreDirectoryNumbers bytes fields (1 + from) sizes
+  pub many : to ≡ from + length sizes
+  pub end_is : end ≡ start + blocks_together fields.block_size sizes
 
--- this is a fault of a list of so many blocks of this stream: one of its numbers is not ordinary
-pub record ListRefuses (fields : Fields) (stream count : ℕ) (fault : MsfFault) : Type 0 where
+-- reads gave sizes of these streams, with which the directory has room for their lists
+abbrev pub HasRoom : Bytes → Fields → ℕ → ℕ → ℕ → Type 0
+HasRoom bytes fields from to start = (end : ℕ) × HasSizes bytes fields from to start end × (4 * end ≤ fields.directory_bytes)
+
+-- reads gave sizes of these streams, with which the directory is too short for their lists
+abbrev pub LacksRoom : Bytes → Fields → ℕ → ℕ → ℕ → MsfFault → Type 0
+LacksRoom bytes fields from to start fault =
+    (end : ℕ) × HasSizes bytes fields from to start end × (fields.directory_bytes < 4 * end) × (fault ≡ DirectoryShort (4 * end) fields.directory_bytes)
+
+-- reads gave numbers of blocks between these positions of the directory, and all of them are ordinary
+pub record HasBlocks (bytes : Bytes) (fields : Fields) (start end : ℕ) : Type 0 where
+  pub blocks : List ℕ
+  pub given : AreDirectoryNumbers bytes fields start blocks
+  pub end_is : end ≡ start + length blocks
+  pub ordinary : All (IsOrdinary fields.num_blocks) blocks
+
+-- reads gave the first numbers of a list of so many blocks of this stream, and the last of them is the first that is not ordinary
+pub record HasBadBlock (bytes : Bytes) (fields : Fields) (stream start count : ℕ) (fault : MsfFault) : Type 0 where
   pub at : ℕ
   pub n : ℕ
+  pub before : HasBlocks bytes fields start (start + at)
+  pub given : IsDirectoryNumber bytes fields (start + at) n
   pub below : at < count
-  pub short : n < 2 ^ 32
   pub bad : is_ordinary fields.num_blocks n ≡ false
   pub fault_is : fault ≡ StreamBlock stream at n
 
--- there are contents of a directory for this superblock whose first fault this is; where they have none it is out of memory
-abbrev pub ContentsRefuse : Fields → MsfFault → Type 0
-ContentsRefuse fields fault = (contents : List ℕ) × (length contents ≡ fields.directory_bytes) × Refuses Memory (first_failing (directory_checks fields contents)) fault
+-- a list of so many blocks of this stream has a fault: the directory is too short for it, or it has this number that is not ordinary
+abbrev pub ListRefuses : Bytes → Fields → ℕ → ℕ → ℕ → MsfFault → Type 0
+ListRefuses bytes fields stream start count fault = (fields.directory_bytes < 4 * (start + count)) ⊎ HasBadBlock bytes fields stream start count fault
 
--- there is a directory for this superblock with this fault: the block map has it, or else the contents
-abbrev pub DirectoryRefuses : Fields → MsfFault → Type 0
-DirectoryRefuses fields fault = BlockMapRefuses fields fault ⊎ (HasBlockMap fields × ContentsRefuse fields fault)
+-- reads gave how many streams there are, the sizes of those before this one, and their lists, after which its own begins
+pub record HasLists (bytes : Bytes) (fields : Fields) (streams stream start : ℕ) : Type 0 where
+  pub count : IsDirectoryNumber bytes fields 0 streams
+  pub sizes : HasSizes bytes fields 0 stream (1 + streams) start
+  pub blocks : HasBlocks bytes fields (1 + streams) start
+
+-- reads gave the first bytes of a directory with this fault, whatever comes after them; where they have none it is out of memory
+pub record ContentsRefuse (bytes : Bytes) (fields : Fields) (fault : MsfFault) : Type 0 where
+  pub text : List ℕ
+  pub given : AreDirectoryBytes bytes fields 0 text
+  pub few : length text ≤ fields.directory_bytes
+  pub refused : (rest : List ℕ) → length text + length rest ≡ fields.directory_bytes → Refuses Memory (first_failing (directory_checks fields (text ++ rest))) fault
+
+-- reads gave a directory with this fault: the block map has it, or else what the directory lists
+abbrev pub DirectoryRefuses : Bytes → Fields → MsfFault → Type 0
+DirectoryRefuses bytes fields fault = BlockMapRefuses bytes fields fault ⊎ (HasBlockMap bytes fields × ContentsRefuse bytes fields fault)
 
 -- this is the first fault of the directory of a file that begins with this superblock: that of a number of the block map, else one of what the directory lists, else it is out of memory
 abbrev pub IsDirectoryFault : List ℕ → Fields → MsfFault → Type 0

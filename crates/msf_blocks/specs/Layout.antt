@@ -1,10 +1,11 @@
 -- The layout of a container: its superblock, and its streams as the directory lists them.
-use Rattle.std.specs.Prelude.{ℕ, ◌≡◌, ◌⊎◌, ◌<◌, ◌^◌, ◌++◌, List, Option, Some, None, length, slice_get, All}
+use Rattle.std.specs.Prelude.{ℕ, ◌⊎◌, ◌<◌, ◌^◌, ◌++◌, List, Option, Some, None, length, slice_get, All}
 use Rattle.byte_fields.specs.Number.{nth_u32}
 use Rattle.byte_fields.specs.Check.{Check, checks_below}
+use Rattle.byte_io.specs.At.{Bytes}
 use Rattle.msf_blocks.specs.BlockNumber.{IsBlockSize}
 use Rattle.msf_blocks.specs.Superblock.{Fields, IsSuperblock, HasFront, FrontRefuses, fields_of, superblock_checks}
-use Rattle.msf_blocks.specs.Directory.{Listed, IsListed, IsDirectory, ListsStreams, HasBlockMap, DirectoryRefuses, directory_contents, directory_block_checks, length_checks, stream_checks}
+use Rattle.msf_blocks.specs.Directory.{Listed, IsListed, IsDirectory, ListsStreams, HasContents, DirectoryRefuses, directory_contents, directory_block_checks, length_checks, stream_checks}
 use Rattle.msf_blocks.specs.declared.fault.MsfFault.{MsfFault}
 
 -- contracts see a layout as the values of the superblock and the list of streams
@@ -19,17 +20,16 @@ pub record HasLayout (file : List ℕ) (layout : LayoutView) : Type 0 where
   pub directory : IsDirectory file layout.superblock contents
   pub lists : ListsStreams layout.superblock contents layout.streams
 
--- the texts that were read for this layout, of a container that is said to have so many bytes: each is as long as the one before it announces, and all checks of it hold
-pub record HasTexts (told : ℕ) (layout : LayoutView) : Type 0 where
-  pub front : HasFront told layout.superblock
-  pub block_map : HasBlockMap layout.superblock
+-- reads gave the texts of this layout: the front, the block map, and the contents of the directory, each where the one before it says; all checks of them hold
+pub record HasTexts (bytes : Bytes) (layout : LayoutView) : Type 0 where
+  pub front : HasFront bytes layout.superblock
   pub contents : List ℕ
-  pub count : length contents ≡ layout.superblock.directory_bytes
+  pub directory : HasContents bytes layout.superblock contents
   pub lists : ListsStreams layout.superblock contents layout.streams
 
--- there are texts of a container, which is said to have so many bytes, with this fault: the front has it, or else the directory; where they have no fault it is out of memory
-abbrev pub TextsRefuse : ℕ → MsfFault → Type 0
-TextsRefuse told fault = FrontRefuses told fault ⊎ ((fields : Fields) × HasFront told fields × DirectoryRefuses fields fault)
+-- reads gave texts of a container with this fault: the front has it, or else the directory; where they have no fault it is out of memory
+abbrev pub TextsRefuse : Bytes → MsfFault → Type 0
+TextsRefuse bytes fault = FrontRefuses bytes fault ⊎ ((fields : Fields) × HasFront bytes fields × DirectoryRefuses bytes fields fault)
 
 -- what holds of every layout
 pub record IsLayout (layout : LayoutView) : Type 0 where

@@ -3,6 +3,7 @@ use Rattle.std.specs.Prelude.{ℕ, Some, None, ◌≡◌, ◌<◌, ◌*◌, ◌/
 use Rattle.std.specs.List.{starts_with}
 use Rattle.byte_fields.specs.Number.{number_at}
 use Rattle.byte_fields.specs.Check.{Check, first_failing}
+use Rattle.byte_io.specs.At.{Bytes, AreGiven}
 use Rattle.msf_blocks.specs.BlockNumber.{IsBlockSize, is_block_size, blocks_for, IsOrdinary, is_ordinary}
 use Rattle.msf_blocks.specs.declared.fault.MsfFault.{MsfFault}
 use Rattle.msf_blocks.specs.declared.fault.MsfFault.TheVariants.{Short, Magic, BlockSize, FreeMapBlock, FileSize, DirectorySize, BlockMapAddr}
@@ -83,10 +84,14 @@ pub record IsFront (front : List ℕ) (told : ℕ) (fields : Fields) : Type 0 wh
   pub fields_are : fields ≡ fields_of front
   pub sound : first_failing (front_checks front told) ≡ None
 
--- there is a front with this superblock
-abbrev pub HasFront : ℕ → Fields → Type 0
-HasFront told fields = (front : List ℕ) × IsFront front told fields
+-- reads gave a front with this superblock
+abbrev pub HasFront : Bytes → Fields → Type 0
+HasFront bytes fields = (front : List ℕ) × AreGiven bytes 0 front × IsFront front bytes.told fields
 
--- there is a front with this fault: the container is said to be too short for one, or this is the first check of the front that fails
-abbrev pub FrontRefuses : ℕ → MsfFault → Type 0
-FrontRefuses told fault = ((told < 56) × (fault ≡ Short)) ⊎ ((front : List ℕ) × (length front ≡ 56) × (first_failing (front_checks front told) ≡ Some fault))
+-- reads gave a front whose first check that fails has this fault
+abbrev pub HasBadFront : Bytes → MsfFault → Type 0
+HasBadFront bytes fault = (front : List ℕ) × AreGiven bytes 0 front × (length front ≡ 56) × (first_failing (front_checks front bytes.told) ≡ Some fault)
+
+-- the front has this fault: there are said to be too few bytes for one, or reads gave one with this fault
+abbrev pub FrontRefuses : Bytes → MsfFault → Type 0
+FrontRefuses bytes fault = ((bytes.told < 56) × (fault ≡ Short)) ⊎ HasBadFront bytes fault

@@ -3,7 +3,7 @@
 ghost use Rattle.std.specs.Prelude.{ℕ, ◌≡◌, ◌⊎◌, ◌<◌, ◌≤◌, ◌+◌, length, get_or, OnOk, IfErr};
 ghost use Rattle.byte_io.specs.At.{Breaks, IfKnown};
 ghost use Rattle.msf_blocks.specs.BlockNumber.{IsBlockSize, blocks_for};
-ghost use Rattle.msf_blocks.specs.Blocks.{AreInside, in_blocks};
+ghost use Rattle.msf_blocks.specs.Blocks.{AreGivenIn, AreInside, in_blocks};
 
 use byte_io::{ReadAt, ReadFault, read_more};
 use std::alloc::Allocator;
@@ -49,6 +49,7 @@ pub fn read_blocks<R: ReadAt, A: Allocator>(
     ensures keeps { R.bytes input.new ≡ R.bytes input.old }
     ensures len { OnOk result (length buffer.new.items ≡ size) }
     ensures value { OnOk result (IfKnown (R.bytes input.old) (λ file. buffer.new.items ≡ in_blocks file block_size blocks.now size)) }
+    ensures given { OnOk result (AreGivenIn (R.bytes input.old) block_size blocks.now buffer.new.items) }
     ensures first { IfErr result (λ fault. ((fault ≡ ReadFault.Read) × Breaks (R.bytes input.old) (R.is_broken input.new)) ⊎ (fault ≡ ReadFault.Memory)) }
 {
     buffer.clear();

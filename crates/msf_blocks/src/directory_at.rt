@@ -3,10 +3,10 @@
 
 ghost use Rattle.std.specs.Prelude.{ℕ, None, Some, ◌≡◌, ◌⊎◌, ◌+◌, ◌*◌, ◌<◌, ◌≤◌, ◌^◌, length, map, OnOk, IfOk, IfErr, IfSome, IfNone};
 ghost use Rattle.std.specs.List.{range_with_len};
-ghost use Rattle.byte_fields.specs.Number.{number_at, nth_u32};
+ghost use Rattle.byte_fields.specs.Number.{number_at, four_bytes, nth_u32};
 ghost use Rattle.byte_fields.specs.Check.{Makes, first_failing, checks_below};
-ghost use Rattle.byte_io.specs.At.{Breaks, IfKnown, IfOf};
-ghost use Rattle.msf_blocks.specs.Directory.{IsReadable, IsDirectoryFault, HasSize, HasSizes, HasBlockMap, BlockMapRefuses, ListRefuses, ContentsRefuse, DirectoryRefuses, map_number, map_numbers, number_checks, directory_blocks, directory_block_checks, directory_checks, directory_contents, list_start, length_checks, stream_blocks, stream_checks};
+ghost use Rattle.byte_io.specs.At.{AreGiven, Breaks, IfKnown, IfOf};
+ghost use Rattle.msf_blocks.specs.Directory.{AreMapNumbers, HasContents, IsBlockMap, IsNumberGiven, IsDirectoryNumber, IsReadable, IsDirectoryFault, HasSize, HasSizes, HasRoom, LacksRoom, HasBlocks, HasLists, HasBlockMap, BlockMapRefuses, ListRefuses, ContentsRefuse, DirectoryRefuses, map_number, map_start, map_numbers, number_checks, directory_blocks, directory_block_checks, directory_checks, directory_contents, list_start, length_checks, stream_blocks, stream_checks};
 
 use crate::block_number::{blocks_for, is_ordinary};
 use crate::blocks::read_blocks;
@@ -17,16 +17,27 @@ use byte_fields::u32_at;
 use byte_io::{AtFault, ReadAt, ReadFault, read_more};
 use std::alloc::{AllocError, Allocator};
 
+/// The number in four bytes.
+fn number_of(bytes: &[u8]) -> u32
+    requires { length bytes.now ≡ 4 }
+    ensures value { result ≡ number_at 4 bytes.now 0 }
+    ensures bytes { four_bytes result ≡ bytes.now }
+{
+    u32_at(bytes, 0)
+}
+
 /// Reads a number of four bytes. `None` where the read fails.
 fn read_number<R: ReadAt>(input: &mut R, offset: u64) -> Option<u32>
     requires inside { IfKnown (R.bytes input.old) (λ file. offset + 4 ≤ length file) }
     ensures keeps { R.bytes input.new ≡ R.bytes input.old }
     ensures value { IfSome result (λ n. IfKnown (R.bytes input.old) (λ file. n ≡ number_at 4 file offset)) }
+    ensures given { IfSome result (IsNumberGiven (R.bytes input.old) offset) }
+    ensures bytes { IfSome result (λ n. (n < 2 ^ 32) × AreGiven (R.bytes input.old) offset (four_bytes n)) }
     ensures refuses { IfNone result (Breaks (R.bytes input.old) (R.is_broken input.new)) }
 {
     let mut bytes = [0u8; 4];
     input.read_at(offset, &mut bytes)?;
-    Some(u32_at(&bytes, 0))
+    Some(number_of(&bytes))
 }
 
 /// The number at a position of the block map.
@@ -36,6 +47,7 @@ fn read_map_number<R: ReadAt>(input: &mut R, superblock: &Superblock, position: 
     requires below { position < directory_blocks superblock.now }
     ensures keeps { R.bytes input.new ≡ R.bytes input.old }
     ensures value { IfSome result (λ n. IfKnown (R.bytes input.old) (λ file. n ≡ map_number file superblock.now position)) }
+    ensures given { IfSome result (IsNumberGiven (R.bytes input.old) (map_start superblock.now + 4 * position)) }
     ensures refuses { IfNone result (Breaks (R.bytes input.old) (R.is_broken input.new)) }
 {
     let start = u64::from(superblock.block_map_addr()) * u64::from(superblock.block_size());
@@ -49,8 +61,8 @@ fn check_map<R: ReadAt>(input: &mut R, superblock: &Superblock) -> Result<(), At
     ensures held { OnOk result (IfKnown (R.bytes input.old) (λ file. first_failing (directory_block_checks file superblock.now) ≡ None)) }
     ensures first { IfErr result (IfOf (λ fault. IfKnown (R.bytes input.old) (λ file. first_failing (directory_block_checks file superblock.now) ≡ Some fault))) }
     // Whatever is known of the file, there is a block map without a fault, or one with this fault.
-    ensures map { OnOk result (HasBlockMap superblock.now) }
-    ensures refused { IfErr result (IfOf (BlockMapRefuses superblock.now)) }
+    ensures map { OnOk result (HasBlockMap (R.bytes input.old) superblock.now) }
+    ensures refused { IfErr result (IfOf (BlockMapRefuses (R.bytes input.old) superblock.now)) }
     ensures read { IfErr result (λ fault. fault ≡ AtFault.Read → Breaks (R.bytes input.old) (R.is_broken input.new)) }
 {
     for at in 0..blocks_for(superblock.block_size(), superblock.directory_bytes()) {
@@ -74,6 +86,7 @@ fn read_directory_number<R: ReadAt>(
     requires there { 4 * position + 4 ≤ superblock.now.directory_bytes }
     ensures keeps { R.bytes input.new ≡ R.bytes input.old }
     ensures value { IfSome result (λ n. IfKnown (R.bytes input.old) (λ file. n ≡ nth_u32 (directory_contents file superblock.now) position)) }
+    ensures given { IfSome result (IsDirectoryNumber (R.bytes input.old) superblock.now position) }
     ensures refuses { IfNone result (Breaks (R.bytes input.old) (R.is_broken input.new)) }
 {
     let block_size = superblock.block_size();
@@ -91,7 +104,7 @@ fn read_stream_blocks<R: ReadAt>(input: &mut R, superblock: &Superblock, stream:
     ensures keeps { R.bytes input.new ≡ R.bytes input.old }
     ensures value { IfSome result (λ n. IfKnown (R.bytes input.old) (λ file. n ≡ stream_blocks superblock.now.block_size (directory_contents file superblock.now) stream)) }
     ensures few { IfSome result (λ n. n ≤ 2 ^ 23) }
-    ensures size { IfSome result (HasSize superblock.now.block_size) }
+    ensures size { IfSome result (HasSize (R.bytes input.old) superblock.now stream) }
     ensures refuses { IfNone result (Breaks (R.bytes input.old) (R.is_broken input.new)) }
 {
     let block_size = superblock.block_size();
@@ -99,22 +112,66 @@ fn read_stream_blocks<R: ReadAt>(input: &mut R, superblock: &Superblock, stream:
     Some(blocks_for(block_size, bytes_of(size)))
 }
 
-/// The position after the last list of blocks, computed from the sizes of the streams.
-fn read_lists_end<R: ReadAt>(input: &mut R, superblock: &Superblock, streams: u32) -> Option<u64>
+/// The position after the last list of blocks, computed from the sizes of the streams from this one
+/// on. Its own list begins at position `start`.
+fn read_lists_end<R: ReadAt>(
+    input: &mut R,
+    superblock: &Superblock,
+    from: u32,
+    start: u64,
+    streams: u32,
+) -> Option<u64>
     requires readable { IfKnown (R.bytes input.old) (λ file. IsReadable file superblock.now) }
-    requires streams { IfKnown (R.bytes input.old) (λ file. streams ≡ nth_u32 (directory_contents file superblock.now) 0) }
-    requires room { 4 * (1 + streams) ≤ superblock.now.directory_bytes }
+    requires start { IfKnown (R.bytes input.old) (λ file. start ≡ list_start superblock.now.block_size (directory_contents file superblock.now) from) }
+    requires few { 4 * (1 + streams) ≤ superblock.now.directory_bytes }
+    requires upto { from ≤ streams }
+    requires short { start ≤ 2 ^ 33 }
     ensures keeps { R.bytes input.new ≡ R.bytes input.old }
     ensures value { IfSome result (λ n. IfKnown (R.bytes input.old) (λ file. n ≡ list_start superblock.now.block_size (directory_contents file superblock.now) streams)) }
     ensures few { IfSome result (λ n. n < 2 ^ 60) }
-    ensures sizes { IfSome result (HasSizes superblock.now.block_size streams streams) }
+    ensures sizes { IfSome result (HasSizes (R.bytes input.old) superblock.now from streams start) }
     ensures refuses { IfNone result (Breaks (R.bytes input.old) (R.is_broken input.new)) }
 {
-    let mut end = 1 + u64::from(streams);
-    for stream in 0..streams {
+    let mut end = start;
+    for stream in from..streams {
         end += u64::from(read_stream_blocks(input, superblock, stream)?);
     }
     Some(end)
+}
+
+/// Checks that the directory is long enough for the lists of the streams from this one on. Its own
+/// list begins at position `start`.
+fn check_end<R: ReadAt>(
+    input: &mut R,
+    superblock: &Superblock,
+    from: u32,
+    start: u64,
+    streams: u32,
+) -> Result<(), AtFault<MsfFault>>
+    requires readable { IfKnown (R.bytes input.old) (λ file. IsReadable file superblock.now) }
+    requires start { IfKnown (R.bytes input.old) (λ file. start ≡ list_start superblock.now.block_size (directory_contents file superblock.now) from) }
+    requires few { 4 * (1 + streams) ≤ superblock.now.directory_bytes }
+    requires upto { from ≤ streams }
+    requires short { start ≤ 2 ^ 33 }
+    ensures keeps { R.bytes input.new ≡ R.bytes input.old }
+    ensures held { OnOk result (IfKnown (R.bytes input.old) (λ file. 4 * list_start superblock.now.block_size (directory_contents file superblock.now) streams ≤ superblock.now.directory_bytes)) }
+    ensures first { IfErr result (IfOf (λ fault. IfKnown (R.bytes input.old) (λ file.
+        let end = list_start superblock.now.block_size (directory_contents file superblock.now) streams in
+        (superblock.now.directory_bytes < 4 * end) × (fault ≡ MsfFault.DirectoryShort (4 * end) superblock.now.directory_bytes)))) }
+    ensures room { OnOk result (HasRoom (R.bytes input.old) superblock.now from streams start) }
+    ensures refused { IfErr result (IfOf (LacksRoom (R.bytes input.old) superblock.now from streams start)) }
+    ensures read { IfErr result (λ fault. fault ≡ AtFault.Read → Breaks (R.bytes input.old) (R.is_broken input.new)) }
+{
+    let Some(end) = read_lists_end(input, superblock, from, start, streams) else {
+        return Err(AtFault::Read);
+    };
+    // The sum needs 64 bits: the sizes in a hostile file may add up to more than 2^32.
+    let need = 4 * end;
+    let have = u64::from(superblock.directory_bytes());
+    if have < need {
+        return Err(AtFault::Of(MsfFault::DirectoryShort { need, have }));
+    }
+    Ok(())
 }
 
 /// Checks that the directory is long enough for everything that it lists, and returns how many
@@ -123,11 +180,13 @@ fn check_length<R: ReadAt>(input: &mut R, superblock: &Superblock) -> Result<u32
     requires readable { IfKnown (R.bytes input.old) (λ file. IsReadable file superblock.now) }
     ensures keeps { R.bytes input.new ≡ R.bytes input.old }
     ensures few { IfOk result (λ n. 4 * (1 + n) ≤ superblock.now.directory_bytes) }
+    ensures short { IfOk result (λ n. 4 * (1 + n) < 2 ^ 32) }
+    ensures given { IfOk result (IsDirectoryNumber (R.bytes input.old) superblock.now 0) }
     ensures streams { IfOk result (λ n. IfKnown (R.bytes input.old) (λ file. n ≡ nth_u32 (directory_contents file superblock.now) 0)) }
     ensures room { IfOk result (λ n. IfKnown (R.bytes input.old) (λ file. 4 * list_start superblock.now.block_size (directory_contents file superblock.now) n ≤ superblock.now.directory_bytes)) }
     ensures held { OnOk result (IfKnown (R.bytes input.old) (λ file. first_failing (length_checks superblock.now.block_size (directory_contents file superblock.now)) ≡ None)) }
     ensures first { IfErr result (IfOf (λ fault. IfKnown (R.bytes input.old) (λ file. first_failing (length_checks superblock.now.block_size (directory_contents file superblock.now)) ≡ Some fault))) }
-    ensures refused { IfErr result (IfOf (ContentsRefuse superblock.now)) }
+    ensures refused { IfErr result (IfOf (ContentsRefuse (R.bytes input.old) superblock.now)) }
     ensures read { IfErr result (λ fault. fault ≡ AtFault.Read → Breaks (R.bytes input.old) (R.is_broken input.new)) }
 {
     let have = u64::from(superblock.directory_bytes());
@@ -141,19 +200,12 @@ fn check_length<R: ReadAt>(input: &mut R, superblock: &Superblock) -> Result<u32
     if have < need {
         return Err(AtFault::Of(MsfFault::DirectoryShort { need, have }));
     }
-    let Some(end) = read_lists_end(input, superblock, streams) else {
-        return Err(AtFault::Read);
-    };
-    // The sum needs 64 bits: the sizes in a hostile file may add up to more than 2^32.
-    let need = 4 * end;
-    if have < need {
-        return Err(AtFault::Of(MsfFault::DirectoryShort { need, have }));
-    }
+    check_end(input, superblock, 0, 1 + u64::from(streams), streams)?;
     Ok(streams)
 }
 
-/// Checks the block numbers of a stream. Its list has `count` numbers and begins at position
-/// `start`.
+/// Checks the list of blocks of a stream: the directory is long enough for it, and its numbers are
+/// ordinary. It has `count` numbers and begins at position `start`.
 fn check_stream<R: ReadAt>(
     input: &mut R,
     superblock: &Superblock,
@@ -162,16 +214,24 @@ fn check_stream<R: ReadAt>(
     count: u32,
 ) -> Result<(), AtFault<MsfFault>>
     requires readable { IfKnown (R.bytes input.old) (λ file. IsReadable file superblock.now) }
-    requires room { 4 * (start + count) ≤ superblock.now.directory_bytes }
-    requires short { 4 * (start + count) < 2 ^ 32 }
+    requires room { IfKnown (R.bytes input.old) (λ file. 4 * (start + count) ≤ superblock.now.directory_bytes) }
     requires start { IfKnown (R.bytes input.old) (λ file. start ≡ list_start superblock.now.block_size (directory_contents file superblock.now) stream) }
     requires count { IfKnown (R.bytes input.old) (λ file. count ≡ stream_blocks superblock.now.block_size (directory_contents file superblock.now) stream) }
     ensures keeps { R.bytes input.new ≡ R.bytes input.old }
+    ensures room { OnOk result (4 * (start + count) ≤ superblock.now.directory_bytes) }
+    ensures short { OnOk result (4 * (start + count) < 2 ^ 32) }
     ensures held { OnOk result (IfKnown (R.bytes input.old) (λ file. first_failing (stream_checks superblock.now (directory_contents file superblock.now) stream) ≡ None)) }
     ensures first { IfErr result (IfOf (λ fault. IfKnown (R.bytes input.old) (λ file. first_failing (stream_checks superblock.now (directory_contents file superblock.now) stream) ≡ Some fault))) }
-    ensures refused { IfErr result (IfOf (ListRefuses superblock.now stream count)) }
+    ensures listed { OnOk result (HasBlocks (R.bytes input.old) superblock.now start (start + count)) }
+    ensures refused { IfErr result (IfOf (ListRefuses (R.bytes input.old) superblock.now stream start count)) }
     ensures read { IfErr result (λ fault. fault ≡ AtFault.Read → Breaks (R.bytes input.old) (R.is_broken input.new)) }
 {
+    let have = u64::from(superblock.directory_bytes());
+    // A file that changes may list more blocks now than when its length was checked.
+    let need = 4 * (u64::from(start) + u64::from(count));
+    if have < need {
+        return Err(AtFault::Of(MsfFault::DirectoryShort { need, have }));
+    }
     for at in 0..count {
         let Some(n) = read_directory_number(input, superblock, start + at) else {
             return Err(AtFault::Read);
@@ -183,7 +243,47 @@ fn check_stream<R: ReadAt>(
     Ok(())
 }
 
-/// Checks the block numbers of all streams. `streams` says how many streams there are.
+/// Checks the list of a stream, which begins at position `start`, and returns where it ends.
+///
+/// Where the list has a fault, the sizes of the later streams are read again too: that the directory
+/// is too short for all lists comes first.
+fn check_list<R: ReadAt>(
+    input: &mut R,
+    superblock: &Superblock,
+    streams: u32,
+    stream: u32,
+    start: u32,
+) -> Result<u32, AtFault<MsfFault>>
+    requires readable { IfKnown (R.bytes input.old) (λ file. IsReadable file superblock.now) }
+    requires few { 4 * (1 + streams) ≤ superblock.now.directory_bytes }
+    requires below { stream < streams }
+    requires start { IfKnown (R.bytes input.old) (λ file. start ≡ list_start superblock.now.block_size (directory_contents file superblock.now) stream) }
+    requires room { IfKnown (R.bytes input.old) (λ file. 4 * list_start superblock.now.block_size (directory_contents file superblock.now) streams ≤ superblock.now.directory_bytes) }
+    requires lists { HasLists (R.bytes input.old) superblock.now streams stream start }
+    ensures keeps { R.bytes input.new ≡ R.bytes input.old }
+    ensures fits { IfOk result (λ end. 4 * end ≤ superblock.now.directory_bytes) }
+    ensures end { IfOk result (λ end. IfKnown (R.bytes input.old) (λ file. end ≡ list_start superblock.now.block_size (directory_contents file superblock.now) (stream + 1))) }
+    ensures held { OnOk result (IfKnown (R.bytes input.old) (λ file. first_failing (stream_checks superblock.now (directory_contents file superblock.now) stream) ≡ None)) }
+    ensures first { IfErr result (IfOf (λ fault. IfKnown (R.bytes input.old) (λ file. first_failing (stream_checks superblock.now (directory_contents file superblock.now) stream) ≡ Some fault))) }
+    ensures lists { IfOk result (HasLists (R.bytes input.old) superblock.now streams (stream + 1)) }
+    ensures refused { IfErr result (IfOf (ContentsRefuse (R.bytes input.old) superblock.now)) }
+    ensures read { IfErr result (λ fault. fault ≡ AtFault.Read → Breaks (R.bytes input.old) (R.is_broken input.new)) }
+{
+    let Some(count) = read_stream_blocks(input, superblock, stream) else {
+        return Err(AtFault::Read);
+    };
+    match check_stream(input, superblock, stream, start, count) {
+        Ok(()) => Ok(start + count),
+        Err(AtFault::Read) => Err(AtFault::Read),
+        Err(AtFault::Of(fault)) => {
+            let end = u64::from(start) + u64::from(count);
+            check_end(input, superblock, stream + 1, end, streams)?;
+            Err(AtFault::Of(fault))
+        }
+    }
+}
+
+/// Checks the lists of blocks of all streams. `streams` says how many streams there are.
 fn check_streams<R: ReadAt>(
     input: &mut R,
     superblock: &Superblock,
@@ -191,29 +291,21 @@ fn check_streams<R: ReadAt>(
 ) -> Result<(), AtFault<MsfFault>>
     requires readable { IfKnown (R.bytes input.old) (λ file. IsReadable file superblock.now) }
     requires few { 4 * (1 + streams) ≤ superblock.now.directory_bytes }
+    requires short { 4 * (1 + streams) < 2 ^ 32 }
+    requires given { IsDirectoryNumber (R.bytes input.old) superblock.now 0 streams }
     requires streams { IfKnown (R.bytes input.old) (λ file. streams ≡ nth_u32 (directory_contents file superblock.now) 0) }
     requires room { IfKnown (R.bytes input.old) (λ file. 4 * list_start superblock.now.block_size (directory_contents file superblock.now) streams ≤ superblock.now.directory_bytes) }
     ensures keeps { R.bytes input.new ≡ R.bytes input.old }
     ensures held { OnOk result (IfKnown (R.bytes input.old) (λ file. first_failing (checks_below streams (stream_checks superblock.now (directory_contents file superblock.now))) ≡ None)) }
     ensures first { IfErr result (IfOf (λ fault. IfKnown (R.bytes input.old) (λ file. first_failing (checks_below streams (stream_checks superblock.now (directory_contents file superblock.now))) ≡ Some fault))) }
     // Whatever is known of the file, there are contents without a fault, or some with this fault.
-    ensures sound { OnOk result (ContentsRefuse superblock.now MsfFault.Memory) }
-    ensures refused { IfErr result (IfOf (ContentsRefuse superblock.now)) }
+    ensures sound { OnOk result (ContentsRefuse (R.bytes input.old) superblock.now MsfFault.Memory) }
+    ensures refused { IfErr result (IfOf (ContentsRefuse (R.bytes input.old) superblock.now)) }
     ensures read { IfErr result (λ fault. fault ≡ AtFault.Read → Breaks (R.bytes input.old) (R.is_broken input.new)) }
 {
-    let have = u64::from(superblock.directory_bytes());
     let mut start = 1 + streams;
     for stream in 0..streams {
-        let Some(count) = read_stream_blocks(input, superblock, stream) else {
-            return Err(AtFault::Read);
-        };
-        // A file that changes may list more blocks now than when its length was checked.
-        let need = 4 * (u64::from(start) + u64::from(count));
-        if have < need {
-            return Err(AtFault::Of(MsfFault::DirectoryShort { need, have }));
-        }
-        check_stream(input, superblock, stream, start, count)?;
-        start += count;
+        start = check_list(input, superblock, streams, stream, start)?;
     }
     Ok(())
 }
@@ -227,8 +319,8 @@ fn check_directory<R: ReadAt>(
     ensures keeps { R.bytes input.new ≡ R.bytes input.old }
     ensures held { OnOk result (IfKnown (R.bytes input.old) (λ file. first_failing (directory_checks superblock.now (directory_contents file superblock.now)) ≡ None)) }
     ensures first { IfErr result (IfOf (λ fault. IfKnown (R.bytes input.old) (λ file. first_failing (directory_checks superblock.now (directory_contents file superblock.now)) ≡ Some fault))) }
-    ensures sound { OnOk result (ContentsRefuse superblock.now MsfFault.Memory) }
-    ensures refused { IfErr result (IfOf (ContentsRefuse superblock.now)) }
+    ensures sound { OnOk result (ContentsRefuse (R.bytes input.old) superblock.now MsfFault.Memory) }
+    ensures refused { IfErr result (IfOf (ContentsRefuse (R.bytes input.old) superblock.now)) }
     ensures read { IfErr result (λ fault. fault ≡ AtFault.Read → Breaks (R.bytes input.old) (R.is_broken input.new)) }
 {
     let streams = check_length(input, superblock)?;
@@ -242,7 +334,7 @@ fn fault_without_memory<R: ReadAt>(input: &mut R, superblock: &Superblock) -> At
     requires { IfKnown (R.bytes input.old) (λ file. superblock.now.num_blocks * superblock.now.block_size ≤ length file) }
     ensures keeps { R.bytes input.new ≡ R.bytes input.old }
     ensures first { IfOf (λ fault. IfKnown (R.bytes input.old) (λ file. IsDirectoryFault file superblock.now fault)) result }
-    ensures refused { IfOf (DirectoryRefuses superblock.now) result }
+    ensures refused { IfOf (DirectoryRefuses (R.bytes input.old) superblock.now) result }
     ensures read { result ≡ AtFault.Read → Breaks (R.bytes input.old) (R.is_broken input.new) }
 {
     if let Err(fault) = check_map(input, superblock) {
@@ -278,6 +370,7 @@ fn read_map<R: ReadAt, A: Allocator + Copy>(
     ensures keeps { R.bytes input.new ≡ R.bytes input.old }
     ensures len { IfOk result (λ v. length v.items ≡ directory_blocks superblock.now) }
     ensures value { IfOk result (λ v. IfKnown (R.bytes input.old) (λ file. v.items ≡ map_numbers file superblock.now)) }
+    ensures given { IfOk result (λ v. AreMapNumbers (R.bytes input.old) superblock.now v.items) }
     ensures first { IfErr result (λ fault. ((fault ≡ ReadFault.Read) × Breaks (R.bytes input.old) (R.is_broken input.new)) ⊎ (fault ≡ ReadFault.Memory)) }
 {
     let block_size = superblock.block_size();
@@ -311,12 +404,11 @@ fn read_numbers<R: ReadAt, A: Allocator + Copy>(
 ) -> Result<Vec<u32, A>, AtFault<MsfFault>>
     requires { IfKnown (R.bytes input.old) (λ file. superblock.now.num_blocks * superblock.now.block_size ≤ length file) }
     ensures keeps { R.bytes input.new ≡ R.bytes input.old }
-    ensures len { IfOk result (λ v. length v.items ≡ directory_blocks superblock.now) }
     ensures value { IfOk result (λ v. IfKnown (R.bytes input.old) (λ file. v.items ≡ map_numbers file superblock.now)) }
-    ensures sound { IfOk result (λ v. first_failing (number_checks v.items superblock.now) ≡ None) }
+    ensures map { IfOk result (λ v. IsBlockMap (R.bytes input.old) superblock.now v.items) }
     ensures held { OnOk result (IfKnown (R.bytes input.old) (λ file. first_failing (directory_block_checks file superblock.now) ≡ None)) }
     ensures first { IfErr result (IfOf (λ fault. IfKnown (R.bytes input.old) (λ file. IsDirectoryFault file superblock.now fault))) }
-    ensures refused { IfErr result (IfOf (DirectoryRefuses superblock.now)) }
+    ensures refused { IfErr result (IfOf (DirectoryRefuses (R.bytes input.old) superblock.now)) }
     ensures read { IfErr result (λ fault. fault ≡ AtFault.Read → Breaks (R.bytes input.old) (R.is_broken input.new)) }
 {
     let numbers = match read_map(alloc, input, superblock) {
@@ -342,12 +434,11 @@ pub fn read_contents<R: ReadAt, A: Allocator + Copy>(
 ) -> Result<Vec<u8, A>, AtFault<MsfFault>>
     requires { IfKnown (R.bytes input.old) (λ file. superblock.now.num_blocks * superblock.now.block_size ≤ length file) }
     ensures keeps { R.bytes input.new ≡ R.bytes input.old }
-    ensures len { IfOk result (λ contents. length contents.items ≡ superblock.now.directory_bytes) }
     ensures value { IfOk result (λ contents. IfKnown (R.bytes input.old) (λ file. contents.items ≡ directory_contents file superblock.now)) }
-    ensures map { OnOk result (HasBlockMap superblock.now) }
+    ensures texts { IfOk result (λ contents. HasContents (R.bytes input.old) superblock.now contents.items) }
     ensures held { OnOk result (IfKnown (R.bytes input.old) (λ file. first_failing (directory_block_checks file superblock.now) ≡ None)) }
     ensures first { IfErr result (IfOf (λ fault. IfKnown (R.bytes input.old) (λ file. IsDirectoryFault file superblock.now fault))) }
-    ensures refused { IfErr result (IfOf (DirectoryRefuses superblock.now)) }
+    ensures refused { IfErr result (IfOf (DirectoryRefuses (R.bytes input.old) superblock.now)) }
     ensures read { IfErr result (λ fault. fault ≡ AtFault.Read → Breaks (R.bytes input.old) (R.is_broken input.new)) }
 {
     let blocks = read_numbers(alloc, input, superblock)?;

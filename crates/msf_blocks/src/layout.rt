@@ -132,9 +132,9 @@ fn layout_at<R: ReadAt, A: Allocator + Copy>(
     ensures keeps { R.bytes input.new ≡ R.bytes input.old }
     ensures small { IfKnown (R.bytes input.old) AreBytes }
     ensures value { IfOk result (λ layout. IfKnown (R.bytes input.old) (λ file. HasLayout file layout)) }
-    ensures texts { IfOk result (HasTexts (R.told input.old)) }
+    ensures texts { IfOk result (HasTexts (R.bytes input.old)) }
     ensures first { IfErr result (IfOf (λ fault. IfKnown (R.bytes input.old) (λ file. Refuses MsfFault.Memory (first_failing (layout_checks file)) fault))) }
-    ensures refused { IfErr result (IfOf (TextsRefuse (R.told input.old))) }
+    ensures refused { IfErr result (IfOf (TextsRefuse (R.bytes input.old))) }
     ensures read { IfErr result (λ fault. fault ≡ AtFault.Read → Breaks (R.bytes input.old) (R.is_broken input.new)) }
 {
     let superblock = Superblock::read_at(input)?;
@@ -160,12 +160,12 @@ impl<A: Allocator + Copy> Layout<A> {
         ensures keeps { R.bytes input.new ≡ R.bytes input.old }
         ensures small { IfKnown (R.bytes input.old) AreBytes }
         ensures value { IfOk result (λ layout. IfKnown (R.bytes input.old) (λ file. HasLayout file layout)) }
-        // Whatever is known of the file, the layout is that of the texts that were read.
-        ensures texts { IfOk result (HasTexts (R.told input.old)) }
+        // Whatever is known of the file, the layout is that of texts that reads gave.
+        ensures texts { IfOk result (HasTexts (R.bytes input.old)) }
         ensures found { IfErr result (λ fault. IfKnown (R.bytes input.old) (λ file. (layout : LayoutView) → HasLayout file layout → fault ≡ AtFault.Of MsfFault.Memory)) }
         ensures first { IfErr result (IfOf (λ fault. IfKnown (R.bytes input.old) (λ file. Refuses MsfFault.Memory (first_failing (layout_checks file)) fault))) }
-        // Whatever is known of the file, a fault is that of the texts that were read.
-        ensures refused { IfErr result (IfOf (TextsRefuse (R.told input.old))) }
+        // Whatever is known of the file, a fault is that of texts that reads gave.
+        ensures refused { IfErr result (IfOf (TextsRefuse (R.bytes input.old))) }
         ensures read { IfErr result (λ fault. fault ≡ AtFault.Read → Breaks (R.bytes input.old) (R.is_broken input.new)) }
     {
         layout_at(alloc, input)

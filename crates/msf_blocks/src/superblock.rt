@@ -164,10 +164,10 @@ impl Superblock {
         ensures value { IfOk result (λ s. IfKnown (R.bytes input.old) (λ file. IsSuperblock file s)) }
         ensures fields { IfOk result (λ s. IfKnown (R.bytes input.old) (λ file. s ≡ fields_of file)) }
         ensures fit { IfOk result IsFit }
-        // Whatever is known of the file, this holds of the bytes that were read.
-        ensures front { IfOk result (HasFront (R.told input.old)) }
+        // Whatever is known of the file, the superblock and the fault are those of bytes that reads gave.
+        ensures front { IfOk result (HasFront (R.bytes input.old)) }
         ensures held { OnOk result (IfKnown (R.bytes input.old) (λ file. first_failing (superblock_checks file) ≡ None)) }
-        ensures refused { IfErr result (IfOf (FrontRefuses (R.told input.old))) }
+        ensures refused { IfErr result (IfOf (FrontRefuses (R.bytes input.old))) }
         ensures first { IfErr result (IfOf (λ fault. IfKnown (R.bytes input.old) (λ file. first_failing (superblock_checks file) ≡ Some fault))) }
         ensures read { IfErr result (λ fault. fault ≡ AtFault.Read → Breaks (R.bytes input.old) (R.is_broken input.new)) }
     {

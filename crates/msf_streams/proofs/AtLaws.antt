@@ -3,10 +3,11 @@ use Rattle.std.proofs.Common.{◌≡◌, ◌∙◌, ℕ, ◌+◌, ◌*◌, ◌�
 use Rattle.std.specs.Prelude.{slice_get, option_map}
 use Rattle.std.proofs.lemmas.Nat.{mul-le}
 use Rattle.std.proofs.lemmas.List.Elements.{All-get_or}
+use Rattle.byte_io.specs.At.{Bytes}
 use Rattle.msf_blocks.specs.BlockNumber.{IsOrdinary, blocks_for}
-use Rattle.msf_blocks.specs.Blocks.{AreInside, in_blocks}
+use Rattle.msf_blocks.specs.Blocks.{AreGivenIn, AreInside, in_blocks}
 use Rattle.msf_blocks.specs.Layout.{LayoutView}
-use Rattle.msf_streams.specs.Streams.{gathered, stream_contents}
+use Rattle.msf_streams.specs.Streams.{WasRead, gathered, stream_contents}
 use Rattle.msf_streams.proofs.LentLaws.{IsSized}
 
 -- the blocks of a stream, and what is in them
@@ -28,4 +29,17 @@ are_blocks layout s size blocks sized is =
           let rows = mul-le (get_or sized.stream.blocks k 0 + 1) b layout.superblock.num_blocks b (omega (arith, below)) (omega arith) in
           rw same (omega (arith, rows, whole));
       contents = λ file. rw (sized.here, sized.is, same) refl;
+    }
+
+-- bytes that reads gave in the blocks of a stream are a text of it
+pub was_read : (bytes : Bytes) (layout : LayoutView) (s size : ℕ) (blocks text : List ℕ) → IsSized layout s size → Some blocks ≡ option_map (λ l. l.blocks) (slice_get layout.streams s) → length text ≡ size
+    → AreGivenIn bytes layout.superblock.block_size blocks text → WasRead bytes layout s text
+was_read bytes layout s size blocks text sized is long given =
+    let both : Some blocks ≡ Some sized.stream.blocks = rw sized.here at is in
+    let same : blocks ≡ sized.stream.blocks = cc in
+    record {
+      stream = sized.stream;
+      listed = sized.here;
+      count = omega (arith, long, sized.is);
+      given = rw same at given;
     }

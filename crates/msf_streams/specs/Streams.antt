@@ -1,6 +1,8 @@
 -- The contents of a stream, which are in its blocks ("The MSF File Format", "The Stream Directory").
 use Rattle.std.specs.Prelude.{ℕ, ◌≡◌, ◌+◌, ◌-◌, ◌*◌, ◌/◌, ◌%◌, ◌<◌, ◌≤◌, ◌⊎◌, IfSome, min, length, List, [], ◌∷◌, Option, Some, None, map, take, drop, get_or, slice_index, slice_get, option_map}
 use Rattle.std.specs.List.{range_with_len, concat}
+use Rattle.byte_io.specs.At.{Bytes}
+use Rattle.msf_blocks.specs.Blocks.{AreGivenIn}
 use Rattle.msf_blocks.specs.Directory.{Listed, bytes_of}
 use Rattle.msf_blocks.specs.Layout.{LayoutView}
 
@@ -17,9 +19,12 @@ listed_contents file block_size stream = gathered file block_size stream.blocks 
 abbrev pub stream_contents : List ℕ → LayoutView → ℕ → Option (List ℕ)
 stream_contents file layout s = option_map (listed_contents file layout.superblock.block_size) (slice_get layout.streams s)
 
--- these bytes were read for the s-th stream of this layout: there is such a stream, and they are as many as it has
-abbrev pub WasRead : LayoutView → ℕ → List ℕ → Type 0
-WasRead layout s text = (stream : Listed) × (slice_get layout.streams s ≡ Some stream) × (length text ≡ bytes_of stream.size)
+-- reads gave this text of the s-th stream of this layout: as many bytes as it has, in the blocks that are listed for it
+pub record WasRead (bytes : Bytes) (layout : LayoutView) (s : ℕ) (text : List ℕ) : Type 0 where
+  pub stream : Listed
+  pub listed : slice_get layout.streams s ≡ Some stream
+  pub count : length text ≡ bytes_of stream.size
+  pub given : AreGivenIn bytes layout.superblock.block_size stream.blocks text
 
 -- the contents of a stream in pieces: one piece for each block, and the last piece is what remains of the stream's size
 unfoldable pub pieces : List ℕ → ℕ → List ℕ → ℕ → List (List ℕ)

@@ -1,15 +1,19 @@
 -- The free block map in force, read block by block.
-use Rattle.std.proofs.Common.{◌≡◌, ℕ, ◌+◌, ◌*◌, ◌/◌, ◌%◌, ◌<◌, ◌≤◌, Bool, true, false, List, length, get_or, inl, inr, refl, arith}
-use Rattle.std.specs.Prelude.{nat_lt, ◌&&◌, ◌==◌, ◌^◌}
+use Rattle.std.proofs.Common.{◌≡◌, ℕ, ◌+◌, ◌*◌, ◌/◌, ◌%◌, ◌<◌, ◌≤◌, Bool, true, false, List, [], ◌∷◌, ◌++◌, length, take, get_or, inl, inr, refl, sym, arith}
+use Rattle.std.specs.Prelude.{count_by, nat_lt, ◌&&◌, ◌==◌, ◌^◌}
 use Rattle.std.proofs.lemmas.Bool.{cases_lt}
 use Rattle.std.proofs.lemmas.Bool.Decides.{nat_tests}
 use Rattle.std.proofs.lemmas.Nat.{mul-le, mod_below, div-add-mod', div-mul-add}
+use Rattle.std.proofs.Math.Seq.{take-append_seam}
+use Rattle.std.proofs.lemmas.List.{take_all, length-append, get_or_append_left, get_or-append-add}
+use Rattle.std.proofs.lemmas.List.Sums.{count_by_more_yes, count_by_more_no}
 use Rattle.msf_blocks.specs.BlockNumber.{IsBlockSize}
 use Rattle.msf_blocks.specs.Superblock.{Fields}
 use Rattle.msf_blocks.specs.FreeMap.{is_free, map_block_of, map_byte_of, blocks_per_map_block}
 use Rattle.msf_blocks.proofs.AtLaws.{byte_read}
 use Rattle.msf_blocks.proofs.SizeLaws.{some_bytes}
-use Rattle.pdb_commands.specs.Streams.{HasMap, is_free_by, bit_of}
+use Rattle.byte_io.specs.At.{Bytes}
+use Rattle.pdb_commands.specs.Streams.{AreMarks, HasMap, IsFreeCount, IsMapGiven, IsMark, is_free_by, bit_of}
 
 -- the byte with a bit of a map block is in the block
 pub bit_fits : (size block : ℕ) → IsBlockSize size → block % (8 * size) / 8 < size
@@ -61,3 +65,64 @@ pub next_map : (file page : List ℕ) (fields : Fields) (block : ℕ) → IsBloc
 next_map file page fields block is has inner =
     let same = same_row (blocks_per_map_block fields) block (omega (arith, some_bytes fields.block_size is)) inner in
     rw same has
+
+pub next_page : (bytes : Bytes) (page : List ℕ) (fields : Fields) (block : ℕ) → IsBlockSize fields.block_size → IsMapGiven bytes fields block page → ((block + 1) % blocks_per_map_block fields ≡ 0 → ⊥) → IsMapGiven bytes fields (block + 1) page
+next_page bytes page fields block is given inner =
+    let same = same_row (blocks_per_map_block fields) block (omega (arith, some_bytes fields.block_size is)) inner in
+    rw same given
+
+-- ---- the marks that reads gave
+
+marks_more : (bytes : Bytes) (fields : Fields) (marks : List Bool) (mark : Bool) → AreMarks bytes fields marks → IsMark bytes fields (length marks) mark → AreMarks bytes fields (marks ++ mark ∷ [])
+marks_more bytes fields marks mark are is = λ block lt.
+    elim (cases_lt block (length marks)) [
+      | inl below ↦ rw (get_or_append_left marks (mark ∷ []) false block below) (are block below)
+      | inr le ↦
+          let whole : length marks ≡ length marks + 0 = omega arith in
+          let last : block ≡ length marks + 0 = omega (arith, le, lt, length-append marks (mark ∷ [])) in
+          rw (last, get_or-append-add marks (mark ∷ []) 0 false) (rw whole at is)
+    ]
+
+-- one mark more, of a block that is free
+count_push_yes : (marks : List Bool) → count_by (λ mark. mark) (marks ++ true ∷ []) ≡ count_by (λ mark. mark) marks + 1
+count_push_yes marks =
+    let all = marks ++ true ∷ [] in
+    let long : length all ≡ length marks + 1 = length-append marks (true ∷ []) in
+    let whole : take (length marks + 1) all ≡ all = take_all (length marks + 1) all (omega (arith, long)) in
+    let front : take (length marks) all ≡ marks = take-append_seam marks (true ∷ []) in
+    let end : length marks + 0 ≡ length marks = omega arith in
+    let here : get_or all (length marks) false ≡ true = rw end at (get_or-append-add marks (true ∷ []) 0 false) in
+    rw (whole, front) at (count_by_more_yes (λ mark. mark) all (length marks) false (omega (arith, long)) here)
+
+-- or in use
+count_push_no : (marks : List Bool) → count_by (λ mark. mark) (marks ++ false ∷ []) ≡ count_by (λ mark. mark) marks
+count_push_no marks =
+    let all = marks ++ false ∷ [] in
+    let long : length all ≡ length marks + 1 = length-append marks (false ∷ []) in
+    let whole : take (length marks + 1) all ≡ all = take_all (length marks + 1) all (omega (arith, long)) in
+    let front : take (length marks) all ≡ marks = take-append_seam marks (false ∷ []) in
+    let end : length marks + 0 ≡ length marks = omega arith in
+    let here : get_or all (length marks) false ≡ false = rw end at (get_or-append-add marks (false ∷ []) 0 false) in
+    rw (whole, front) at (count_by_more_no (λ mark. mark) all (length marks) false (omega (arith, long)) here)
+
+-- no block was looked at
+pub none_free : (bytes : Bytes) (fields : Fields) → IsFreeCount bytes fields 0 0
+none_free bytes fields = record { marks = []; count = refl; given = λ block lt. absurd (omega (arith, lt)); free_is = refl }
+
+-- one more block is free
+pub one_free : (bytes : Bytes) (fields : Fields) (block free : ℕ) (mark : Bool) → IsFreeCount bytes fields block free → IsMark bytes fields block mark → mark ≡ true → IsFreeCount bytes fields (block + 1) (free + 1)
+one_free bytes fields block free mark before is set = record {
+  marks = before.marks ++ mark ∷ [];
+  count = omega (arith, before.count, length-append before.marks (mark ∷ []));
+  given = marks_more bytes fields before.marks mark before.given (rw before.count is);
+  free_is = rw (before.free_is, set) (sym (count_push_yes before.marks));
+}
+
+-- one more block is in use
+pub one_used : (bytes : Bytes) (fields : Fields) (block free : ℕ) (mark : Bool) → IsFreeCount bytes fields block free → IsMark bytes fields block mark → mark ≡ false → IsFreeCount bytes fields (block + 1) free
+one_used bytes fields block free mark before is clear = record {
+  marks = before.marks ++ mark ∷ [];
+  count = omega (arith, before.count, length-append before.marks (mark ∷ []));
+  given = marks_more bytes fields before.marks mark before.given (rw before.count is);
+  free_is = rw (before.free_is, clear) (sym (count_push_no before.marks));
+}

@@ -1,12 +1,14 @@
 -- A fault of a container is a fault of each command.
 use Rattle.std.proofs.Common.{◌≡◌, ◌⊎◌, ℕ, List, Some, ap, ◌∙◌, inl, inr}
 use Rattle.byte_fields.specs.Bytes.{AreBytes}
+use Rattle.byte_io.specs.At.{Bytes}
 use Rattle.msf_blocks.proofs.FoundLaws.{layout_holds}
 use Rattle.msf_blocks.specs.declared.fault.MsfFault.{MsfFault}
 use Rattle.msf_blocks.specs.declared.fault.MsfFault.TheVariants as msf
 use Rattle.byte_fields.specs.Check.{Refuses, first_failing}
 use Rattle.msf_blocks.specs.Layout.{TextsRefuse, layout_checks}
 use Rattle.pdb_merge.specs.Fault.{of_msf}
+use Rattle.pdb_merge.specs.Read.{HasPdbFault}
 use Rattle.pdb_merge.specs.declared.fault.PdbFault.{PdbFault}
 use Rattle.pdb_merge.specs.declared.fault.PdbFault.TheVariants as pdb
 use Rattle.pdb_commands.specs.Check.{RefusesCheck}
@@ -38,6 +40,12 @@ refused_by P file inner outer made each (inr want) = inr (made ∙ ap of_pdb wan
 refused : {A : Type 0} (P : RunFault A → Type 0) (file : List ℕ) (fault : MsfFault) (inner : PdbFault A) (outer : RunFault A) → inner ≡ of_msf fault → outer ≡ of_pdb inner
     → ((f : MsfFault) → first_failing (layout_checks file) ≡ Some f → P (Pdb (pdb.Msf f))) → Refuses msf.Memory (first_failing (layout_checks file)) fault → P outer ⊎ (outer ≡ Memory)
 refused P file fault inner outer is made each first = refused_by P file inner outer made each (layout_refused file fault inner is first)
+
+-- what refuses the types of a file refuses the command `check`
+pub types_unaccepted : {A : Type 0} (file : List ℕ) (inner : PdbFault A) (outer : RunFault A) → outer ≡ of_pdb inner → HasPdbFault file inner ⊎ (inner ≡ pdb.Memory) → RefusesCheck file outer ⊎ (outer ≡ Memory)
+types_unaccepted file pdb.Memory outer made refused = inr made
+types_unaccepted file inner outer made (inl first) = inl (rw made first)
+types_unaccepted file inner outer made (inr want) = inr (made ∙ ap of_pdb want)
 
 -- so of each command
 pub no_layout : {A : Type 0} (file : List ℕ) (fault : MsfFault) (inner : PdbFault A) (outer : RunFault A) → inner ≡ of_msf fault → outer ≡ of_pdb inner → Refuses msf.Memory (first_failing (layout_checks file)) fault → RefusesStreams file outer ⊎ (outer ≡ Memory)
@@ -77,9 +85,9 @@ pub none_within : {A : Type 0} (command : Shown) (limit : ℕ) (file : List ℕ)
 none_within {A = A} command limit file fault inner outer bytes is made =
     refused (RefusesWithin command limit file) file fault inner outer is made (λ f first. inr (short_without_layout command limit file f bytes first, of_command A command file f first))
 
--- ---- of the texts that were read
+-- ---- of what reads gave
 
 -- a fault of the texts of a layout is a refusal by them
-pub texts_refused : {A : Type 0} (told : ℕ) (fault : MsfFault) (inner : PdbFault A) (outer : RunFault A) → inner ≡ of_msf fault → outer ≡ of_pdb inner → TextsRefuse told fault → RefusesLayout told outer ⊎ (outer ≡ Memory)
-texts_refused told msf.Memory inner outer is made refused = inr (made ∙ ap of_pdb is)
-texts_refused told fault inner outer is made refused = inl (rw (made, is) refused)
+pub texts_refused : {A : Type 0} (bytes : Bytes) (fault : MsfFault) (inner : PdbFault A) (outer : RunFault A) → inner ≡ of_msf fault → outer ≡ of_pdb inner → TextsRefuse bytes fault → RefusesLayout bytes outer ⊎ (outer ≡ Memory)
+texts_refused bytes msf.Memory inner outer is made refused = inr (made ∙ ap of_pdb is)
+texts_refused bytes fault inner outer is made refused = inl (rw (made, is) refused)

@@ -1,7 +1,7 @@
 -- What a command prints, with a limit on the stream that it reads.
 use Rattle.std.proofs.Common.{◌≡◌, ◌⊎◌, ℕ, List, Option, Some, inl, inr}
 use Rattle.std.specs.Prelude.{Result, Ok, Err, IfOk, IfErr, OnOk}
-use Rattle.byte_io.specs.At.{IfKnown, IfOf}
+use Rattle.byte_io.specs.At.{Bytes, IfKnown, IfOf}
 use Rattle.byte_io.specs.declared.at.AtFault.{AtFault}
 use Rattle.byte_io.specs.declared.at.AtFault.TheVariants as at
 use Rattle.msf_blocks.specs.Layout.{LayoutView}
@@ -28,23 +28,23 @@ reads_long (Ok done) command limit s file is long = tt
 reads_long (Err fault) command limit s file is long = (s, is, long)
 
 -- the text of a command whose stream is within the limit, of a file that is read by position
-pub shows_within : {T F : Type 0} (bytes_of : T → List ℕ) (Shows : List ℕ → List ℕ → Type 0) (command : Shown) (limit : ℕ) (known : Option (List ℕ)) (answer : Result T F) → ((file text : List ℕ) → Shows file text → ShowsIt command file text)
-    → IfKnown known (λ file. ReadsTooLong command limit file → ⊥) → IfOk answer (λ text. IfKnown known (λ file. Shows file (bytes_of text))) → IfOk answer (λ text. IfKnown known (λ file. ShowsWithin command limit file (bytes_of text)))
-shows_within bytes_of Shows command limit known (Ok text) each short shows = λ file is. (short file is, each file (bytes_of text) (shows file is))
-shows_within bytes_of Shows command limit known (Err fault) each short shows = tt
+pub shows_within : {T F : Type 0} (bytes_of : T → List ℕ) (Shows : List ℕ → List ℕ → Type 0) (command : Shown) (limit : ℕ) (bytes : Bytes) (answer : Result T F) → ((file text : List ℕ) → Shows file text → ShowsIt command file text)
+    → IfKnown bytes (λ file. ReadsTooLong command limit file → ⊥) → IfOk answer (λ text. IfKnown bytes (λ file. Shows file (bytes_of text))) → IfOk answer (λ text. IfKnown bytes (λ file. ShowsWithin command limit file (bytes_of text)))
+shows_within bytes_of Shows command limit bytes (Ok text) each short shows = λ file is. (short file is, each file (bytes_of text) (shows file is))
+shows_within bytes_of Shows command limit bytes (Err fault) each short shows = tt
 
 -- and the fault of such a command
-pub refuses_within : {T A : Type 0} (Refuses : List ℕ → RunFault A → Type 0) (command : Shown) (limit : ℕ) (known : Option (List ℕ)) (answer : Result T (AtFault (RunFault A))) → ((file : List ℕ) (fault : RunFault A) → Refuses file fault → RefusesIt command file fault)
-    → IfKnown known (λ file. ReadsTooLong command limit file → ⊥) → IfErr answer (IfOf (λ fault. IfKnown known (λ file. Refuses file fault ⊎ (fault ≡ Memory))))
-    → IfErr answer (IfOf (λ fault. IfKnown known (λ file. RefusesWithin command limit file fault ⊎ (fault ≡ Memory))))
-refuses_within Refuses command limit known (Ok text) each short refused = tt
-refuses_within Refuses command limit known (Err at.Read) each short refused = tt
-refuses_within Refuses command limit known (Err (at.Of fault)) each short refused = λ file is. elim (refused file is) [
+pub refuses_within : {T A : Type 0} (Refuses : List ℕ → RunFault A → Type 0) (command : Shown) (limit : ℕ) (bytes : Bytes) (answer : Result T (AtFault (RunFault A))) → ((file : List ℕ) (fault : RunFault A) → Refuses file fault → RefusesIt command file fault)
+    → IfKnown bytes (λ file. ReadsTooLong command limit file → ⊥) → IfErr answer (IfOf (λ fault. IfKnown bytes (λ file. Refuses file fault ⊎ (fault ≡ Memory))))
+    → IfErr answer (IfOf (λ fault. IfKnown bytes (λ file. RefusesWithin command limit file fault ⊎ (fault ≡ Memory))))
+refuses_within Refuses command limit bytes (Ok text) each short refused = tt
+refuses_within Refuses command limit bytes (Err at.Read) each short refused = tt
+refuses_within Refuses command limit bytes (Err (at.Of fault)) each short refused = λ file is. elim (refused file is) [
   | inl own ↦ inl (inr (short file is, each file fault own))
   | inr want ↦ inr want
 ]
 
--- ---- of the texts that were read
+-- ---- of texts that reads gave
 
 -- the stream that a command reads is the one that was held against the limit
 pub lists_short : {T F : Type 0} (answer : Result T F) (command : Shown) (limit s : ℕ) (layout : LayoutView) → stream_of command ≡ Some s → OnOk answer (ListsLongStream limit s layout → ⊥) → OnOk answer (ListsTooLong command limit layout → ⊥)
@@ -56,17 +56,17 @@ lists_long (Ok done) command limit s layout is long = tt
 lists_long (Err fault) command limit s layout is long = (s, is, long)
 
 -- the text of a command whose stream is within the limit
-pub read_within : {T F : Type 0} (bytes_of : T → List ℕ) (ShowsRead : LayoutView → List ℕ → Type 0) (command : Shown) (limit : ℕ) (layout : LayoutView) (answer : Result T F) → ((text : List ℕ) → ShowsRead layout text → ShowsItRead command layout text)
-    → (ListsTooLong command limit layout → ⊥) → IfOk answer (λ text. ShowsRead layout (bytes_of text)) → IfOk answer (λ text. ShowsWithinRead command limit layout (bytes_of text))
-read_within bytes_of ShowsRead command limit layout (Ok text) each short shows = (short, each (bytes_of text) shows)
-read_within bytes_of ShowsRead command limit layout (Err fault) each short shows = tt
+pub read_within : {T F : Type 0} (bytes_of : T → List ℕ) (ShowsRead : Bytes → LayoutView → List ℕ → Type 0) (command : Shown) (limit : ℕ) (bytes : Bytes) (layout : LayoutView) (answer : Result T F) → ((text : List ℕ) → ShowsRead bytes layout text → ShowsItRead command bytes layout text)
+    → (ListsTooLong command limit layout → ⊥) → IfOk answer (λ text. ShowsRead bytes layout (bytes_of text)) → IfOk answer (λ text. ShowsWithinRead command limit bytes layout (bytes_of text))
+read_within bytes_of ShowsRead command limit bytes layout (Ok text) each short shows = (short, each (bytes_of text) shows)
+read_within bytes_of ShowsRead command limit bytes layout (Err fault) each short shows = tt
 
 -- and the fault of such a command
-pub refused_within : {T A : Type 0} (RefusesRead : LayoutView → RunFault A → Type 0) (command : Shown) (limit : ℕ) (layout : LayoutView) (answer : Result T (AtFault (RunFault A))) → ((fault : RunFault A) → RefusesRead layout fault → RefusesItRead command layout fault)
-    → (ListsTooLong command limit layout → ⊥) → IfErr answer (IfOf (λ fault. RefusesRead layout fault ⊎ (fault ≡ Memory))) → IfErr answer (IfOf (λ fault. RefusesWithinRead command limit layout fault ⊎ (fault ≡ Memory)))
-refused_within RefusesRead command limit layout (Ok text) each short refused = tt
-refused_within RefusesRead command limit layout (Err at.Read) each short refused = tt
-refused_within RefusesRead command limit layout (Err (at.Of fault)) each short refused = elim refused [
+pub refused_within : {T A : Type 0} (RefusesRead : Bytes → LayoutView → RunFault A → Type 0) (command : Shown) (limit : ℕ) (bytes : Bytes) (layout : LayoutView) (answer : Result T (AtFault (RunFault A))) → ((fault : RunFault A) → RefusesRead bytes layout fault → RefusesItRead command bytes layout fault)
+    → (ListsTooLong command limit layout → ⊥) → IfErr answer (IfOf (λ fault. RefusesRead bytes layout fault ⊎ (fault ≡ Memory))) → IfErr answer (IfOf (λ fault. RefusesWithinRead command limit bytes layout fault ⊎ (fault ≡ Memory)))
+refused_within RefusesRead command limit bytes layout (Ok text) each short refused = tt
+refused_within RefusesRead command limit bytes layout (Err at.Read) each short refused = tt
+refused_within RefusesRead command limit bytes layout (Err (at.Of fault)) each short refused = elim refused [
   | inl own ↦ inl (inr (short, each fault own))
   | inr want ↦ inr want
 ]

@@ -4,6 +4,7 @@ use Rattle.std.specs.List.{flat_map}
 use Rattle.std.specs.Fmt.{decimal}
 use Rattle.uuid.specs.Text.{hyphenated_text, lower}
 use Rattle.byte_fields.specs.Check.{first_failing}
+use Rattle.byte_io.specs.At.{Bytes}
 use Rattle.msf_blocks.specs.Layout.{LayoutView, HasLayout}
 use Rattle.msf_streams.specs.Streams.{WasRead, stream_contents}
 use Rattle.msf_streams.specs.declared.fault.StreamFault.TheVariants.{NoStream}
@@ -59,9 +60,9 @@ abbrev pub IsInfoText : List ℕ → List ℕ → Type 0
 IsInfoText stream text =
     (info : InfoView) × HasInfo stream info × (text ≡ header_lines info.header ++ flat_map name_line info.names ++ flat_map feature_line info.features)
 
--- `info` prints this text where stream 1 of this layout was read
-abbrev pub ShowsInfoRead : LayoutView → List ℕ → Type 0
-ShowsInfoRead layout text = (stream : List ℕ) × WasRead layout 1 stream × IsInfoText stream text
+-- `info` prints this text of what reads gave of stream 1 of this layout
+abbrev pub ShowsInfoRead : Bytes → LayoutView → List ℕ → Type 0
+ShowsInfoRead bytes layout text = (stream : List ℕ) × WasRead bytes layout 1 stream × IsInfoText stream text
 
 -- this is the first fault of an info stream with these bytes
 abbrev pub IsInfoFault : {A : Type 0} → List ℕ → RunFault A → Type 0
@@ -84,8 +85,8 @@ abbrev pub HasNoInfoStreamRead : {A : Type 0} → LayoutView → PdbFault A → 
 HasNoInfoStreamRead layout (pdb.Stream fault) = (length layout.streams ≤ 1) × (fault ≡ NoStream 1)
 HasNoInfoStreamRead layout _ = ⊥
 
--- `info` refuses what was read for this layout with this fault: there is no stream 1, or the bytes that were read for it have the fault
-abbrev pub RefusesInfoRead : {A : Type 0} → LayoutView → RunFault A → Type 0
-RefusesInfoRead layout (Pdb fault) = HasNoInfoStreamRead layout fault
-RefusesInfoRead layout (Info fault) = (stream : List ℕ) × WasRead layout 1 stream × (first_failing (info_checks stream) ≡ Some fault)
-RefusesInfoRead layout _ = ⊥
+-- `info` refuses what reads gave of this layout with this fault: there is no stream 1, or the text that they gave of it has the fault
+abbrev pub RefusesInfoRead : {A : Type 0} → Bytes → LayoutView → RunFault A → Type 0
+RefusesInfoRead bytes layout (Pdb fault) = HasNoInfoStreamRead layout fault
+RefusesInfoRead bytes layout (Info fault) = (stream : List ℕ) × WasRead bytes layout 1 stream × (first_failing (info_checks stream) ≡ Some fault)
+RefusesInfoRead bytes layout _ = ⊥

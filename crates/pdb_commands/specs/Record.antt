@@ -8,6 +8,7 @@ use Rattle.byte_fields.specs.Check.{first_failing}
 use Rattle.cv_leaves.specs.Checks.{body_of, record_checks}
 use Rattle.cv_leaves.specs.Place.{HasPlaces}
 use Rattle.cv_leaves.specs.Name.{name_of}
+use Rattle.byte_io.specs.At.{Bytes}
 use Rattle.msf_blocks.specs.Layout.{LayoutView}
 use Rattle.pdb_merge.specs.Read.{HasTypeRecords, RecordsWereRead}
 use Rattle.pdb_commands.specs.Records.{RefusesRecords, RefusesRecordsRead}
@@ -43,15 +44,15 @@ pub record ShowsRecord (index : ℕ) (file text : List ℕ) : Type 0 where
   pub has_places : HasPlaces bytes places
   pub lines : text ≡ bytes_line bytes ++ flat_map (place_line bytes) places ++ name_lines (name_of bytes)
 
--- `record` prints this text for the type index where the records of this layout were read
-pub record ShowsRecordRead (index : ℕ) (layout : LayoutView) (text : List ℕ) : Type 0 where
+-- `record` prints this text for the type index of what reads gave
+pub record ShowsRecordRead (index : ℕ) (bytes : Bytes) (layout : LayoutView) (text : List ℕ) : Type 0 where
   pub records : List (List ℕ)
-  pub were_read : RecordsWereRead layout records
-  pub bytes : List ℕ
-  pub is_record : record_of records index ≡ Some bytes
+  pub were_read : RecordsWereRead bytes layout records
+  pub found : List ℕ
+  pub is_record : record_of records index ≡ Some found
   pub places : List ℕ
-  pub has_places : HasPlaces bytes places
-  pub lines : text ≡ bytes_line bytes ++ flat_map (place_line bytes) places ++ name_lines (name_of bytes)
+  pub has_places : HasPlaces found places
+  pub lines : text ≡ bytes_line found ++ flat_map (place_line found) places ++ name_lines (name_of found)
 
 -- this is the first fault on the way to the record of this type index: a fault of the file's type records, else that none has the index, else a fault of that record
 abbrev pub RefusesRecord : {A : Type 0} → ℕ → List ℕ → RunFault A → Type 0
@@ -59,8 +60,8 @@ RefusesRecord index file (NoRecord missing) = (records : List (List ℕ)) × Has
 RefusesRecord index file (Leaf at fault) = (records : List (List ℕ)) × (bytes : List ℕ) × HasTypeRecords file records × (at ≡ index) × (record_of records index ≡ Some bytes) × (first_failing (record_checks bytes) ≡ Some fault)
 RefusesRecord index file fault = RefusesRecords file fault
 
--- `record` refuses what was read for this layout with this fault: it is one of its type records, else that none has the index, else one of that record
-abbrev pub RefusesRecordRead : {A : Type 0} → ℕ → LayoutView → RunFault A → Type 0
-RefusesRecordRead index layout (NoRecord missing) = (records : List (List ℕ)) × RecordsWereRead layout records × (missing ≡ index) × (record_of records index ≡ None)
-RefusesRecordRead index layout (Leaf at fault) = (records : List (List ℕ)) × (bytes : List ℕ) × RecordsWereRead layout records × (at ≡ index) × (record_of records index ≡ Some bytes) × (first_failing (record_checks bytes) ≡ Some fault)
-RefusesRecordRead index layout fault = RefusesRecordsRead layout fault
+-- `record` refuses what reads gave of this layout with this fault: it is one of its type records, else that none has the index, else one of that record
+abbrev pub RefusesRecordRead : {A : Type 0} → ℕ → Bytes → LayoutView → RunFault A → Type 0
+RefusesRecordRead index bytes layout (NoRecord missing) = (records : List (List ℕ)) × RecordsWereRead bytes layout records × (missing ≡ index) × (record_of records index ≡ None)
+RefusesRecordRead index bytes layout (Leaf at fault) = (records : List (List ℕ)) × (found : List ℕ) × RecordsWereRead bytes layout records × (at ≡ index) × (record_of records index ≡ Some found) × (first_failing (record_checks found) ≡ Some fault)
+RefusesRecordRead index bytes layout fault = RefusesRecordsRead bytes layout fault

@@ -2,6 +2,7 @@
 use Rattle.std.specs.Prelude.{ℕ, ◌≡◌, ◌+◌, List, [], ◌∷◌, ◌++◌, length}
 use Rattle.std.specs.Fmt.{decimal}
 use Rattle.byte_fields.specs.Number.{number_at}
+use Rattle.byte_io.specs.At.{Bytes}
 use Rattle.msf_blocks.specs.Layout.{LayoutView}
 use Rattle.pdb_merge.specs.Read.{HasTypeRecords, RecordsWereRead, HasRecordsFault, HasStreamFaultRead}
 use Rattle.pdb_commands.specs.Text.{index_text, kind_text}
@@ -22,16 +23,16 @@ record_lines index (bytes ∷ others) = record_line index bytes ++ record_lines 
 abbrev pub ShowsRecords : List ℕ → List ℕ → Type 0
 ShowsRecords file text = (records : List (List ℕ)) × HasTypeRecords file records × (text ≡ record_lines first_index records)
 
--- `records` prints this text where the records of this layout were read
-abbrev pub ShowsRecordsRead : LayoutView → List ℕ → Type 0
-ShowsRecordsRead layout text = (records : List (List ℕ)) × RecordsWereRead layout records × (text ≡ record_lines first_index records)
+-- `records` prints this text of what reads gave: the records of this layout
+abbrev pub ShowsRecordsRead : Bytes → LayoutView → List ℕ → Type 0
+ShowsRecordsRead bytes layout text = (records : List (List ℕ)) × RecordsWereRead bytes layout records × (text ≡ record_lines first_index records)
 
 -- this is the first fault of the file on the way to its type records
 abbrev pub RefusesRecords : {A : Type 0} → List ℕ → RunFault A → Type 0
 RefusesRecords file (Pdb fault) = HasRecordsFault file fault
 RefusesRecords file _ = ⊥
 
--- `records` refuses what was read for this layout with this fault, which is one of its stream 2
-abbrev pub RefusesRecordsRead : {A : Type 0} → LayoutView → RunFault A → Type 0
-RefusesRecordsRead layout (Pdb fault) = HasStreamFaultRead layout fault
-RefusesRecordsRead layout _ = ⊥
+-- `records` refuses what reads gave of this layout with this fault, which is one of its stream 2
+abbrev pub RefusesRecordsRead : {A : Type 0} → Bytes → LayoutView → RunFault A → Type 0
+RefusesRecordsRead bytes layout (Pdb fault) = HasStreamFaultRead bytes layout fault
+RefusesRecordsRead bytes layout _ = ⊥

@@ -1,7 +1,7 @@
 -- How a command that shows a file answers: it reads the whole file, makes a text from it and prints the text, or is refused.
 use Rattle.std.specs.Prelude.{ℕ, ◌≡◌, ◌<◌, ◌≤◌, ◌⊎◌, Bool, true, List, length, take, Option, Result, OnOk, IfErr}
 use Rattle.std.specs.Io.KnownBytes.{Appends}
-use Rattle.byte_io.specs.At.{Breaks, IfKnown}
+use Rattle.byte_io.specs.At.{Breaks, Bytes, IfKnown}
 use Rattle.byte_io.specs.Input.{GivesAll, IsNotRead, HasGiven}
 use Rattle.byte_io.specs.declared.input.ReadFault.{ReadFault}
 use Rattle.byte_io.specs.declared.input.ReadFault.TheVariants as reads
@@ -64,53 +64,53 @@ PrintsPartAt Shows limit file taken_before taken_after =
     (text : List ℕ) × (count : ℕ) × (length file ≤ limit) × Shows file text × (count < length text) × Appends taken_before taken_after (take count text)
 
 -- this is why a file is not read: a read failed, or it says that it has more bytes than the limit allows, which is true where its bytes are known
-abbrev pub IsNotReadAt : Option (List ℕ) → ℕ → Bool → ℕ → ReadFault → Type 0
-IsNotReadAt known told broken limit reads.Read = Breaks known broken
-IsNotReadAt known told broken limit reads.TooLong = (limit < told) × IfKnown known (λ file. limit < length file)
-IsNotReadAt known told broken limit reads.Memory = ⊥
+abbrev pub IsNotReadAt : Bytes → Bool → ℕ → ReadFault → Type 0
+IsNotReadAt bytes broken limit reads.Read = Breaks bytes broken
+IsNotReadAt bytes broken limit reads.TooLong = (limit < bytes.told) × IfKnown bytes (λ file. limit < length file)
+IsNotReadAt bytes broken limit reads.Memory = ⊥
 
--- this is a text of the texts that were read, of a container that is said to have so many bytes: the front, the block map, the directory, and what the command reads of the layout that these make
-abbrev pub IsOfTexts : (LayoutView → List ℕ → Type 0) → ℕ → List ℕ → Type 0
-IsOfTexts ShowsRead told text = (layout : LayoutView) × HasTexts told layout × ShowsRead layout text
+-- this is the text of what reads gave: the front, the block map, the directory, and what the command reads of the layout that these make
+abbrev pub IsOfTexts : (Bytes → LayoutView → List ℕ → Type 0) → Bytes → List ℕ → Type 0
+IsOfTexts ShowsRead bytes text = (layout : LayoutView) × HasTexts bytes layout × ShowsRead bytes layout text
 
--- there are texts with this fault: those of a layout have it, or else what the command reads for that layout
-abbrev pub IsFaultOfTexts : {A : Type 0} → (LayoutView → RunFault A → Type 0) → ℕ → RunFault A → Type 0
-IsFaultOfTexts RefusesRead told fault = RefusesLayout told fault ⊎ ((layout : LayoutView) × HasTexts told layout × RefusesRead layout fault)
+-- what reads gave has this fault: the texts of the layout have it, or else what the command reads of that layout
+abbrev pub IsFaultOfTexts : {A : Type 0} → (Bytes → LayoutView → RunFault A → Type 0) → Bytes → RunFault A → Type 0
+IsFaultOfTexts RefusesRead bytes fault = RefusesLayout bytes fault ⊎ ((layout : LayoutView) × HasTexts bytes layout × RefusesRead bytes layout fault)
 
 -- the sink took such a text
-abbrev pub PrintsRead : (LayoutView → List ℕ → Type 0) → ℕ → Option (List ℕ) → Option (List ℕ) → Type 0
-PrintsRead ShowsRead told taken_before taken_after = (text : List ℕ) × IsOfTexts ShowsRead told text × Appends taken_before taken_after text
+abbrev pub PrintsRead : (Bytes → LayoutView → List ℕ → Type 0) → Bytes → Option (List ℕ) → Option (List ℕ) → Type 0
+PrintsRead ShowsRead bytes taken_before taken_after = (text : List ℕ) × IsOfTexts ShowsRead bytes text × Appends taken_before taken_after text
 
 -- the sink took the first bytes of such a text, but not all of them
-abbrev pub PrintsPartRead : (LayoutView → List ℕ → Type 0) → ℕ → Option (List ℕ) → Option (List ℕ) → Type 0
-PrintsPartRead ShowsRead told taken_before taken_after = (text : List ℕ) × (count : ℕ) × IsOfTexts ShowsRead told text × (count < length text) × Appends taken_before taken_after (take count text)
+abbrev pub PrintsPartRead : (Bytes → LayoutView → List ℕ → Type 0) → Bytes → Option (List ℕ) → Option (List ℕ) → Type 0
+PrintsPartRead ShowsRead bytes taken_before taken_after = (text : List ℕ) × (count : ℕ) × IsOfTexts ShowsRead bytes text × (count < length text) × Appends taken_before taken_after (take count text)
 
--- how a command answers that reads by position: where the bytes of the file are known, it prints what shows the file, or is refused by its length or by its first fault; memory runs out only where its length is within the limit; a sink that breaks took the first bytes of the text, and after any other refusal it is as it was. Whatever is known, a longer length than the limit is refused first, and what is printed is a text of the texts that were read
-pub record AnswersAt {A W T : Type 0} (Shows : List ℕ → List ℕ → Type 0) (Refuses : List ℕ → RunFault A → Type 0) (ShowsRead : LayoutView → List ℕ → Type 0) (RefusesRead : LayoutView → RunFault A → Type 0) (limit : ℕ) (known : Option (List ℕ)) (told : ℕ) (broken : Bool)
+-- how a command answers that reads by position: where the bytes of the file are known, it prints what shows the file, or is refused by its length or by its first fault; memory runs out only where its length is within the limit; a sink that breaks took the first bytes of the text, and after any other refusal it is as it was. Whatever is known, a longer length than the limit is refused first, what is printed is the text of what reads gave, and a fault is one of what they gave
+pub record AnswersAt {A W T : Type 0} (Shows : List ℕ → List ℕ → Type 0) (Refuses : List ℕ → RunFault A → Type 0) (ShowsRead : Bytes → LayoutView → List ℕ → Type 0) (RefusesRead : Bytes → LayoutView → RunFault A → Type 0) (limit : ℕ) (bytes : Bytes) (broken : Bool)
     (taken : W → Option (List ℕ)) (is_broken : W → Bool) (before after : W) (result : Result T (RunFault A)) : Type 0 where
-  pub value : OnOk result (IfKnown known (λ file. PrintsAt Shows limit file (taken before) (taken after)))
-  pub texts : OnOk result (PrintsRead ShowsRead told (taken before) (taken after))
-  pub long : limit < told → IfErr result (λ fault. fault ≡ Read reads.TooLong)
-  pub within : OnOk result (told ≤ limit)
-  pub read : IfErr result (IfRead (IsNotReadAt known told broken limit))
-  pub first : IfErr result (IfOfFile (λ fault. IfKnown known (λ file. Refuses file fault)))
-  pub refused : IfErr result (IfOfFile (IsFaultOfTexts RefusesRead told))
-  pub memory : IfErr result (λ fault. fault ≡ Memory → IfKnown known (λ file. length file ≤ limit))
-  pub write : IfErr result (λ fault. fault ≡ Write → (is_broken after ≡ true) × PrintsPartRead ShowsRead told (taken before) (taken after) × IfKnown known (λ file. PrintsPartAt Shows limit file (taken before) (taken after)))
+  pub value : OnOk result (IfKnown bytes (λ file. PrintsAt Shows limit file (taken before) (taken after)))
+  pub texts : OnOk result (PrintsRead ShowsRead bytes (taken before) (taken after))
+  pub long : limit < bytes.told → IfErr result (λ fault. fault ≡ Read reads.TooLong)
+  pub within : OnOk result (bytes.told ≤ limit)
+  pub read : IfErr result (IfRead (IsNotReadAt bytes broken limit))
+  pub first : IfErr result (IfOfFile (λ fault. IfKnown bytes (λ file. Refuses file fault)))
+  pub refused : IfErr result (IfOfFile (IsFaultOfTexts RefusesRead bytes))
+  pub memory : IfErr result (λ fault. fault ≡ Memory → IfKnown bytes (λ file. length file ≤ limit))
+  pub write : IfErr result (λ fault. fault ≡ Write → (is_broken after ≡ true) × PrintsPartRead ShowsRead bytes (taken before) (taken after) × IfKnown bytes (λ file. PrintsPartAt Shows limit file (taken before) (taken after)))
   pub untouched : IfErr result (λ fault. (fault ≡ Write) ⊎ (after ≡ before))
 
 -- ---- a file that is read by position, and whole where a read by position fails
 
 -- the command answers by position, no read failed, and the file was not read whole
-pub record IsByPosition {A W S T : Type 0} (Shows : List ℕ → List ℕ → Type 0) (Refuses : List ℕ → RunFault A → Type 0) (ShowsRead : LayoutView → List ℕ → Type 0) (RefusesRead : LayoutView → RunFault A → Type 0) (limit : ℕ) (known : Option (List ℕ)) (told : ℕ) (broken : Bool)
+pub record IsByPosition {A W S T : Type 0} (Shows : List ℕ → List ℕ → Type 0) (Refuses : List ℕ → RunFault A → Type 0) (ShowsRead : Bytes → LayoutView → List ℕ → Type 0) (RefusesRead : Bytes → LayoutView → RunFault A → Type 0) (limit : ℕ) (bytes : Bytes) (broken : Bool)
     (whole_before whole_after : S) (taken : W → Option (List ℕ)) (is_broken : W → Bool) (before after : W) (result : Result T (RunFault A)) : Type 0 where
-  pub answers : AnswersAt Shows Refuses ShowsRead RefusesRead limit known told broken taken is_broken before after result
+  pub answers : AnswersAt Shows Refuses ShowsRead RefusesRead limit bytes broken taken is_broken before after result
   pub reads : IfErr result (λ fault. fault ≡ Read reads.Read → ⊥)
   pub unread : whole_after ≡ whole_before
 
 -- a read by position failed, and the command answers as it does for the whole file
-pub record IsByWhole {A W S T : Type 0} (Shows : List ℕ → List ℕ → Type 0) (Refuses : List ℕ → RunFault A → Type 0) (limit : ℕ) (known : Option (List ℕ)) (told : ℕ) (broken : Bool)
+pub record IsByWhole {A W S T : Type 0} (Shows : List ℕ → List ℕ → Type 0) (Refuses : List ℕ → RunFault A → Type 0) (limit : ℕ) (bytes : Bytes) (broken : Bool)
     (left : S → Option (List ℕ)) (whole_broken : S → Bool) (whole_before whole_after : S) (taken : W → Option (List ℕ)) (is_broken : W → Bool) (before after : W) (result : Result T (RunFault A)) : Type 0 where
-  pub breaks : Breaks known broken
-  pub within : told ≤ limit
+  pub breaks : Breaks bytes broken
+  pub within : bytes.told ≤ limit
   pub answers : Answers Shows Refuses limit (left whole_before) (left whole_after) (whole_broken whole_after) taken is_broken before after result

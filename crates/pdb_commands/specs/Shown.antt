@@ -1,6 +1,7 @@
 -- What the commands that show a file print and refuse, with a limit on the stream that they read.
 use Rattle.std.specs.Prelude.{ℕ, ◌≡◌, ◌<◌, ◌-◌, ◌^◌, ◌⊎◌, List, Option, Some, None, slice_get}
 use Rattle.byte_fields.specs.Check.{first_failing}
+use Rattle.byte_io.specs.At.{Bytes}
 use Rattle.msf_blocks.specs.Directory.{Listed, bytes_of}
 use Rattle.msf_blocks.specs.Layout.{LayoutView, HasLayout, layout_checks}
 use Rattle.pdb_commands.specs.Check.{ShowsChecked, ShowsCheckedRead, RefusesCheck, RefusesCheckRead}
@@ -32,8 +33,8 @@ RefusesIt shown.Check = RefusesCheck
 RefusesIt shown.Info = RefusesInfo
 RefusesIt shown.Streams = RefusesStreams
 
--- the command prints this text where texts of this layout were read
-abbrev pub ShowsItRead : Shown → LayoutView → List ℕ → Type 0
+-- the command prints this text of what reads gave of this layout
+abbrev pub ShowsItRead : Shown → Bytes → LayoutView → List ℕ → Type 0
 ShowsItRead shown.Records = ShowsRecordsRead
 ShowsItRead (shown.Record index) = ShowsRecordRead index
 ShowsItRead shown.Types = ShowsTypesRead
@@ -41,8 +42,8 @@ ShowsItRead shown.Check = ShowsCheckedRead
 ShowsItRead shown.Info = ShowsInfoRead
 ShowsItRead shown.Streams = ShowsStreamsRead
 
--- the command refuses what was read for this layout with this fault
-abbrev pub RefusesItRead : {A : Type 0} → Shown → LayoutView → RunFault A → Type 0
+-- the command refuses what reads gave of this layout with this fault
+abbrev pub RefusesItRead : {A : Type 0} → Shown → Bytes → LayoutView → RunFault A → Type 0
 RefusesItRead shown.Records = RefusesRecordsRead
 RefusesItRead (shown.Record index) = RefusesRecordRead index
 RefusesItRead shown.Types = RefusesTypesRead
@@ -83,7 +84,7 @@ abbrev pub RefusesWithin : {A : Type 0} → Shown → ℕ → List ℕ → RunFa
 RefusesWithin command limit file fault =
     ((fault ≡ TooLong) × ReadsTooLong command limit file) ⊎ ((ReadsTooLong command limit file → ⊥) × RefusesIt command file fault)
 
--- ---- the same of the texts that were read
+-- ---- the same of what reads gave
 
 -- the layout lists a stream at this position that has more bytes than the limit; the greatest limit is none
 pub record ListsLongStream (limit s : ℕ) (layout : LayoutView) : Type 0 where
@@ -96,11 +97,11 @@ pub record ListsLongStream (limit s : ℕ) (layout : LayoutView) : Type 0 where
 abbrev pub ListsTooLong : Shown → ℕ → LayoutView → Type 0
 ListsTooLong command limit layout = (s : ℕ) × (stream_of command ≡ Some s) × ListsLongStream limit s layout
 
--- the command prints this text where texts of this layout were read, and the stream that it reads is within the limit
-abbrev pub ShowsWithinRead : Shown → ℕ → LayoutView → List ℕ → Type 0
-ShowsWithinRead command limit layout text = (ListsTooLong command limit layout → ⊥) × ShowsItRead command layout text
+-- the command prints this text of what reads gave of this layout, and the stream that it reads is within the limit
+abbrev pub ShowsWithinRead : Shown → ℕ → Bytes → LayoutView → List ℕ → Type 0
+ShowsWithinRead command limit bytes layout text = (ListsTooLong command limit layout → ⊥) × ShowsItRead command bytes layout text
 
--- the command refuses what was read for this layout with this fault: the stream that it reads is longer than the limit, else the command's own
-abbrev pub RefusesWithinRead : {A : Type 0} → Shown → ℕ → LayoutView → RunFault A → Type 0
-RefusesWithinRead command limit layout fault =
-    ((fault ≡ TooLong) × ListsTooLong command limit layout) ⊎ ((ListsTooLong command limit layout → ⊥) × RefusesItRead command layout fault)
+-- the command refuses what reads gave of this layout with this fault: the stream that it reads is longer than the limit, else the command's own
+abbrev pub RefusesWithinRead : {A : Type 0} → Shown → ℕ → Bytes → LayoutView → RunFault A → Type 0
+RefusesWithinRead command limit bytes layout fault =
+    ((fault ≡ TooLong) × ListsTooLong command limit layout) ⊎ ((ListsTooLong command limit layout → ⊥) × RefusesItRead command bytes layout fault)

@@ -1,11 +1,11 @@
 -- What the command `streams` prints.
-use Rattle.std.specs.Prelude.{ℕ, ◌≡◌, ◌+◌, ◌*◌, ◌/◌, ◌%◌, ◌^◌, ◌<◌, ◌≤◌, ◌==◌, ◌&&◌, nat_lt, slice_index, Bool, count_by, List, [], ◌∷◌, ◌++◌, length, Some, codes}
+use Rattle.std.specs.Prelude.{ℕ, ◌≡◌, ◌+◌, ◌*◌, ◌/◌, ◌%◌, ◌^◌, ◌<◌, ◌≤◌, ◌==◌, ◌&&◌, nat_lt, slice_index, get_or, Bool, false, count_by, List, [], ◌∷◌, ◌++◌, length, Some, codes}
 use Rattle.std.specs.List.{range_with_len, flat_map}
 use Rattle.std.specs.Fmt.{decimal}
 use Rattle.byte_fields.specs.Check.{first_failing}
 use Rattle.msf_blocks.specs.Superblock.{Fields}
 use Rattle.msf_blocks.specs.Directory.{Listed, bytes_of}
-use Rattle.byte_io.specs.At.{StandsAt}
+use Rattle.byte_io.specs.At.{AreGiven, Bytes, StandsAt}
 use Rattle.msf_blocks.specs.FreeMap.{is_free, map_block_of, blocks_per_map_block}
 use Rattle.msf_blocks.specs.Layout.{LayoutView, HasLayout, layout_checks}
 use Rattle.pdb_merge.specs.Read.{IsLayoutFaultRead}
@@ -46,6 +46,17 @@ is_free_by page fields block = nat_lt (map_block_of fields block) fields.num_blo
 abbrev pub HasMap : List ℕ → Fields → ℕ → List ℕ → Type 0
 HasMap file fields block page = map_block_of fields block < fields.num_blocks → StandsAt file (map_block_of fields block * fields.block_size) page
 
+-- reads gave this page: it is the map block with the bit of this block, if that map block is in the file
+abbrev pub IsMapGiven : Bytes → Fields → ℕ → List ℕ → Type 0
+IsMapGiven bytes fields block page = map_block_of fields block < fields.num_blocks → AreGiven bytes (map_block_of fields block * fields.block_size) page
+
+-- reads gave a page with this mark of a block: whether the block is free
+pub record IsMark (bytes : Bytes) (fields : Fields) (block : ℕ) (mark : Bool) : Type 0 where
+  pub page : List ℕ
+  pub room : length page ≡ fields.block_size
+  pub given : IsMapGiven bytes fields block page
+  pub mark_is : mark ≡ is_free_by page fields block
+
 -- a number after a space
 abbrev pub blank_number : ℕ → List ℕ
 blank_number number = 32 ∷ decimal number
@@ -63,9 +74,20 @@ stream_lines s (stream ∷ others) = stream_line s stream ++ stream_lines (s + 1
 abbrev pub ShowsStreams : List ℕ → List ℕ → Type 0
 ShowsStreams file text = (layout : LayoutView) × HasLayout file layout × (text ≡ container_lines file layout ++ stream_lines 0 layout.streams)
 
--- `streams` prints this text where this layout was read, and so many blocks are free by the map that was read
-abbrev pub ShowsStreamsRead : LayoutView → List ℕ → Type 0
-ShowsStreamsRead layout text = (free : ℕ) × (free ≤ layout.superblock.num_blocks) × (text ≡ container_with free layout ++ stream_lines 0 layout.streams)
+-- reads gave these marks of the first blocks of the file
+abbrev pub AreMarks : Bytes → Fields → List Bool → Type 0
+AreMarks bytes fields marks = (block : ℕ) → block < length marks → IsMark bytes fields block (get_or marks block false)
+
+-- reads gave marks of the first `end` blocks of the file, and so many say that a block is free
+pub record IsFreeCount (bytes : Bytes) (fields : Fields) (end free : ℕ) : Type 0 where
+  pub marks : List Bool
+  pub count : length marks ≡ end
+  pub given : AreMarks bytes fields marks
+  pub free_is : free ≡ count_by (λ mark. mark) marks
+
+-- `streams` prints this text of what reads gave: this layout, and a free block map by which so many blocks are free
+abbrev pub ShowsStreamsRead : Bytes → LayoutView → List ℕ → Type 0
+ShowsStreamsRead bytes layout text = (free : ℕ) × IsFreeCount bytes layout.superblock layout.superblock.num_blocks free × (text ≡ container_with free layout ++ stream_lines 0 layout.streams)
 
 -- this is the first fault of the file on the way to its layout
 abbrev pub HasLayoutFault : {A : Type 0} → List ℕ → PdbFault A → Type 0
@@ -77,11 +99,11 @@ abbrev pub RefusesStreams : {A : Type 0} → List ℕ → RunFault A → Type 0
 RefusesStreams file (Pdb fault) = HasLayoutFault file fault
 RefusesStreams file _ = ⊥
 
--- there are texts of a container, which is said to have so many bytes, with this fault of its layout
-abbrev pub RefusesLayout : {A : Type 0} → ℕ → RunFault A → Type 0
-RefusesLayout told (Pdb fault) = IsLayoutFaultRead told fault
-RefusesLayout told _ = ⊥
+-- reads gave texts of a container with this fault of its layout
+abbrev pub RefusesLayout : {A : Type 0} → Bytes → RunFault A → Type 0
+RefusesLayout bytes (Pdb fault) = IsLayoutFaultRead bytes fault
+RefusesLayout bytes _ = ⊥
 
 -- `streams` refuses no layout
-abbrev pub RefusesStreamsRead : {A : Type 0} → LayoutView → RunFault A → Type 0
-RefusesStreamsRead layout fault = ⊥
+abbrev pub RefusesStreamsRead : {A : Type 0} → Bytes → LayoutView → RunFault A → Type 0
+RefusesStreamsRead bytes layout fault = ⊥

@@ -10,6 +10,7 @@ use Rattle.cv_leaves.specs.Checks.{kind_of, body_of, record_checks}
 use Rattle.cv_leaves.specs.Place.{HasPlaces, IsChecked}
 use Rattle.cv_leaves.specs.Name.{name_of}
 use Rattle.cv_leaves.specs.declared.fault.LeafFault.{LeafFault}
+use Rattle.byte_io.specs.At.{Bytes}
 use Rattle.msf_blocks.specs.Layout.{LayoutView}
 use Rattle.pdb_merge.specs.Read.{RecordsWereRead, HasTypeRecords}
 use Rattle.pdb_commands.specs.Records.{RefusesRecords, RefusesRecordsRead}
@@ -45,9 +46,9 @@ AreTypeLines index (bytes ∷ others) text =
 abbrev pub ShowsTypes : List ℕ → List ℕ → Type 0
 ShowsTypes file text = (records : List (List ℕ)) × HasTypeRecords file records × AreTypeLines first_index records text
 
--- `types` prints this text where the records of this layout were read
-abbrev pub ShowsTypesRead : LayoutView → List ℕ → Type 0
-ShowsTypesRead layout text = (records : List (List ℕ)) × RecordsWereRead layout records × AreTypeLines first_index records text
+-- `types` prints this text of what reads gave: the records of this layout
+abbrev pub ShowsTypesRead : Bytes → LayoutView → List ℕ → Type 0
+ShowsTypesRead bytes layout text = (records : List (List ℕ)) × RecordsWereRead bytes layout records × AreTypeLines first_index records text
 
 -- the first of these records whose leaf is at fault has this type index and this fault
 abbrev pub HasLeafFault : List (List ℕ) → ℕ → LeafFault → Type 0
@@ -60,7 +61,7 @@ abbrev pub RefusesTypes : {A : Type 0} → List ℕ → RunFault A → Type 0
 RefusesTypes file (Leaf index fault) = (records : List (List ℕ)) × HasTypeRecords file records × HasLeafFault records index fault
 RefusesTypes file fault = RefusesRecords file fault
 
--- `types` refuses what was read for this layout with this fault: it is one of its type records, else that of the first record whose leaf is at fault
-abbrev pub RefusesTypesRead : {A : Type 0} → LayoutView → RunFault A → Type 0
-RefusesTypesRead layout (Leaf index fault) = (records : List (List ℕ)) × RecordsWereRead layout records × HasLeafFault records index fault
-RefusesTypesRead layout fault = RefusesRecordsRead layout fault
+-- `types` refuses what reads gave of this layout with this fault: it is one of its type records, else that of the first record whose leaf is at fault
+abbrev pub RefusesTypesRead : {A : Type 0} → Bytes → LayoutView → RunFault A → Type 0
+RefusesTypesRead bytes layout (Leaf index fault) = (records : List (List ℕ)) × RecordsWereRead bytes layout records × HasLeafFault records index fault
+RefusesTypesRead bytes layout fault = RefusesRecordsRead bytes layout fault

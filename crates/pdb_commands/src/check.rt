@@ -1,6 +1,7 @@
 //! The command `check`: whether the types of a file can be trusted.
 
 ghost use Rattle.std.specs.Prelude.{◌≡◌, ◌⊎◌, ◌++◌, true, ℕ, List, OnOk, IfOk, IfErr, string_bytes};
+ghost use Rattle.byte_io.specs.At.{Bytes};
 ghost use Rattle.msf_blocks.specs.Layout.{LayoutView};
 ghost use Rattle.pdb_commands.specs.Check.{ShowsChecked, ShowsCheckedRead, RefusesCheck, RefusesCheckRead, checked_lines};
 ghost use Rattle.pdb_commands.specs.Show.{Answers, AnswersAt};
@@ -35,7 +36,7 @@ fn push_checked<A: Allocator>(
 /// The text of types.
 fn types_text<A: Allocator + Copy>(alloc: A, types: &Types<'_, A>) -> Result<String<A>, RunFault<A>>
     ensures value { IfOk result (λ text. (file : List ℕ) → IsAccepted file types.now → ShowsChecked file (string_bytes text)) }
-    ensures texts { IfOk result (λ text. (layout : LayoutView) → TypesWereRead layout types.now → ShowsCheckedRead layout (string_bytes text)) }
+    ensures texts { IfOk result (λ text. (bytes : Bytes) (layout : LayoutView) → TypesWereRead bytes layout types.now → ShowsCheckedRead bytes layout (string_bytes text)) }
     ensures memory { IfErr result (λ fault. fault ≡ RunFault.Memory) }
 {
     let mut text = String::new(alloc);
@@ -121,7 +122,7 @@ pub fn run_check_at<R: ReadAt, W: Sink, A: Allocator + Copy>(
     limit: u32,
     out: &mut W,
 ) -> Result<(), RunFault<A>>
-    ensures { AnswersAt ShowsChecked RefusesCheck ShowsCheckedRead RefusesCheckRead limit (R.bytes input.old) (R.told input.old) (R.is_broken input.new) W.taken W.is_broken out.old out.new result }
+    ensures { AnswersAt ShowsChecked RefusesCheck ShowsCheckedRead RefusesCheckRead limit (R.bytes input.old) (R.is_broken input.new) W.taken W.is_broken out.old out.new result }
 {
     run_at(alloc, &Check, input, limit, out)
 }

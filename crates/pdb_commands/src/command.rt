@@ -3,7 +3,7 @@
 ghost use Rattle.std.specs.Prelude.{◌≡◌, ◌⊎◌, ℕ, List, true, OnOk, IfOk, IfErr, string_bytes};
 ghost use Rattle.byte_fields.specs.Bytes.{AreBytes};
 ghost use Rattle.byte_fields.specs.Check.{Refuses, first_failing};
-ghost use Rattle.byte_io.specs.At.{Breaks, IfKnown, IfOf};
+ghost use Rattle.byte_io.specs.At.{Breaks, Bytes, IfKnown, IfOf};
 ghost use Rattle.msf_blocks.specs.Layout.{HasLayout, TextsRefuse, layout_checks};
 ghost use Rattle.pdb_commands.specs.Show.{Answers, AnswersAt, IsOfText, IsOfTexts, IsFaultOfTexts};
 ghost use Rattle.pdb_commands.specs.Streams.{RefusesLayout};
@@ -35,15 +35,15 @@ pub trait ShowAt<A: Allocator + Copy>: Show<A> {
     ghost use Rattle.msf_blocks.specs.Layout.{LayoutView, HasLayout};
 
     /// The command prints this text where texts of this layout were read.
-    ghost shows_read: { Self → LayoutView → List ℕ → Type 0 };
+    ghost shows_read: { Self → Bytes → LayoutView → List ℕ → Type 0 };
 
-    /// The command refuses what was read for this layout with this fault.
-    ghost refuses_read: { Self → LayoutView → RunFault A → Type 0 };
+    /// The command refuses what reads gave of this layout with this fault.
+    ghost refuses_read: { Self → Bytes → LayoutView → RunFault A → Type 0 };
 
     /// The fault of the command for a file whose container has this fault.
     fn refuse_layout(&self, fault: MsfFault) -> RunFault<A>
         ensures first { (file : List ℕ) → AreBytes file → Refuses MsfFault.Memory (first_failing (layout_checks file)) fault → Self.refuses self.now file result ⊎ (result ≡ RunFault.Memory) }
-        ensures refused { (told : ℕ) → TextsRefuse told fault → RefusesLayout told result ⊎ (result ≡ RunFault.Memory) }
+        ensures refused { (bytes : Bytes) → TextsRefuse bytes fault → RefusesLayout bytes result ⊎ (result ≡ RunFault.Memory) }
         ensures pure { IsOfText result };
 
     /// Makes the whole text of a file with this layout.
@@ -56,9 +56,9 @@ pub trait ShowAt<A: Allocator + Copy>: Show<A> {
         requires bytes { IfKnown (R.bytes input.old) AreBytes }
         requires layout { IfKnown (R.bytes input.old) (λ file. HasLayout file layout.now) }
         ensures value { IfOk result (λ text. IfKnown (R.bytes input.old) (λ file. Self.shows self.now file (string_bytes text))) }
-        ensures texts { IfOk result (λ text. shows_read self.now layout.now (string_bytes text)) }
+        ensures texts { IfOk result (λ text. shows_read self.now (R.bytes input.old) layout.now (string_bytes text)) }
         ensures first { IfErr result (IfOf (λ fault. IfKnown (R.bytes input.old) (λ file. Self.refuses self.now file fault ⊎ (fault ≡ RunFault.Memory)))) }
-        ensures refused { IfErr result (IfOf (λ fault. refuses_read self.now layout.now fault ⊎ (fault ≡ RunFault.Memory))) }
+        ensures refused { IfErr result (IfOf (λ fault. refuses_read self.now (R.bytes input.old) layout.now fault ⊎ (fault ≡ RunFault.Memory))) }
         ensures pure { IfErr result (IfOf IsOfText) }
         ensures read { IfErr result (λ fault. fault ≡ AtFault.Read → Breaks (R.bytes input.old) (R.is_broken input.new)) };
 }
@@ -70,9 +70,9 @@ fn text_at<C: ShowAt<A>, R: ReadAt, A: Allocator + Copy>(
     input: &mut R,
 ) -> Result<String<A>, AtFault<RunFault<A>>>
     ensures value { IfOk result (λ text. IfKnown (R.bytes input.old) (λ file. C.shows command.now file (string_bytes text))) }
-    ensures texts { IfOk result (λ text. IsOfTexts (C.shows_read command.now) (R.told input.old) (string_bytes text)) }
+    ensures texts { IfOk result (λ text. IsOfTexts (C.shows_read command.now) (R.bytes input.old) (string_bytes text)) }
     ensures first { IfErr result (IfOf (λ fault. IfKnown (R.bytes input.old) (λ file. C.refuses command.now file fault ⊎ (fault ≡ RunFault.Memory)))) }
-    ensures refused { IfErr result (IfOf (λ fault. IsFaultOfTexts (C.refuses_read command.now) (R.told input.old) fault ⊎ (fault ≡ RunFault.Memory))) }
+    ensures refused { IfErr result (IfOf (λ fault. IsFaultOfTexts (C.refuses_read command.now) (R.bytes input.old) fault ⊎ (fault ≡ RunFault.Memory))) }
     ensures pure { IfErr result (IfOf IsOfText) }
     ensures read { IfErr result (λ fault. fault ≡ AtFault.Read → Breaks (R.bytes input.old) (R.is_broken input.new)) }
 {
@@ -99,7 +99,7 @@ pub fn run_at<C: ShowAt<A>, R: ReadAt, W: Sink, A: Allocator + Copy>(
     limit: u32,
     out: &mut W,
 ) -> Result<(), RunFault<A>>
-    ensures { AnswersAt (C.shows command.now) (C.refuses command.now) (C.shows_read command.now) (C.refuses_read command.now) limit (R.bytes input.old) (R.told input.old) (R.is_broken input.new) W.taken W.is_broken out.old out.new result }
+    ensures { AnswersAt (C.shows command.now) (C.refuses command.now) (C.shows_read command.now) (C.refuses_read command.now) limit (R.bytes input.old) (R.is_broken input.new) W.taken W.is_broken out.old out.new result }
 {
     if u64::from(limit) < input.len() {
         return Err(RunFault::Read(ReadFault::TooLong));

@@ -120,7 +120,7 @@ fn info_stream_of<R: ReadAt, L: Allocator, A: Allocator>(
 ) -> Result<(), AtFault<PdbFault<A>>>
     requires { IfKnown (R.bytes input.old) (λ file. HasLayout file layout.now) }
     ensures value { OnOk result (IfKnown (R.bytes input.old) (λ file. (layout : LayoutView) × HasLayout file layout × (stream_contents file layout 1 ≡ Some buffer.new.items))) }
-    ensures texts { OnOk result (WasRead layout.now 1 buffer.new.items) }
+    ensures texts { OnOk result (WasRead (R.bytes input.old) layout.now 1 buffer.new.items) }
     ensures first { IfErr result (IfOf (λ fault. IfKnown (R.bytes input.old) (λ file. HasNoInfoStream file fault ⊎ (fault ≡ PdbFault.Memory)))) }
     ensures refused { IfErr result (IfOf (λ fault. HasNoInfoStreamRead layout.now fault ⊎ (fault ≡ PdbFault.Memory))) }
     ensures read { IfErr result (λ fault. fault ≡ AtFault.Read → Breaks (R.bytes input.old) (R.is_broken input.new)) }
@@ -222,7 +222,7 @@ pub fn run_info_at<R: ReadAt, W: Sink, A: Allocator + Copy>(
     limit: u32,
     out: &mut W,
 ) -> Result<(), RunFault<A>>
-    ensures { AnswersAt ShowsInfo RefusesInfo ShowsInfoRead RefusesInfoRead limit (R.bytes input.old) (R.told input.old) (R.is_broken input.new) W.taken W.is_broken out.old out.new result }
+    ensures { AnswersAt ShowsInfo RefusesInfo ShowsInfoRead RefusesInfoRead limit (R.bytes input.old) (R.is_broken input.new) W.taken W.is_broken out.old out.new result }
 {
     run_at(alloc, &Info, input, limit, out)
 }

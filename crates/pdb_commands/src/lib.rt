@@ -15,8 +15,8 @@
 //! file (`Shows..` of `specs/`), byte for byte. A refusal is the first fault of reading or of the
 //! file. After `36 Write` the sink is broken and took the first bytes of the text. After any other
 //! refusal nothing was written. By position this holds of files whose bytes are known, as slices. Of
-//! any file a length above the limit is refused first, and the text, or the fault, is that of the
-//! texts that were read (`ShowsItRead`, `RefusesItRead`).
+//! any file a length above the limit is refused first, and the text, or the fault, is that of what
+//! reads gave (`ShowsItRead`, `RefusesItRead`).
 //!
 //! The module `command` runs the commands that show a file. Each command has a module of its own.
 //! `text` prints numbers and names.

@@ -4,6 +4,7 @@ ghost use Rattle.std.specs.Prelude.{◌≡◌, ◌≤◌, ◌+◌, ◌^◌, ◌�
 ghost use Rattle.std.specs.List.{flat_map};
 ghost use Rattle.cv_leaves.specs.Place.{HasPlaces, IsChecked};
 ghost use Rattle.cv_leaves.specs.Name.{name_of};
+ghost use Rattle.byte_io.specs.At.{Bytes};
 ghost use Rattle.msf_blocks.specs.Layout.{LayoutView};
 ghost use Rattle.pdb_commands.specs.Record.{ShowsRecord, ShowsRecordRead, RefusesRecord, RefusesRecordRead, record_of, bytes_line, place_line, name_lines};
 ghost use Rattle.pdb_commands.specs.Show.{Answers, AnswersAt, IsOfText};
@@ -105,9 +106,9 @@ fn indexed_text<A: Allocator + Copy>(
     index: u32,
 ) -> Result<String<A>, RunFault<A>>
     ensures value { IfOk result (λ text. (file : List ℕ) → HasTypeRecords file records.now → ShowsRecord index file (string_bytes text)) }
-    ensures texts { IfOk result (λ text. (layout : LayoutView) → RecordsWereRead layout records.now → ShowsRecordRead index layout (string_bytes text)) }
+    ensures texts { IfOk result (λ text. (bytes : Bytes) (layout : LayoutView) → RecordsWereRead bytes layout records.now → ShowsRecordRead index bytes layout (string_bytes text)) }
     ensures first { IfErr result (λ fault. (file : List ℕ) → HasTypeRecords file records.now → RefusesRecord index file fault ⊎ (fault ≡ RunFault.Memory)) }
-    ensures refused { IfErr result (λ fault. (layout : LayoutView) → RecordsWereRead layout records.now → RefusesRecordRead index layout fault ⊎ (fault ≡ RunFault.Memory)) }
+    ensures refused { IfErr result (λ fault. (bytes : Bytes) (layout : LayoutView) → RecordsWereRead bytes layout records.now → RefusesRecordRead index bytes layout fault ⊎ (fault ≡ RunFault.Memory)) }
     ensures pure { IfErr result IsOfText }
 {
     let Some(bytes) = record_of(records, index) else {
@@ -199,7 +200,7 @@ pub fn run_record_at<R: ReadAt, W: Sink, A: Allocator + Copy>(
     index: u32,
     out: &mut W,
 ) -> Result<(), RunFault<A>>
-    ensures { AnswersAt (ShowsRecord index) (RefusesRecord index) (ShowsRecordRead index) (RefusesRecordRead index) limit (R.bytes input.old) (R.told input.old) (R.is_broken input.new) W.taken W.is_broken out.old out.new result }
+    ensures { AnswersAt (ShowsRecord index) (RefusesRecord index) (ShowsRecordRead index) (RefusesRecordRead index) limit (R.bytes input.old) (R.is_broken input.new) W.taken W.is_broken out.old out.new result }
 {
     run_at(alloc, &Record { index }, input, limit, out)
 }

@@ -123,7 +123,7 @@ pub fn run_records_at<R: ReadAt, W: Sink, A: Allocator + Copy>(
     limit: u32,
     out: &mut W,
 ) -> Result<(), RunFault<A>>
-    ensures { AnswersAt ShowsRecords RefusesRecords ShowsRecordsRead RefusesRecordsRead limit (R.bytes input.old) (R.told input.old) (R.is_broken input.new) W.taken W.is_broken out.old out.new result }
+    ensures { AnswersAt ShowsRecords RefusesRecords ShowsRecordsRead RefusesRecordsRead limit (R.bytes input.old) (R.is_broken input.new) W.taken W.is_broken out.old out.new result }
 {
     run_at(alloc, &Records, input, limit, out)
 }

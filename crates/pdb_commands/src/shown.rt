@@ -2,6 +2,7 @@
 
 ghost use Rattle.std.specs.Prelude.{◌≡◌, ◌⊎◌, ℕ, List, true, false, Err, OnOk, IfErr};
 ghost use Rattle.byte_fields.specs.Bytes.{AreBytes};
+ghost use Rattle.byte_io.specs.At.{Bytes};
 ghost use Rattle.msf_blocks.specs.Layout.{HasLayout};
 ghost use Rattle.pdb_commands.specs.Show.{Answers, AnswersAt, IsByPosition, IsByWhole};
 ghost use Rattle.pdb_commands.specs.Shown.{ShowsWithin, ShowsWithinRead, RefusesWithin, RefusesWithinRead, stream_of, ReadsTooLong, ListsTooLong};
@@ -163,7 +164,7 @@ pub fn run_shown_at<R: ReadAt, W: Sink, A: Allocator + Copy>(
     limit: u32,
     out: &mut W,
 ) -> Result<(), RunFault<A>>
-    ensures { AnswersAt (ShowsWithin command limit) (RefusesWithin command limit) (ShowsWithinRead command limit) (RefusesWithinRead command limit) limit (R.bytes input.old) (R.told input.old) (R.is_broken input.new) W.taken W.is_broken out.old out.new result }
+    ensures { AnswersAt (ShowsWithin command limit) (RefusesWithin command limit) (ShowsWithinRead command limit) (RefusesWithinRead command limit) limit (R.bytes input.old) (R.is_broken input.new) W.taken W.is_broken out.old out.new result }
 {
     run_at(alloc, &Within { command, limit }, input, limit, out)
 }
@@ -189,8 +190,8 @@ pub fn run_shown_file<R: ReadAt, S: Source, W: Sink, A: Allocator + Copy>(
     limit: u32,
     out: &mut W,
 ) -> Result<(), RunFault<A>>
-    ensures { IsByPosition (ShowsWithin command limit) (RefusesWithin command limit) (ShowsWithinRead command limit) (RefusesWithinRead command limit) limit (R.bytes input.old) (R.told input.old) (R.is_broken input.new) whole.old whole.new W.taken W.is_broken out.old out.new result
-        ⊎ IsByWhole (ShowsWithin command limit) (RefusesWithin command limit) limit (R.bytes input.old) (R.told input.old) (R.is_broken input.new) S.left S.is_broken whole.old whole.new W.taken W.is_broken out.old out.new result }
+    ensures { IsByPosition (ShowsWithin command limit) (RefusesWithin command limit) (ShowsWithinRead command limit) (RefusesWithinRead command limit) limit (R.bytes input.old) (R.is_broken input.new) whole.old whole.new W.taken W.is_broken out.old out.new result
+        ⊎ IsByWhole (ShowsWithin command limit) (RefusesWithin command limit) limit (R.bytes input.old) (R.is_broken input.new) S.left S.is_broken whole.old whole.new W.taken W.is_broken out.old out.new result }
 {
     let answer = run_shown_at(alloc, command, input, limit, out);
     if is_unread(&answer) {

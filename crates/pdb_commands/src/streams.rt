@@ -9,7 +9,7 @@ ghost use Rattle.msf_blocks.specs.BlockNumber.{IsBlockSize};
 ghost use Rattle.msf_blocks.specs.FreeMap.{is_free, map_block_of, blocks_per_map_block};
 ghost use Rattle.msf_blocks.specs.Layout.{HasLayout};
 ghost use Rattle.pdb_commands.specs.Show.{Answers, AnswersAt};
-ghost use Rattle.pdb_commands.specs.Streams.{ShowsStreams, ShowsStreamsRead, HasLayoutFault, RefusesStreams, RefusesStreamsRead, HasMap, free_blocks, is_free_by, bit_of, blank_number, container_with, stream_line, stream_lines};
+ghost use Rattle.pdb_commands.specs.Streams.{HasLayoutFault, HasMap, IsFreeCount, IsMapGiven, IsMark, RefusesStreams, RefusesStreamsRead, ShowsStreams, ShowsStreamsRead, bit_of, blank_number, container_with, free_blocks, is_free_by, stream_line, stream_lines};
 
 use crate::command::{Show, ShowAt, run, run_at};
 use crate::fault::RunFault;
@@ -88,6 +88,7 @@ fn read_map<R: ReadAt>(
     ensures keeps { R.bytes input.new ≡ R.bytes input.old }
     ensures room { length page.new ≡ superblock.now.block_size }
     ensures map { IfSome result (λ _. IfKnown (R.bytes input.old) (λ file. HasMap file superblock.now block page.new)) }
+    ensures given { IfSome result (λ _. IsMapGiven (R.bytes input.old) superblock.now block page.new) }
     ensures read { IfNone result (Breaks (R.bytes input.old) (R.is_broken input.new)) }
 {
     let map_block = map_block_of(superblock, block);
@@ -109,9 +110,11 @@ fn turn_page<R: ReadAt>(
     requires whole { IfKnown (R.bytes input.old) (λ file. superblock.now.num_blocks * superblock.now.block_size ≤ length file) }
     requires room { length page.old ≡ superblock.now.block_size }
     requires map { IfKnown (R.bytes input.old) (λ file. (block % blocks_per_map_block superblock.now ≡ 0 → ⊥) → HasMap file superblock.now block page.old) }
+    requires given { (block % blocks_per_map_block superblock.now ≡ 0 → ⊥) → IsMapGiven (R.bytes input.old) superblock.now block page.old }
     ensures keeps { R.bytes input.new ≡ R.bytes input.old }
     ensures room { length page.new ≡ superblock.now.block_size }
     ensures map { IfSome result (λ _. IfKnown (R.bytes input.old) (λ file. HasMap file superblock.now block page.new)) }
+    ensures given { IfSome result (λ _. IsMapGiven (R.bytes input.old) superblock.now block page.new) }
     ensures read { IfNone result (Breaks (R.bytes input.old) (R.is_broken input.new)) }
 {
     if block % (8 * superblock.block_size()) == 0 {
@@ -130,11 +133,14 @@ fn is_free_at<R: ReadAt>(
     requires whole { IfKnown (R.bytes input.old) (λ file. superblock.now.num_blocks * superblock.now.block_size ≤ length file) }
     requires room { length page.old ≡ superblock.now.block_size }
     requires map { IfKnown (R.bytes input.old) (λ file. (block % blocks_per_map_block superblock.now ≡ 0 → ⊥) → HasMap file superblock.now block page.old) }
+    requires given { (block % blocks_per_map_block superblock.now ≡ 0 → ⊥) → IsMapGiven (R.bytes input.old) superblock.now block page.old }
     ensures keeps { R.bytes input.new ≡ R.bytes input.old }
     ensures room { length page.new ≡ superblock.now.block_size }
     ensures value { IfSome result (λ free. IfKnown (R.bytes input.old) (λ file. free ≡ is_free file superblock.now block)) }
+    ensures mark { IfSome result (IsMark (R.bytes input.old) superblock.now block) }
     ensures listed { IfSome result (λ _. IsBlockSize superblock.now.block_size) }
     ensures map { IfSome result (λ _. IfKnown (R.bytes input.old) (λ file. HasMap file superblock.now block page.new)) }
+    ensures given { IfSome result (λ _. IsMapGiven (R.bytes input.old) superblock.now block page.new) }
     ensures read { IfNone result (Breaks (R.bytes input.old) (R.is_broken input.new)) }
 {
     turn_page(input, superblock, block, page)?;
@@ -148,7 +154,7 @@ fn free_blocks_at<R: ReadAt>(input: &mut R, superblock: &Superblock, page: &mut 
     requires room { length page.old ≡ superblock.now.block_size }
     ensures keeps { R.bytes input.new ≡ R.bytes input.old }
     ensures value { IfSome result (λ free. IfKnown (R.bytes input.old) (λ file. free ≡ free_blocks file superblock.now)) }
-    ensures few { IfSome result (λ free. free ≤ superblock.now.num_blocks) }
+    ensures marks { IfSome result (IsFreeCount (R.bytes input.old) superblock.now superblock.now.num_blocks) }
     ensures read { IfNone result (Breaks (R.bytes input.old) (R.is_broken input.new)) }
 {
     let mut free = 0;
@@ -337,7 +343,7 @@ pub fn run_streams_at<R: ReadAt, W: Sink, A: Allocator + Copy>(
     limit: u32,
     out: &mut W,
 ) -> Result<(), RunFault<A>>
-    ensures { AnswersAt ShowsStreams RefusesStreams ShowsStreamsRead RefusesStreamsRead limit (R.bytes input.old) (R.told input.old) (R.is_broken input.new) W.taken W.is_broken out.old out.new result }
+    ensures { AnswersAt ShowsStreams RefusesStreams ShowsStreamsRead RefusesStreamsRead limit (R.bytes input.old) (R.is_broken input.new) W.taken W.is_broken out.old out.new result }
 {
     run_at(alloc, &Streams, input, limit, out)
 }

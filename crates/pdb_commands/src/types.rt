@@ -208,7 +208,7 @@ pub fn run_types_at<R: ReadAt, W: Sink, A: Allocator + Copy>(
     limit: u32,
     out: &mut W,
 ) -> Result<(), RunFault<A>>
-    ensures { AnswersAt ShowsTypes RefusesTypes ShowsTypesRead RefusesTypesRead limit (R.bytes input.old) (R.told input.old) (R.is_broken input.new) W.taken W.is_broken out.old out.new result }
+    ensures { AnswersAt ShowsTypes RefusesTypes ShowsTypesRead RefusesTypesRead limit (R.bytes input.old) (R.is_broken input.new) W.taken W.is_broken out.old out.new result }
 {
     run_at(alloc, &Types, input, limit, out)
 }

@@ -3,6 +3,7 @@ use Rattle.std.proofs.Common.{◌≡◌, ◌∙◌, ◌<◌, ◌+◌, ◌⊎◌,
 use Rattle.std.proofs.lemmas.Bool.{cases_lt}
 use Rattle.std.specs.Prelude.{Result, Ok, Err, IfOk, OnOk, IfSome, slice_get, option_map}
 use Rattle.std.proofs.lemmas.Option.{slice_get-map, slice_get_cases, get_or_from_slice_get}
+use Rattle.byte_io.specs.At.{Bytes}
 use Rattle.byte_io.specs.Inputs.{Give, CanRead, HasBytes}
 use Rattle.byte_io.specs.declared.inputs.Opened.{Opened}
 use Rattle.byte_io.specs.declared.inputs.InputFault.{InputFault}
@@ -113,7 +114,7 @@ add_named file add.Memory outer named made = rw made tt
 -- ---- inputs that were opened
 
 -- an input that was opened is the file at its position
-pub opened_file : {F : Type 0} (known : Option (List (Result (List ℕ) InputFault))) (files : List (List ℕ)) (i : ℕ) (bytes : F → Option (List ℕ)) (opened : Opened F) → Give known files
+pub opened_file : {F : Type 0} (known : Option (List (Result (List ℕ) InputFault))) (files : List (List ℕ)) (i : ℕ) (bytes : F → Bytes) (opened : Opened F) → Give known files
     → IfSome known (λ each. (b : List ℕ) × (slice_get each i ≡ Some (Ok b)) × HasBytes bytes opened b) → (i < length files) × HasBytes bytes opened (get_or files i [])
 opened_file known files i bytes opened given is =
     let here = rw given at is in
@@ -122,7 +123,7 @@ opened_file known files i bytes opened given is =
     (there.0, rw same here.2)
 
 -- it can be read
-pub opened_read : {F : Type 0} (known : Option (List (Result (List ℕ) InputFault))) (i : ℕ) (bytes : F → Option (List ℕ)) (opened : Opened F)
+pub opened_read : {F : Type 0} (known : Option (List (Result (List ℕ) InputFault))) (i : ℕ) (bytes : F → Bytes) (opened : Opened F)
     → IfSome known (λ each. (b : List ℕ) × (slice_get each i ≡ Some (Ok b)) × HasBytes bytes opened b) → IfSome known (λ each. (b : List ℕ) × (slice_get each i ≡ Some (Ok b)))
 opened_read None i bytes opened is = tt
 opened_read (Some each) i bytes opened is = (is.0, is.1)

@@ -1,7 +1,7 @@
 -- Out of memory comes only where the container has no fault.
-use Rattle.std.proofs.Common.{◌≡◌, ◌<◌, ◌∙◌, ℕ, List, Option, Some, None, get_or, refl, sym, ap, inl, inr}
+use Rattle.std.proofs.Common.{◌≡◌, ◌<◌, ◌∙◌, ℕ, List, Some, None, get_or, refl, sym, ap, inl, inr}
 use Rattle.std.specs.Prelude.{Result, Ok, Err, IfErr}
-use Rattle.byte_io.specs.At.{IfKnown}
+use Rattle.byte_io.specs.At.{Bytes, IfKnown}
 use Rattle.byte_fields.specs.Check.{Refuses, first_failing}
 use Rattle.msf_blocks.specs.Layout.{LayoutView, HasLayout, layout_checks}
 use Rattle.msf_blocks.specs.declared.fault.MsfFault.{MsfFault}
@@ -46,9 +46,9 @@ pub pdb_want : {A : Type 0} (file : List ℕ) (inner : PdbFault A) (outer : AddF
 pdb_want file inner outer made want is = want (of_pdb_want inner (sym made ∙ is))
 
 -- so where it is read by position
-pub pdb_want_at : {A : Type 0} (known : Option (List ℕ)) (inner : PdbFault A) (outer : AddFault A) → outer ≡ of_pdb inner → (inner ≡ Memory → IfKnown known (λ file. first_failing (layout_checks file) ≡ None))
-    → outer ≡ add.Memory → IfKnown known (λ file. first_failing (layout_checks file) ≡ None)
-pdb_want_at known inner outer made want is = want (of_pdb_want inner (sym made ∙ is))
+pub pdb_want_at : {A : Type 0} (bytes : Bytes) (inner : PdbFault A) (outer : AddFault A) → outer ≡ of_pdb inner → (inner ≡ Memory → IfKnown bytes (λ file. first_failing (layout_checks file) ≡ None))
+    → outer ≡ add.Memory → IfKnown bytes (λ file. first_failing (layout_checks file) ≡ None)
+pdb_want_at bytes inner outer made want is = want (of_pdb_want inner (sym made ∙ is))
 
 -- a container that was read has no fault
 pub added_sound : {T A : Type 0} (file : List ℕ) (layout : LayoutView) (result : Result T (AddFault A)) → ((i : ℕ) → get_or file i 0 < 256) → HasLayout file layout → IfErr result (λ fault. fault ≡ add.Memory → first_failing (layout_checks file) ≡ None)

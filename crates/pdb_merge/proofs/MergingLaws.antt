@@ -1,12 +1,12 @@
 -- A merge that takes files one after the other.
-use Rattle.std.proofs.Common.{◌≡◌, ◌↔◌, ◌⊎◌, inl, inr, Option, ℕ, ◌+◌, ◌<◌, ◌≤◌, List, [], ◌∷◌, ◌++◌, length, get_or, take, drop, refl, ap, ◌∙◌, arith, length-append}
+use Rattle.std.proofs.Common.{◌≡◌, ◌↔◌, ◌⊎◌, inl, inr, ℕ, ◌+◌, ◌<◌, ◌≤◌, List, [], ◌∷◌, ◌++◌, length, get_or, take, drop, refl, ap, ◌∙◌, arith, length-append}
 use Rattle.std.proofs.lemmas.List.{get_or_append_left, take_more, take-append-drop, length-take-le}
 use Rattle.std.proofs.Math.Seq.{get_or-append_seam}
 use Rattle.type_trees.specs.Tree.{Tree, IsType}
 use Rattle.std.specs.Prelude.{Result, Ok, Err, IfOk, IfErr}
 use Rattle.type_trees.specs.Finish.{IsCanonOf}
 use Rattle.type_trees.proofs.CanonTableLaws.{canon_same}
-use Rattle.byte_io.specs.At.{IfKnown, IfOf}
+use Rattle.byte_io.specs.At.{Bytes, IfKnown, IfOf}
 use Rattle.byte_io.specs.declared.at.AtFault.{AtFault}
 use Rattle.byte_io.specs.declared.at.AtFault.TheVariants as at
 use Rattle.pdb_merge.specs.Fault.{of_add, of_pdb}
@@ -141,22 +141,22 @@ pdb_hinders_at before limit file pdb.Memory outer made first = rw made tt
 pdb_hinders_at before limit file inner outer made (inl first) = rw made first
 pdb_hinders_at before limit file inner outer made (inr want) = absurd cc
 
-pub taken_at : {A E : Type 0} (before after : MergeView) (known : Option (List ℕ)) (answer : Result A E) → IfOk answer (λ _. IfKnown known (λ file. AddsFile before.types after.types file))
-    → IfOk answer (λ _. Within (IsType after.types) after.limit) → IfOk answer (λ _. IfKnown known (λ file. (files : List (List ℕ)) → HasTaken before files → HasTaken after (files ++ file ∷ [])))
-taken_at before after known (Ok done) takes within = λ file is files taken. taken_more before after files file (takes file is) within taken
-taken_at before after known (Err fault) takes within = tt
+pub taken_at : {A E : Type 0} (before after : MergeView) (bytes : Bytes) (answer : Result A E) → IfOk answer (λ _. IfKnown bytes (λ file. AddsFile before.types after.types file))
+    → IfOk answer (λ _. Within (IsType after.types) after.limit) → IfOk answer (λ _. IfKnown bytes (λ file. (files : List (List ℕ)) → HasTaken before files → HasTaken after (files ++ file ∷ [])))
+taken_at before after bytes (Ok done) takes within = λ file is files taken. taken_more before after files file (takes file is) within taken
+taken_at before after bytes (Err fault) takes within = tt
 
-pub stops_at : {T A : Type 0} (before : MergeView) (known : Option (List ℕ)) (answer : Result T (AtFault (AddFault A))) → IfErr answer (IfOf (λ fault. IfKnown known (λ file. IsAddFault before.types before.limit file fault)))
-    → IfErr answer (IfOf (λ fault. IfKnown known (λ file. (files : List (List ℕ)) → HasTaken before files → IsMergeFault (files ++ file ∷ []) before.limit (of_add (length files) fault))))
-stops_at before known (Ok done) hinders = tt
-stops_at before known (Err at.Read) hinders = tt
-stops_at before known (Err (at.Of fault)) hinders = λ file is files taken. taken_stops before files file fault (hinders file is) taken
+pub stops_at : {T A : Type 0} (before : MergeView) (bytes : Bytes) (answer : Result T (AtFault (AddFault A))) → IfErr answer (IfOf (λ fault. IfKnown bytes (λ file. IsAddFault before.types before.limit file fault)))
+    → IfErr answer (IfOf (λ fault. IfKnown bytes (λ file. (files : List (List ℕ)) → HasTaken before files → IsMergeFault (files ++ file ∷ []) before.limit (of_add (length files) fault))))
+stops_at before bytes (Ok done) hinders = tt
+stops_at before bytes (Err at.Read) hinders = tt
+stops_at before bytes (Err (at.Of fault)) hinders = λ file is files taken. taken_stops before files file fault (hinders file is) taken
 
-pub alone_at : {T A : Type 0} (before : MergeView) (known : Option (List ℕ)) (answer : Result T (AtFault (AddFault A))) → IfErr answer (IfOf (λ fault. IfKnown known (λ file. IsAddFault before.types before.limit file fault)))
-    → IfErr answer (IfOf (λ fault. IfKnown known (λ file. (files more : List (List ℕ)) → HasTaken before files → CanMerge ((files ++ file ∷ []) ++ more) before.limit → fault ≡ add.Memory)))
-alone_at before known (Ok done) hinders = tt
-alone_at before known (Err at.Read) hinders = tt
-alone_at before known (Err (at.Of fault)) hinders = λ file is files more taken can. taken_alone before files more file fault (hinders file is) taken can
+pub alone_at : {T A : Type 0} (before : MergeView) (bytes : Bytes) (answer : Result T (AtFault (AddFault A))) → IfErr answer (IfOf (λ fault. IfKnown bytes (λ file. IsAddFault before.types before.limit file fault)))
+    → IfErr answer (IfOf (λ fault. IfKnown bytes (λ file. (files more : List (List ℕ)) → HasTaken before files → CanMerge ((files ++ file ∷ []) ++ more) before.limit → fault ≡ add.Memory)))
+alone_at before bytes (Ok done) hinders = tt
+alone_at before bytes (Err at.Read) hinders = tt
+alone_at before bytes (Err (at.Of fault)) hinders = λ file is files more taken can. taken_alone before files more file fault (hinders file is) taken can
 
 -- a list is the files before a file, the file, and the files after it
 split_at : (files : List (List ℕ)) (k : ℕ) → k < length files → (take k files ++ get_or files k [] ∷ []) ++ drop (k + 1) files ≡ files

@@ -1,7 +1,8 @@
 -- An accepted file has one list of records and no fault.
-use Rattle.std.proofs.Common.{◌≡◌, ◌⊎◌, ℕ, ◌<◌, ◌≤◌, List, Option, Some, None, Bool, length, ap, ◌∙◌, refl, arith, inl, inr}
+use Rattle.std.proofs.Common.{◌≡◌, ◌⊎◌, ℕ, ◌<◌, ◌≤◌, List, Some, None, Bool, length, ap, ◌∙◌, refl, arith, inl, inr}
 use Rattle.std.specs.Prelude.{Result, Ok, Err, IfOk, IfErr}
-use Rattle.byte_io.specs.At.{Breaks, IfKnown, IfOf}
+use Rattle.byte_io.proofs.AtLaws.{unbroken}
+use Rattle.byte_io.specs.At.{Breaks, Bytes, IfKnown, IfOf}
 use Rattle.byte_io.specs.declared.at.AtFault.{AtFault}
 use Rattle.byte_io.specs.declared.at.AtFault.TheVariants as at
 use Rattle.msf_blocks.specs.declared.fault.MsfFault.{MsfFault}
@@ -150,11 +151,11 @@ layout_refused file inner outer made (inl first) = inl (rw made first)
 layout_refused file inner outer made (inr want) = inr (made ∙ ap of_msf want.0)
 
 -- after a layout that was read, out of memory comes where the container has no fault
-pub sound_at : {T A : Type 0} (known : Option (List ℕ)) (result : Result T (AtFault (PdbFault A))) → IfKnown known (λ file. first_failing (layout_checks file) ≡ None)
-    → IfErr result (IfOf (λ e. e ≡ fault.Memory → IfKnown known (λ file. first_failing (layout_checks file) ≡ None)))
-sound_at known (Ok value) none = tt
-sound_at known (Err at.Read) none = tt
-sound_at known (Err (at.Of e)) none = λ is. none
+pub sound_at : {T A : Type 0} (bytes : Bytes) (result : Result T (AtFault (PdbFault A))) → IfKnown bytes (λ file. first_failing (layout_checks file) ≡ None)
+    → IfErr result (IfOf (λ e. e ≡ fault.Memory → IfKnown bytes (λ file. first_failing (layout_checks file) ≡ None)))
+sound_at bytes (Ok value) none = tt
+sound_at bytes (Err at.Read) none = tt
+sound_at bytes (Err (at.Of e)) none = λ is. none
 
 -- it is a fault on the way to the records, and on the way to the types
 pub layout_records : {A : Type 0} (file : List ℕ) (inner : PdbFault A) → IsLayoutFault file inner ⊎ (inner ≡ fault.Memory) → HasRecordsFault file inner ⊎ (inner ≡ fault.Memory)
@@ -187,21 +188,21 @@ stream_types file layout inner has info (inl first) = absurd first
 stream_types file layout inner has info (inr want) = inr want
 
 -- a file that has type records is refused only when out of memory
-pub records_want_at : {T A : Type 0} (known : Option (List ℕ)) (broken : Bool) (answer : Result T (AtFault (PdbFault A))) → IfKnown known AreBytes → IfErr answer (IfOf (λ e. IfKnown known (λ file. HasRecordsFault file e ⊎ (e ≡ fault.Memory))))
-    → IfErr answer (λ e. e ≡ at.Read → Breaks known broken) → IfErr answer (λ e. IfKnown known (λ file. (records : List (List ℕ)) → HasTypeRecords file records → e ≡ at.Of fault.Memory))
-records_want_at known broken (Ok value) small first read = tt
-records_want_at known broken (Err at.Read) small first read = λ file is records has. let none = (read refl).0 in absurd cc
-records_want_at known broken (Err (at.Of e)) small first read = λ file is records has. elim (first file is) [
+pub records_want_at : {T A : Type 0} (bytes : Bytes) (broken : Bool) (answer : Result T (AtFault (PdbFault A))) → IfKnown bytes AreBytes → IfErr answer (IfOf (λ e. IfKnown bytes (λ file. HasRecordsFault file e ⊎ (e ≡ fault.Memory))))
+    → IfErr answer (λ e. e ≡ at.Read → Breaks bytes broken) → IfErr answer (λ e. IfKnown bytes (λ file. (records : List (List ℕ)) → HasTypeRecords file records → e ≡ at.Of fault.Memory))
+records_want_at bytes broken (Ok value) small first read = tt
+records_want_at bytes broken (Err at.Read) small first read = λ file is records has. absurd (unbroken bytes broken file (read refl) is)
+records_want_at bytes broken (Err (at.Of e)) small first read = λ file is records has. elim (first file is) [
   | inl refused ↦ absurd (records_unrefused file records e (small file is) has refused)
   | inr want ↦ ap (λ f. at.Of f) want
 ]
 
 -- an accepted file is refused only when out of memory
-pub wants_memory_at : {T A : Type 0} (known : Option (List ℕ)) (broken : Bool) (answer : Result T (AtFault (PdbFault A))) → IfErr answer (IfOf (λ e. IfKnown known (λ file. HasPdbFault file e ⊎ (e ≡ fault.Memory))))
-    → IfErr answer (λ e. e ≡ at.Read → Breaks known broken) → IfErr answer (λ e. IfKnown known (λ file. (records : List (List ℕ)) → IsAccepted file records → e ≡ at.Of fault.Memory))
-wants_memory_at known broken (Ok value) first read = tt
-wants_memory_at known broken (Err at.Read) first read = λ file is records has. let none = (read refl).0 in absurd cc
-wants_memory_at known broken (Err (at.Of e)) first read = λ file is records has. elim (first file is) [
+pub wants_memory_at : {T A : Type 0} (bytes : Bytes) (broken : Bool) (answer : Result T (AtFault (PdbFault A))) → IfErr answer (IfOf (λ e. IfKnown bytes (λ file. HasPdbFault file e ⊎ (e ≡ fault.Memory))))
+    → IfErr answer (λ e. e ≡ at.Read → Breaks bytes broken) → IfErr answer (λ e. IfKnown bytes (λ file. (records : List (List ℕ)) → IsAccepted file records → e ≡ at.Of fault.Memory))
+wants_memory_at bytes broken (Ok value) first read = tt
+wants_memory_at bytes broken (Err at.Read) first read = λ file is records has. absurd (unbroken bytes broken file (read refl) is)
+wants_memory_at bytes broken (Err (at.Of e)) first read = λ file is records has. elim (first file is) [
   | inl refused ↦ absurd (accepted_unrefused file records e has refused)
   | inr want ↦ ap (λ f. at.Of f) want
 ]

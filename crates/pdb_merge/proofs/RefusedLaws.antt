@@ -2,6 +2,7 @@
 use Rattle.std.proofs.Common.{◌≡◌, ◌⊎◌, ℕ, ◌<◌, List, ◌∙◌, refl, ap, inl, inr}
 use Rattle.msf_blocks.specs.declared.fault.MsfFault.{MsfFault}
 use Rattle.msf_blocks.specs.declared.fault.MsfFault.TheVariants as msf
+use Rattle.byte_io.specs.At.{Bytes}
 use Rattle.msf_blocks.specs.Layout.{LayoutView, TextsRefuse}
 use Rattle.msf_streams.specs.Streams.{WasRead}
 use Rattle.tpi_records.specs.Records.{HasRecords, IsFirstFault}
@@ -21,43 +22,43 @@ use Rattle.pdb_merge.specs.declared.fault.AddFault.{AddFault}
 use Rattle.pdb_merge.proofs.UnionLaws.{union_weighs}
 
 -- texts of a container that are refused
-pub texts_refused : {A : Type 0} (told : ℕ) (inner : MsfFault) (outer : PdbFault A) → outer ≡ of_msf inner → TextsRefuse told inner → IsLayoutFaultRead told outer ⊎ (outer ≡ fault.Memory)
-texts_refused told msf.Memory outer made refused = inr made
-texts_refused told inner outer made refused = inl (rw made refused)
+pub texts_refused : {A : Type 0} (bytes : Bytes) (inner : MsfFault) (outer : PdbFault A) → outer ≡ of_msf inner → TextsRefuse bytes inner → IsLayoutFaultRead bytes outer ⊎ (outer ≡ fault.Memory)
+texts_refused bytes msf.Memory outer made refused = inr made
+texts_refused bytes inner outer made refused = inl (rw made refused)
 
 -- bytes of stream 2 that are refused
-pub bytes_refused : {A : Type 0} (layout : LayoutView) (stream : List ℕ) (inner : TpiFault) (outer : PdbFault A) → WasRead layout 2 stream → outer ≡ of_tpi inner
-    → IsFirstFault stream inner ⊎ ((inner ≡ tpi.Memory) × ((records : List (List ℕ)) × HasRecords stream records)) → HasStreamFaultRead layout outer ⊎ (outer ≡ fault.Memory)
-bytes_refused layout stream tpi.Memory outer read made refused = inr made
-bytes_refused layout stream inner outer read made (inl first) = inl (rw made (stream, read, first))
-bytes_refused layout stream inner outer read made (inr want) = inr (made ∙ ap of_tpi want.0)
+pub bytes_refused : {A : Type 0} (bytes : Bytes) (layout : LayoutView) (stream : List ℕ) (inner : TpiFault) (outer : PdbFault A) → WasRead bytes layout 2 stream → outer ≡ of_tpi inner
+    → IsFirstFault stream inner ⊎ ((inner ≡ tpi.Memory) × ((records : List (List ℕ)) × HasRecords stream records)) → HasStreamFaultRead bytes layout outer ⊎ (outer ≡ fault.Memory)
+bytes_refused bytes layout stream tpi.Memory outer read made refused = inr made
+bytes_refused bytes layout stream inner outer read made (inl first) = inl (rw made (stream, read, first))
+bytes_refused bytes layout stream inner outer read made (inr want) = inr (made ∙ ap of_tpi want.0)
 
 -- records that are no types
-pub types_refused : {A : Type 0} (layout : LayoutView) (inner : PdbFault A) → ListsLongInfo layout → HasTypeFaultRead layout inner ⊎ (inner ≡ fault.Memory) → HasPdbFaultRead layout inner ⊎ (inner ≡ fault.Memory)
-types_refused layout inner info (inl first) = inl (inr (info, inr first))
-types_refused layout inner info (inr want) = inr want
+pub types_refused : {A : Type 0} (bytes : Bytes) (layout : LayoutView) (inner : PdbFault A) → ListsLongInfo layout → HasTypeFaultRead bytes layout inner ⊎ (inner ≡ fault.Memory) → HasPdbFaultRead bytes layout inner ⊎ (inner ≡ fault.Memory)
+types_refused bytes layout inner info (inl first) = inl (inr (info, inr first))
+types_refused bytes layout inner info (inr want) = inr want
 
 -- ---- what is added to a merge
 
 -- a fault of what was read for a layout hinders it
-pub fault_hinders : {A : Type 0} (before : List (List ℕ)) (limit : ℕ) (layout : LayoutView) (inner : PdbFault A) (outer : AddFault A) → outer ≡ of_pdb inner
-    → HasPdbFaultRead layout inner ⊎ (inner ≡ fault.Memory) → IsAddFaultRead before limit layout outer
-fault_hinders before limit layout fault.Memory outer made refused = rw made tt
-fault_hinders before limit layout inner outer made (inl refused) = rw made refused
-fault_hinders before limit layout inner outer made (inr want) = absurd cc
+pub fault_hinders : {A : Type 0} (before : List (List ℕ)) (limit : ℕ) (bytes : Bytes) (layout : LayoutView) (inner : PdbFault A) (outer : AddFault A) → outer ≡ of_pdb inner
+    → HasPdbFaultRead bytes layout inner ⊎ (inner ≡ fault.Memory) → IsAddFaultRead before limit bytes layout outer
+fault_hinders before limit bytes layout fault.Memory outer made refused = rw made tt
+fault_hinders before limit bytes layout inner outer made (inl refused) = rw made refused
+fault_hinders before limit bytes layout inner outer made (inr want) = absurd cc
 
 -- so does a fault of the union
-pub union_hinders : {A : Type 0} (before types : List (List ℕ)) (limit : ℕ) (layout : LayoutView) (inner : JoinFault) (outer : AddFault A) → TypesWereRead layout types → outer ≡ of_join inner
-    → ((bytes : ℕ) → inner ≡ join.TooLarge bytes → (limit < bytes) × ((l : List Tree) × IsUnion l before types × (weight l ≡ bytes))) → IsAddFaultRead before limit layout outer
-union_hinders before types limit layout (join.TooLarge bytes) outer read made large =
-    let u = large bytes refl in
-    rw made (types, read, union_weighs before types u.1.0 bytes u.1.1 u.1.2, u.0)
-union_hinders before types limit layout join.Memory outer read made large = rw made tt
+pub union_hinders : {A : Type 0} (before types : List (List ℕ)) (limit : ℕ) (bytes : Bytes) (layout : LayoutView) (inner : JoinFault) (outer : AddFault A) → TypesWereRead bytes layout types → outer ≡ of_join inner
+    → ((heavy : ℕ) → inner ≡ join.TooLarge heavy → (limit < heavy) × ((l : List Tree) × IsUnion l before types × (weight l ≡ heavy))) → IsAddFaultRead before limit bytes layout outer
+union_hinders before types limit bytes layout (join.TooLarge heavy) outer read made large =
+    let u = large heavy refl in
+    rw made (types, read, union_weighs before types u.1.0 heavy u.1.1 u.1.2, u.0)
+union_hinders before types limit bytes layout join.Memory outer read made large = rw made tt
 
 -- and a fault of the texts
-pub texts_hinder : {A : Type 0} (before : List (List ℕ)) (limit told : ℕ) (inner : PdbFault A) (outer : AddFault A) → outer ≡ of_pdb inner
-    → HasFaultOfTexts (HasPdbFaultRead {A = A}) told inner ⊎ (inner ≡ fault.Memory) → IsAddFaultOfTexts before limit told outer
-texts_hinder before limit told fault.Memory outer made refused = rw made (inl tt)
-texts_hinder before limit told inner outer made (inl (inl refused)) = rw made (inl refused)
-texts_hinder before limit told inner outer made (inl (inr (layout, has, refused))) = rw made (inr (layout, has, refused))
-texts_hinder before limit told inner outer made (inr want) = absurd cc
+pub texts_hinder : {A : Type 0} (before : List (List ℕ)) (limit : ℕ) (bytes : Bytes) (inner : PdbFault A) (outer : AddFault A) → outer ≡ of_pdb inner
+    → HasFaultOfTexts (HasPdbFaultRead {A = A}) bytes inner ⊎ (inner ≡ fault.Memory) → IsAddFaultOfTexts before limit bytes outer
+texts_hinder before limit bytes fault.Memory outer made refused = rw made (inl tt)
+texts_hinder before limit bytes inner outer made (inl (inl refused)) = rw made (inl refused)
+texts_hinder before limit bytes inner outer made (inl (inr (layout, has, refused))) = rw made (inr (layout, has, refused))
+texts_hinder before limit bytes inner outer made (inr want) = absurd cc

@@ -1,18 +1,11 @@
 -- The streams that a file has on the way to its types.
-use Rattle.std.proofs.Common.{Bor, ◌≡◌, ℕ, ◌+◌, ◌<◌, ◌≤◌, List, [], ◌∷◌, Option, Some, None, length, get_or, refl, ◌∙◌, arith, inl, inr, length-append}
-use Rattle.std.specs.Prelude.{slice_get, option_map, unwrap_or, nat_le, Bool, true, false}
-use Rattle.std.specs.Iterator.{YieldsFirstRef}
-use Rattle.std.proofs.lemmas.Bool.{leb-false}
-use Rattle.byte_fields.specs.Check.{first_failing}
-use Rattle.pdb_info.specs.Header.{header_checks}
-use Rattle.pdb_info.specs.declared.fault.InfoFault.{InfoFault}
-use Rattle.pdb_info.specs.declared.fault.InfoFault.TheVariants.{InfoShort}
+use Rattle.std.proofs.Common.{◌≡◌, ℕ, ◌+◌, ◌<◌, ◌≤◌, List, Option, Some, None, length, refl, ◌∙◌, arith, inl, inr}
+use Rattle.std.specs.Prelude.{slice_get, option_map}
 use Rattle.std.proofs.lemmas.Option.{slice_get_cases}
 use Rattle.std.proofs.lemmas.List.FromFn.{length-map-range_with_len}
 use Rattle.msf_blocks.specs.Directory.{Listed, bytes_of}
 use Rattle.msf_blocks.specs.Layout.{LayoutView}
-use Rattle.std.specs.List.{concat}
-use Rattle.msf_streams.specs.Streams.{FirstIsLong, stream_contents, listed_contents, gathered}
+use Rattle.msf_streams.specs.Streams.{stream_contents, listed_contents, gathered}
 use Rattle.pdb_merge.specs.Read.{HasLongInfo, HasShortInfo, ListsLongInfo}
 
 length-text : (file : List ℕ) (block_size : ℕ) (stream : Listed) → length (listed_contents file block_size stream) ≡ bytes_of stream.size
@@ -60,27 +53,3 @@ is_listed file layout s text is = elim (slice_get_cases layout.streams s).1 [
   | inl (stream, lt, e, at) ↦ lt
   | inr (le, e) ↦ let none = rw e at is in absurd cc
 ]
-
--- ---- the header in the first piece
-
--- the header is in the first piece exactly where it is in the stream
-pub header_there : (pieces : List (List ℕ)) → FirstIsLong pieces → (28 ≤ length (get_or pieces 0 []) → 28 ≤ length (concat pieces)) × (length (get_or pieces 0 []) < 28 → length (concat pieces) < 28)
-header_there [] long = (λ le. omega (arith, le), λ lt. omega arith)
-header_there (first ∷ others) (inl long) = (λ le. omega (arith, le, length-append first (concat others)), λ lt. omega (arith, lt, long))
-header_there (first ∷ others) (inr whole) = (λ le. omega (arith, le, whole), λ lt. omega (arith, lt, whole))
-
--- the piece that is read first is the first of the pieces, or it is empty
-pub first_piece : (pieces later : List (List ℕ)) (found : Option (Bor (List ℕ))) (none first : Bor (List ℕ)) → YieldsFirstRef (λ (s : List (List ℕ)). s) pieces found later → none.now ≡ [] → first ≡ unwrap_or found none
-    → first.now ≡ get_or pieces 0 []
-first_piece pieces later None none first steps empty is = rw (is, steps.0) empty
-first_piece pieces later (Some piece) none first steps empty is = rw (is, steps) refl
-
--- the test of a header fails where there are fewer than 28 bytes
-header_fails : (long : Bool) (n : ℕ) (fault : InfoFault) → nat_le 28 n ≡ long → first_failing (record { holds = long; fault = InfoShort } ∷ []) ≡ Some fault → (n < 28) × (fault ≡ InfoShort)
-header_fails true n fault e refused = absurd cc
-header_fails false n fault e refused = (leb-false 28 n e, cc)
-
--- a header is refused where there are fewer than 28 bytes
-pub short_header : (bytes : List ℕ) (fault : InfoFault) → first_failing (header_checks bytes) ≡ Some fault → (length bytes < 28) × (fault ≡ InfoShort)
-unfolding header_checks
-short_header bytes fault refused = header_fails (nat_le 28 (length bytes)) (length bytes) fault refl refused

@@ -3,6 +3,7 @@ use Rattle.std.specs.Prelude.{ℕ, ◌≡◌, ◌<◌, ◌≤◌, ◌⊎◌, Lis
 use Rattle.msf_streams.specs.declared.fault.StreamFault.TheVariants.{NoStream}
 use Rattle.byte_fields.specs.Bytes.{AreBytes}
 use Rattle.byte_fields.specs.Check.{first_failing}
+use Rattle.byte_io.specs.At.{Bytes}
 use Rattle.msf_blocks.specs.Directory.{Listed, bytes_of}
 use Rattle.msf_blocks.specs.Layout.{LayoutView, HasLayout, HasTexts, TextsRefuse, layout_checks}
 use Rattle.msf_streams.specs.Streams.{WasRead, stream_contents}
@@ -45,17 +46,17 @@ pub record IsAccepted (file : List ℕ) (records : List (List ℕ)) : Type 0 whe
   pub info : HasLongInfo file has.layout
   pub types : AreTypes records
 
--- these records were read for this layout: they are those of the bytes that were read for its stream 2
-abbrev pub RecordsWereRead : LayoutView → List (List ℕ) → Type 0
-RecordsWereRead layout records = (stream : List ℕ) × WasRead layout 2 stream × HasRecords stream records
+-- reads gave these records: they are those of the text that reads gave of stream 2 of this layout
+abbrev pub RecordsWereRead : Bytes → LayoutView → List (List ℕ) → Type 0
+RecordsWereRead bytes layout records = (stream : List ℕ) × WasRead bytes layout 2 stream × HasRecords stream records
 
 -- the layout lists a stream 1 of at least 28 bytes
 abbrev pub ListsLongInfo : LayoutView → Type 0
 ListsLongInfo layout = (info : Listed) × (slice_get layout.streams 1 ≡ Some info) × (28 ≤ bytes_of info.size)
 
--- these types were read for this layout: it lists a long enough stream 1, and the records that were read are types
-abbrev pub TypesWereRead : LayoutView → List (List ℕ) → Type 0
-TypesWereRead layout records = RecordsWereRead layout records × ListsLongInfo layout × AreTypes records
+-- reads gave these types: the layout lists a long enough stream 1, and the records that reads gave are types
+abbrev pub TypesWereRead : Bytes → LayoutView → List (List ℕ) → Type 0
+TypesWereRead bytes layout records = RecordsWereRead bytes layout records × ListsLongInfo layout × AreTypes records
 
 -- this is the fault of stream 1: it is missing, or it is too short
 abbrev pub HasInfoFault : {A : Type 0} → List ℕ → LayoutView → PdbFault A → Type 0
@@ -85,7 +86,7 @@ HasPdbFault file (fault.Msf inner) = first_failing (layout_checks file) ≡ Some
 HasPdbFault file (fault.Type inner) = (records : List (List ℕ)) × (has : HasTypeRecords file records) × HasLongInfo file has.layout × HasTypeFault records inner
 HasPdbFault file inner = (layout : LayoutView) × HasLayout file layout × (HasInfoFault file layout inner ⊎ (HasLongInfo file layout × HasStreamFault file layout inner))
 
--- ---- files whose bytes need not be known: the first faults of texts
+-- ---- files whose bytes need not be known: the first faults of what reads gave
 
 -- the layout refuses its stream 1: it is missing, or it is too short
 abbrev pub HasInfoFaultRead : {A : Type 0} → LayoutView → PdbFault A → Type 0
@@ -93,26 +94,26 @@ HasInfoFaultRead layout (fault.Stream inner) = (length layout.streams ≤ 1) × 
 HasInfoFaultRead layout (fault.Info inner) = (info : Listed) × (slice_get layout.streams 1 ≡ Some info) × (bytes_of info.size < 28) × (inner ≡ InfoShort)
 HasInfoFaultRead layout _ = ⊥
 
--- stream 2 of this layout has this fault: it is missing, or it is the first fault of bytes that are as many as it has
-abbrev pub HasStreamFaultRead : {A : Type 0} → LayoutView → PdbFault A → Type 0
-HasStreamFaultRead layout (fault.Stream inner) = (length layout.streams ≤ 2) × (inner ≡ NoStream 2)
-HasStreamFaultRead layout (fault.Tpi inner) = (stream : List ℕ) × WasRead layout 2 stream × IsFirstFault stream inner
-HasStreamFaultRead layout _ = ⊥
+-- stream 2 of this layout has this fault: it is missing, or it is the first fault of the text that reads gave of it
+abbrev pub HasStreamFaultRead : {A : Type 0} → Bytes → LayoutView → PdbFault A → Type 0
+HasStreamFaultRead bytes layout (fault.Stream inner) = (length layout.streams ≤ 2) × (inner ≡ NoStream 2)
+HasStreamFaultRead bytes layout (fault.Tpi inner) = (stream : List ℕ) × WasRead bytes layout 2 stream × IsFirstFault stream inner
+HasStreamFaultRead bytes layout _ = ⊥
 
--- there are records for this layout whose first fault this is, as types
-abbrev pub HasTypeFaultRead : {A : Type 0} → LayoutView → PdbFault A → Type 0
-HasTypeFaultRead layout (fault.Type inner) = (records : List (List ℕ)) × RecordsWereRead layout records × HasTypeFault records inner
-HasTypeFaultRead layout _ = ⊥
+-- reads gave records of this layout whose first fault this is, as types
+abbrev pub HasTypeFaultRead : {A : Type 0} → Bytes → LayoutView → PdbFault A → Type 0
+HasTypeFaultRead bytes layout (fault.Type inner) = (records : List (List ℕ)) × RecordsWereRead bytes layout records × HasTypeFault records inner
+HasTypeFaultRead bytes layout _ = ⊥
 
 -- this is the first fault on the way to the types of this layout: one of stream 1, else of stream 2, else of a record, else a cycle of records
-abbrev pub HasPdbFaultRead : {A : Type 0} → LayoutView → PdbFault A → Type 0
-HasPdbFaultRead layout inner = HasInfoFaultRead layout inner ⊎ (ListsLongInfo layout × (HasStreamFaultRead layout inner ⊎ HasTypeFaultRead layout inner))
+abbrev pub HasPdbFaultRead : {A : Type 0} → Bytes → LayoutView → PdbFault A → Type 0
+HasPdbFaultRead bytes layout inner = HasInfoFaultRead layout inner ⊎ (ListsLongInfo layout × (HasStreamFaultRead bytes layout inner ⊎ HasTypeFaultRead bytes layout inner))
 
--- there are texts of a container, which is said to have so many bytes, with this fault of its layout
-abbrev pub IsLayoutFaultRead : {A : Type 0} → ℕ → PdbFault A → Type 0
-IsLayoutFaultRead told (fault.Msf inner) = TextsRefuse told inner
-IsLayoutFaultRead told _ = ⊥
+-- reads gave texts of a container with this fault of its layout
+abbrev pub IsLayoutFaultRead : {A : Type 0} → Bytes → PdbFault A → Type 0
+IsLayoutFaultRead bytes (fault.Msf inner) = TextsRefuse bytes inner
+IsLayoutFaultRead bytes _ = ⊥
 
--- there are texts with this fault: those of a layout have it, or else what was read for that layout
-abbrev pub HasFaultOfTexts : {A : Type 0} → (LayoutView → PdbFault A → Type 0) → ℕ → PdbFault A → Type 0
-HasFaultOfTexts Refuses told inner = IsLayoutFaultRead told inner ⊎ ((layout : LayoutView) × HasTexts told layout × Refuses layout inner)
+-- reads gave texts with this fault: those of the layout have it, or else what reads gave of its streams
+abbrev pub HasFaultOfTexts : {A : Type 0} → (Bytes → LayoutView → PdbFault A → Type 0) → Bytes → PdbFault A → Type 0
+HasFaultOfTexts Refuses bytes inner = IsLayoutFaultRead bytes inner ⊎ ((layout : LayoutView) × HasTexts bytes layout × Refuses bytes layout inner)

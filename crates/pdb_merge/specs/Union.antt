@@ -1,6 +1,7 @@
 -- The types of a list of files, and when they can be merged.
 use Rattle.std.specs.Prelude.{ℕ, ◌≡◌, ◌≢◌, ◌+◌, ◌<◌, ◌≤◌, ◌⊎◌, ◌↔◌, List, [], Result, length, get_or}
 use Rattle.std.specs.List.{AllPairs, Contains}
+use Rattle.byte_io.specs.At.{Bytes}
 use Rattle.byte_io.specs.Inputs.{CanRead, IsFirstUnread}
 use Rattle.byte_io.specs.declared.inputs.InputFault.{InputFault}
 use Rattle.type_trees.specs.Tree.{Tree, IsType}
@@ -61,12 +62,12 @@ pub record AddsFile (before after : List (List ℕ)) (file : List ℕ) : Type 0 
   pub accepted : IsAccepted file records
   pub types : (t : Tree) → IsType after t ↔ (IsType before t ⊎ IsType records t)
 
--- `after` has the types of `before` and those that were read, of a container that is said to have so many bytes: the texts of a layout, and the records of its stream 2
-pub record AddsTexts (before after : List (List ℕ)) (told : ℕ) : Type 0 where
+-- `after` has the types of `before` and those that reads gave: the texts of a layout, and the records of its stream 2
+pub record AddsTexts (before after : List (List ℕ)) (bytes : Bytes) : Type 0 where
   pub layout : LayoutView
-  pub has_texts : HasTexts told layout
+  pub has_texts : HasTexts bytes layout
   pub records : List (List ℕ)
-  pub were_read : TypesWereRead layout records
+  pub were_read : TypesWereRead bytes layout records
   pub types : (t : Tree) → IsType after t ↔ (IsType before t ⊎ IsType records t)
 
 -- this is why the file is not added to the types of `before`: it is not accepted, or the union has `bytes` bytes, more than the limit, or it is out of memory
@@ -76,22 +77,22 @@ IsAddFault before limit file (add.TooLarge bytes) =
     (records : List (List ℕ)) × IsAccepted file records × Weighs (λ t. IsType before t ⊎ IsType records t) bytes × (limit < bytes)
 IsAddFault before limit file add.Memory = Unit {0}
 
--- this is why what was read for this layout is not added to the types of `before`: it has this fault, or the union has `bytes` bytes, more than the limit, or it is out of memory
-abbrev pub IsAddFaultRead : {A : Type 0} → List (List ℕ) → ℕ → LayoutView → AddFault A → Type 0
-IsAddFaultRead before limit layout (add.Refused fault) = HasPdbFaultRead layout fault
-IsAddFaultRead before limit layout (add.TooLarge bytes) =
-    (records : List (List ℕ)) × TypesWereRead layout records × Weighs (λ t. IsType before t ⊎ IsType records t) bytes × (limit < bytes)
-IsAddFaultRead before limit layout add.Memory = Unit {0}
+-- this is why what reads gave of this layout is not added to the types of `before`: it has this fault, or the union has `heavy` bytes, more than the limit, or it is out of memory
+abbrev pub IsAddFaultRead : {A : Type 0} → List (List ℕ) → ℕ → Bytes → LayoutView → AddFault A → Type 0
+IsAddFaultRead before limit bytes layout (add.Refused fault) = HasPdbFaultRead bytes layout fault
+IsAddFaultRead before limit bytes layout (add.TooLarge heavy) =
+    (records : List (List ℕ)) × TypesWereRead bytes layout records × Weighs (λ t. IsType before t ⊎ IsType records t) heavy × (limit < heavy)
+IsAddFaultRead before limit bytes layout add.Memory = Unit {0}
 
--- there are texts of a container, which is said to have so many bytes, with this fault of its layout
-abbrev pub IsLayoutAddFault : {A : Type 0} → ℕ → AddFault A → Type 0
-IsLayoutAddFault told (add.Refused fault) = IsLayoutFaultRead told fault
-IsLayoutAddFault told (add.TooLarge bytes) = ⊥
-IsLayoutAddFault told add.Memory = Unit {0}
+-- reads gave texts of a container with this fault of its layout
+abbrev pub IsLayoutAddFault : {A : Type 0} → Bytes → AddFault A → Type 0
+IsLayoutAddFault bytes (add.Refused fault) = IsLayoutFaultRead bytes fault
+IsLayoutAddFault bytes (add.TooLarge heavy) = ⊥
+IsLayoutAddFault bytes add.Memory = Unit {0}
 
--- this is why texts are not added to the types of `before`: those of a layout have this fault, or else what was read for that layout
-abbrev pub IsAddFaultOfTexts : {A : Type 0} → List (List ℕ) → ℕ → ℕ → AddFault A → Type 0
-IsAddFaultOfTexts before limit told fault = IsLayoutAddFault told fault ⊎ ((layout : LayoutView) × HasTexts told layout × IsAddFaultRead before limit layout fault)
+-- this is why what reads gave is not added to the types of `before`: the texts of the layout have this fault, or else what reads gave of its streams
+abbrev pub IsAddFaultOfTexts : {A : Type 0} → List (List ℕ) → ℕ → Bytes → AddFault A → Type 0
+IsAddFaultOfTexts before limit bytes fault = IsLayoutAddFault bytes fault ⊎ ((layout : LayoutView) × HasTexts bytes layout × IsAddFaultRead before limit bytes layout fault)
 
 -- ---- a list of files
 

@@ -2,7 +2,7 @@
 
 ghost use Rattle.std.specs.Prelude.{◌≡◌, ◌⊎◌, ◌↔◌, ◌++◌, [], ◌∷◌, ℕ, List, None, length, IfOk, IfErr};
 ghost use Rattle.byte_fields.specs.Check.{first_failing};
-ghost use Rattle.byte_io.specs.At.{Breaks, IfKnown, IfOf};
+ghost use Rattle.byte_io.specs.At.{Breaks, Bytes, IfKnown, IfOf};
 ghost use Rattle.msf_blocks.specs.Layout.{LayoutView, layout_checks};
 ghost use Rattle.type_trees.specs.Check.{AreTypes};
 ghost use Rattle.type_trees.specs.Tree.{Tree, IsType};
@@ -63,7 +63,7 @@ impl<S: BuildHasher, A: Allocator + Copy> Merge<S, A> {
         ensures limit { self.new.limit ≡ self.old.limit }
         ensures kept { IfErr result (λ _. self.new ≡ self.old) }
         ensures first { (file : List ℕ) → ListsTypes file records.entry → IfErr result (IsAddFault self.old.types self.old.limit file) }
-        ensures refused { (layout : LayoutView) → RecordsWereRead layout records.entry → ListsLongInfo layout → IfErr result (IsAddFaultRead self.old.types self.old.limit layout) }
+        ensures refused { (bytes : Bytes) (layout : LayoutView) → RecordsWereRead bytes layout records.entry → ListsLongInfo layout → IfErr result (IsAddFaultRead self.old.types self.old.limit bytes layout) }
         ensures named { IfErr result AddNamesFault }
     {
         if self.table.add_records(alloc, &records, self.limit) {
@@ -101,12 +101,12 @@ impl<S: BuildHasher, A: Allocator + Copy> Merge<S, A> {
     ) -> Result<(), AtFault<AddFault<A>>>
         ensures keeps { R.bytes input.new ≡ R.bytes input.old }
         ensures value { IfOk result (λ _. IfKnown (R.bytes input.old) (λ file. AddsFile self.old.types self.new.types file)) }
-        ensures texts { IfOk result (λ _. AddsTexts self.old.types self.new.types (R.told input.old)) }
+        ensures texts { IfOk result (λ _. AddsTexts self.old.types self.new.types (R.bytes input.old)) }
         ensures within { IfOk result (λ _. Within (IsType self.new.types) self.new.limit) }
         ensures limit { self.new.limit ≡ self.old.limit }
         ensures kept { IfErr result (λ _. self.new ≡ self.old) }
         ensures first { IfErr result (IfOf (λ fault. IfKnown (R.bytes input.old) (λ file. IsAddFault self.old.types self.old.limit file fault))) }
-        ensures refused { IfErr result (IfOf (IsAddFaultOfTexts self.old.types self.old.limit (R.told input.old))) }
+        ensures refused { IfErr result (IfOf (IsAddFaultOfTexts self.old.types self.old.limit (R.bytes input.old))) }
         ensures named { IfErr result (IfOf AddNamesFault) }
         ensures memory { IfErr result (IfOf (λ fault. fault ≡ AddFault.Memory → IfKnown (R.bytes input.old) (λ file. first_failing (layout_checks file) ≡ None))) }
         ensures read { IfErr result (λ fault. fault ≡ AtFault.Read → Breaks (R.bytes input.old) (R.is_broken input.new)) }
@@ -163,14 +163,14 @@ impl<S: BuildHasher, A: Allocator + Copy> Merge<S, A> {
     ) -> Result<(), AtFault<AddFault<A>>>
         ensures keeps { R.bytes input.new ≡ R.bytes input.old }
         ensures value { IfOk result (λ _. IfKnown (R.bytes input.old) (λ file. AddsFile self.old.types self.new.types file)) }
-        // Whatever is known of the file, the merge has taken the types of the texts that were read.
-        ensures texts { IfOk result (λ _. AddsTexts self.old.types self.new.types (R.told input.old)) }
+        // Whatever is known of the file, the merge has taken the types of texts that reads gave.
+        ensures texts { IfOk result (λ _. AddsTexts self.old.types self.new.types (R.bytes input.old)) }
         ensures within { IfOk result (λ _. Within (IsType self.new.types) self.new.limit) }
         ensures limit { self.new.limit ≡ self.old.limit }
         ensures kept { IfErr result (λ _. self.new ≡ self.old) }
         ensures first { IfErr result (IfOf (λ fault. IfKnown (R.bytes input.old) (λ file. IsAddFault self.old.types self.old.limit file fault))) }
-        // Whatever is known of the file, a fault is that of the texts that were read.
-        ensures refused { IfErr result (IfOf (IsAddFaultOfTexts self.old.types self.old.limit (R.told input.old))) }
+        // Whatever is known of the file, a fault is that of texts that reads gave.
+        ensures refused { IfErr result (IfOf (IsAddFaultOfTexts self.old.types self.old.limit (R.bytes input.old))) }
         ensures named { IfErr result (IfOf AddNamesFault) }
         // Out of memory comes only where the container has no fault.
         ensures memory { IfErr result (IfOf (λ fault. fault ≡ AddFault.Memory → IfKnown (R.bytes input.old) (λ file. first_failing (layout_checks file) ≡ None))) }

@@ -2,90 +2,16 @@
 
 ghost use Rattle.std.specs.Prelude.{◌≡◌, ◌⊎◌, ◌*◌, ◌≤◌, ℕ, List, None, length, OnOk, IfOk, IfErr};
 ghost use Rattle.byte_fields.specs.Check.{first_failing};
+ghost use Rattle.byte_io.specs.At.{Bytes};
 ghost use Rattle.msf_blocks.specs.Layout.{LayoutView, layout_checks};
 ghost use Rattle.type_trees.specs.Check.{AreTypes};
 ghost use Rattle.pdb_merge.specs.Read.{ListsTypes, IsAccepted, HasPdbFault, HasTypeRecords, ListsRecords, HasRecordsFault, HasStreamFault, HasLongInfo, HasInfoFault, RecordsWereRead, HasTypeFaultRead};
 
 use crate::buffer::Buffer;
 use crate::fault::PdbFault;
-use msf_blocks::Layout;
-use msf_streams::{StreamFault, contents, pieces};
-use pdb_info::InfoHeader;
 use std::alloc::Allocator;
 use tpi_records::Records;
 use type_trees::Types;
-
-/// The stream that identifies a file.
-pub(crate) const INFO_STREAM: u32 = 1;
-
-/// The stream that holds the type records.
-pub(crate) const TPI_STREAM: u32 = 2;
-
-/// Reads the header of stream 1. It is in the first piece of the stream, because a block has at
-/// least 512 bytes.
-fn read_info<A: Allocator>(file: &[u8], layout: &Layout<A>) -> Result<InfoHeader, PdbFault<A>>
-    requires { layout.now.superblock.num_blocks * layout.now.superblock.block_size ≤ length file.now }
-    ensures value { OnOk result (HasLongInfo file.now layout.now) }
-    ensures first { IfErr result (HasInfoFault file.now layout.now) }
-{
-    let Some(mut pieces) = pieces(file, layout, INFO_STREAM) else {
-        return Err(PdbFault::Stream(StreamFault::NoStream(INFO_STREAM)));
-    };
-    let first = pieces.next().unwrap_or(&[]);
-    Ok(InfoHeader::read(first)?)
-}
-
-impl<A: Allocator + Copy> Buffer<A> {
-    /// Drops the bytes of the buffer.
-    fn clear(&mut self) {
-        self.bytes = Vec::new(self.alloc);
-    }
-
-    /// Lends the records of stream 2 of a file with this layout. The buffer takes the bytes of the
-    /// stream only where its blocks are not consecutive.
-    fn stream_records<'a>(
-        &'a mut self,
-        alloc: A,
-        file: &'a [u8],
-        layout: &Layout<A>,
-    ) -> Result<Records<'a, A>, PdbFault<A>>
-        requires { layout.now.superblock.num_blocks * layout.now.superblock.block_size ≤ length file.now }
-        ensures value { IfOk result (ListsRecords file.now layout.now) }
-        ensures first { IfErr result (λ fault. HasStreamFault file.now layout.now fault ⊎ (fault ≡ PdbFault.Memory)) }
-    {
-        let stream = contents(self.alloc, file, layout, TPI_STREAM, &mut self.bytes)?;
-        Ok(Records::read(alloc, stream)?)
-    }
-
-    /// Drops the bytes of the buffer, and lends the records of a file.
-    fn records<'a>(&'a mut self, alloc: A, file: &'a [u8]) -> Result<Records<'a, A>, PdbFault<A>>
-        ensures value { IfOk result (HasTypeRecords file.now) }
-        ensures first { IfErr result (λ fault. HasRecordsFault file.now fault ⊎ (fault ≡ PdbFault.Memory)) }
-        ensures memory { IfErr result (λ fault. fault ≡ PdbFault.Memory → first_failing (layout_checks file.now) ≡ None) }
-    {
-        self.clear();
-        let layout = Layout::read(alloc, file)?;
-        self.stream_records(alloc, file, &layout)
-    }
-
-    /// Drops the bytes of the buffer, and lends the records of a file whose stream 1 has a header.
-    /// They are not checked yet.
-    pub(crate) fn listed<'a>(
-        &'a mut self,
-        alloc: A,
-        file: &'a [u8],
-    ) -> Result<Records<'a, A>, PdbFault<A>>
-        ensures value { IfOk result (ListsTypes file.now) }
-        ensures first { IfErr result (λ fault. HasPdbFault file.now fault ⊎ (fault ≡ PdbFault.Memory)) }
-        ensures memory { IfErr result (λ fault. fault ≡ PdbFault.Memory → first_failing (layout_checks file.now) ≡ None) }
-    {
-        self.clear();
-        let layout = Layout::read(alloc, file)?;
-        read_info(file, &layout)?;
-        let records = self.stream_records(alloc, file, &layout)?;
-        Ok(records)
-    }
-}
 
 /// Checks the records that a file lists.
 pub(crate) fn check_types<'a, A: Allocator + Copy>(
@@ -95,7 +21,7 @@ pub(crate) fn check_types<'a, A: Allocator + Copy>(
     ensures value { (file : List ℕ) → ListsTypes file records.entry → IfOk result (IsAccepted file) }
     ensures types { IfOk result (λ types. (types ≡ records.entry) × AreTypes types) }
     ensures first { (file : List ℕ) → ListsTypes file records.entry → IfErr result (λ fault. HasPdbFault file fault ⊎ (fault ≡ PdbFault.Memory)) }
-    ensures refused { (layout : LayoutView) → RecordsWereRead layout records.entry → IfErr result (λ fault. HasTypeFaultRead layout fault ⊎ (fault ≡ PdbFault.Memory)) }
+    ensures refused { (bytes : Bytes) (layout : LayoutView) → RecordsWereRead bytes layout records.entry → IfErr result (λ fault. HasTypeFaultRead bytes layout fault ⊎ (fault ≡ PdbFault.Memory)) }
 {
     Ok(Types::check(alloc, records)?)
 }

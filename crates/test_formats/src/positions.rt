@@ -1,7 +1,8 @@
 //! Files that are read by position: what is read, reads that fail, a file that changes, and refused
 //! memory.
 
-ghost use Rattle.std.specs.Prelude.{None, length};
+ghost use Rattle.std.specs.Prelude.{length};
+ghost use Rattle.byte_io.specs.At.{unknown};
 
 use byte_io::{AtFault, ReadAt};
 use linked_list_allocator::LocalHeap;
@@ -171,9 +172,7 @@ impl Changing<'_> {
 }
 
 impl ReadAt for Changing<'_> {
-    ghost bytes = { λ _. None };
-
-    ghost told = { λ s. length s.bytes.now };
+    ghost bytes = { λ s. unknown (length s.bytes.now) };
 
     ghost is_broken = { λ s. s.broken };
 

@@ -1,6 +1,7 @@
 //! A file that is read by position.
 
-ghost use Rattle.std.specs.Prelude.{None, length};
+ghost use Rattle.std.specs.Prelude.{length};
+ghost use Rattle.byte_io.specs.At.{unknown};
 
 use byte_io::ReadAt;
 
@@ -33,9 +34,7 @@ impl<'a> Positions<'a> {
 }
 
 impl ReadAt for Positions<'_> {
-    ghost bytes = { λ _. None };
-
-    ghost told = { λ s. length s.bytes.now };
+    ghost bytes = { λ s. unknown (length s.bytes.now) };
 
     ghost is_broken = { λ s. s.broken };
 

@@ -5,6 +5,7 @@ use Rattle.byte_io.specs.At.{StandsAt}
 use Rattle.msf_blocks.specs.BlockNumber.{blocks_for}
 use Rattle.msf_blocks.proofs.SizeLaws.{size_facts, some_bytes, few_for}
 use Rattle.msf_blocks.proofs.BlocksLaws.{run_facts, run_inside, run_step, blocks_none, all_bytes}
+use Rattle.msf_blocks.proofs.GivenLaws.{none_given, given_run}
 use Rattle.msf_blocks.proofs.blocks.read_blocks.Goals as goal
 
 pub loop-position-init : goal.loop-position-init
@@ -16,6 +17,7 @@ loop-position-init g c =
       upto = omega arith;
       len = ap length none ∙ sym zero;
       value = λ file known. rw zero (none ∙ sym (blocks_none file c.args.block_size c.args.blocks.now));
+      given = none_given (g.R.ReadAt.bytes c.args.input.now) c.args.block_size c.args.blocks.now _ none;
     }
 
 pub run_len-run-requires-clause-some : goal.run_len-run-requires-clause-some
@@ -72,6 +74,7 @@ loop-position-preserved g c =
           let long : length piece ≡ c.min-count.result = omega (arith, length-take c.min-count.result (drop (get_or blocks position 0 * b) file), length-drop (get_or blocks position 0 * b) file, inside) in
           let stands : StandsAt file (get_or blocks position 0 * b) piece = record { inside = omega (arith, long, inside); is = rw long refl } in
           rw (c.from.ensures, c.from-in-loop-position.ensures) at (more.value file (i.keeps ∙ known)) ∙ run_step file blocks b size position run c.loop-position.buffer.items piece (some_bytes b c.requires.size) facts c.run_len-run.ensures.side (long ∙ n) (i.value file known) stands;
+      given = given_run (g.R.ReadAt.bytes c.args.input.now) b size blocks position run c.loop-position.buffer.items c.read_more.new.buffer.items (some_bytes b c.requires.size) facts c.run_len-run.ensures.side i.len (omega (arith, more.len, n)) i.given (rw (c.from.ensures, c.from-in-loop-position.ensures, i.keeps) at more.given);
     }
 
 pub returns-clause-len : goal.returns-clause-len

@@ -1,6 +1,6 @@
 use Rattle.std.proofs.Common.{◌≡◌, ◌≤◌, ◌-◌, ◌*◌, min, length}
 use Rattle.byte_io.specs.At.{IfKnown}
-use Rattle.msf_blocks.specs.Blocks.{in_blocks}
+use Rattle.msf_blocks.specs.Blocks.{AreGivenIn, in_blocks}
 use Rattle.msf_blocks.proofs.blocks.read_blocks.Given as goal
 
 abbrev pub invariant-loop-position : goal.invariant-loop-position
@@ -9,6 +9,7 @@ invariant-loop-position g l = record {
   upto : l.position ≤ length l.blocks;
   len : length l.buffer.items ≡ min (l.position * l.block_size) l.size;
   value : IfKnown (g.R.ReadAt.bytes l.initial.input) (λ file. l.buffer.items ≡ in_blocks file l.block_size l.blocks (min (l.position * l.block_size) l.size));
+  given : AreGivenIn (g.R.ReadAt.bytes l.initial.input) l.block_size l.blocks l.buffer.items;
 }
 
 abbrev pub decreases-loop-position : goal.decreases-loop-position

@@ -4,6 +4,7 @@ use Rattle.byte_fields.proofs.CheckLaws.{checks_below-more, checks_below-stop, c
 use Rattle.msf_blocks.specs.BlockNumber.{is_ordinary}
 use Rattle.msf_blocks.specs.Directory.{directory_contents, stream_checks, stream_block_check, stream_blocks, list_start}
 use Rattle.msf_blocks.specs.declared.fault.MsfFault.TheVariants.{StreamBlock}
+use Rattle.msf_blocks.proofs.RefusedLaws.{more_blocks}
 use Rattle.msf_blocks.proofs.directory_at.check_stream.Goals as goal
 
 pub returns-then-not-is_ordinary-clause-first : goal.returns-then-not-is_ordinary-clause-first
@@ -31,6 +32,9 @@ loop-at-preserved g c =
           let n : c.in-Some.n ≡ nth_u32 contents (list_start fields.block_size contents c.args.stream + at) = rw (c.requires.start file known) at (c.in-Some.ensures.value file (i.keeps ∙ known)) in
           checks_below-more (stream_block_check fields contents c.args.stream) at (i.held file known)
           (check_holds (is_ordinary fields.num_blocks (nth_u32 contents (list_start fields.block_size contents c.args.stream + at))) _ (rw (← n) (grind arith)));
+      blocks =
+          let next : c.args.start + c.loop-at.at + 1 ≡ c.args.start + (c.loop-at.at + 1) = omega arith in
+          rw next at (more_blocks (g.R.ReadAt.bytes c.args.input.now) c.args.superblock.now c.args.start (c.args.start + c.loop-at.at) c.in-Some.n i.blocks (rw i.keeps at c.in-Some.ensures.given) (grind arith));
     }
 
 pub returns-clause-held : goal.returns-clause-held

@@ -1,7 +1,7 @@
 use Rattle.std.proofs.Common.{◌≡◌, ◌*◌, ◌≤◌, None}
 use Rattle.byte_fields.specs.Check.{first_failing, checks_below}
 use Rattle.byte_io.specs.At.{IfKnown}
-use Rattle.msf_blocks.specs.Directory.{HasSizes, directory_contents, list_start, stream_checks}
+use Rattle.msf_blocks.specs.Directory.{HasLists, directory_contents, list_start, stream_checks}
 use Rattle.msf_blocks.proofs.directory_at.check_streams.Given as goal
 
 abbrev pub invariant-loop-stream : goal.invariant-loop-stream
@@ -10,5 +10,5 @@ invariant-loop-stream g l = record {
   fits : 4 * l.start ≤ l.superblock.directory_bytes;
   start : IfKnown (g.R.ReadAt.bytes l.initial.input) (λ file. l.start ≡ list_start l.superblock.block_size (directory_contents file l.superblock) l.stream);
   held : IfKnown (g.R.ReadAt.bytes l.initial.input) (λ file. first_failing (checks_below l.stream (stream_checks l.superblock (directory_contents file l.superblock))) ≡ None);
-  sizes : HasSizes l.superblock.block_size l.streams l.stream l.start;
+  lists : HasLists (g.R.ReadAt.bytes l.initial.input) l.superblock l.fn.streams l.stream l.start;
 }

@@ -17,7 +17,12 @@ returns-in-Ok-clause-value g c = λ file known.
     let size : IsBlockSize fields.block_size = rw b at c.block_size.ensures.fits in
     rw (c.deref.ensures.value, m.value file known, b, c.directory_bytes-size.ensures.value) at (c.in-Ok.ensures.value file (m.keeps ∙ known)) ∙ map_contents file fields size
 
-pub returns-in-Ok-clause-map : goal.returns-in-Ok-clause-map
-returns-in-Ok-clause-map g c =
+pub returns-in-Ok-clause-texts : goal.returns-in-Ok-clause-texts
+returns-in-Ok-clause-texts g c =
     let m = c.in_ok-blocks.ensures in
-    (c.in_ok-blocks.blocks.items, m.len, m.sound)
+    record {
+      numbers = c.in_ok-blocks.blocks.items;
+      block_map = m.map;
+      given = rw (c.deref.ensures.value, c.block_size.ensures.value, m.keeps) at c.in-Ok.ensures.given;
+      count = c.in-Ok.ensures.len ∙ c.directory_bytes-size.ensures.value;
+    }

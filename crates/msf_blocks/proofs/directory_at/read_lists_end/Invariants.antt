@@ -8,5 +8,5 @@ invariant-loop-stream g l = record {
   keeps : g.R.ReadAt.bytes l.input ≡ g.R.ReadAt.bytes l.initial.input;
   few : l.end ≤ 2 ^ 33 + l.stream * 2 ^ 23;
   value : IfKnown (g.R.ReadAt.bytes l.initial.input) (λ file. l.end ≡ list_start l.superblock.block_size (directory_contents file l.superblock) l.stream);
-  sizes : HasSizes l.superblock.block_size l.streams l.stream l.end;
+  sizes : HasSizes (g.R.ReadAt.bytes l.initial.input) l.superblock l.fn.from l.stream l.fn.start l.end;
 }

@@ -8,6 +8,7 @@ use Rattle.msf_blocks.specs.Directory.{directory_checks, length_checks}
 use Rattle.msf_blocks.specs.Stream.{listed_of}
 use Rattle.msf_blocks.proofs.LayoutLaws.{superblock_fault, contents_fault, length_fault, stream_answer, directory_answer}
 use Rattle.msf_blocks.proofs.ListsLaws.{layout_is, lists_are_read, layout_fits_at}
+use Rattle.msf_blocks.proofs.GivenLaws.{directory_refuses}
 use Rattle.msf_blocks.proofs.layout.layout_at.Goals as goal
 
 pub returns-in_err-superblock-clause-first : goal.returns-in_err-superblock-clause-first
@@ -100,6 +101,7 @@ returns-clause-value g c = λ file known.
 
 pub returns-clause-texts : goal.returns-clause-texts
 returns-clause-texts g c =
+    let s = c.in_ok-superblock.ensures in
     let superblock = c.in_ok-superblock.superblock in
     let t = c.in_ok-contents.ensures in
     let d = c.gathered-directory.ensures in
@@ -107,16 +109,16 @@ returns-clause-texts g c =
     let is_contents = d.contents ∙ c.deref.ensures.value in
     let l = c.in_ok-streams.ensures in
     record {
-      front = c.in_ok-superblock.ensures.front;
-      block_map = t.map;
+      front = s.front;
       contents = contents;
-      count = t.len;
+      directory = rw s.keeps at t.texts;
       lists = lists_are_read superblock contents c.in_ok-streams.streams (map listed_of c.in_ok-streams-2.streams.items) (rw c.deref.ensures.value at d.small) (rw is_contents at l.streams) (rw (d.superblock, is_contents) at l.room)
           (rw (d.superblock, is_contents) at c.in_ok-check_streams.ensures) (rw (d.superblock, is_contents) at c.in_ok-streams-2.ensures.value);
     }
 
 pub returns-in_err-streams-clause-refused : goal.returns-in_err-streams-clause-refused
 returns-in_err-streams-clause-refused g c =
+    let s = c.in_ok-superblock.ensures in
     let superblock = c.in_ok-superblock.superblock in
     let t = c.in_ok-contents.ensures in
     let d = c.gathered-directory.ensures in
@@ -125,10 +127,11 @@ returns-in_err-streams-clause-refused g c =
     let inner = c.in_err-streams.field-0.0 in
     let p = err_from_is_err_and c.from_residual-in_err-streams.result c.from_residual-in_err-streams.ensures.1 in
     let first : first_failing (directory_checks superblock contents) ≡ Some inner = first_failing-append_some (length_checks superblock.block_size contents) _ inner (rw (d.superblock, is_contents) at c.in_err-streams.ensures.first) in
-    rw (p.1, p.2) (inr (superblock, c.in_ok-superblock.ensures.front, inr (t.map, (contents, t.len, inl first))))
+    rw (p.1, p.2) (inr (superblock, s.front, directory_refuses (g.R.ReadAt.bytes c.args.input.now) superblock contents inner s.fit.block_size_fits (rw s.keeps at t.texts) (inl first)))
 
 pub returns-in_err-check_streams-clause-refused : goal.returns-in_err-check_streams-clause-refused
 returns-in_err-check_streams-clause-refused g c =
+    let s = c.in_ok-superblock.ensures in
     let superblock = c.in_ok-superblock.superblock in
     let t = c.in_ok-contents.ensures in
     let d = c.gathered-directory.ensures in
@@ -137,10 +140,11 @@ returns-in_err-check_streams-clause-refused g c =
     let p = err_from_is_err_and c.from_residual-in_err-check_streams.result c.from_residual-in_err-check_streams.ensures.1 in
     let l = c.in_ok-streams.ensures in
     let first = directory_answer superblock contents c.in_ok-streams.streams (rw (d.superblock, is_contents) at l.first) (rw is_contents at l.streams) ∙ rw (d.superblock, is_contents) at c.in_err-check_streams.ensures in
-    rw (p.1, p.2) (inr (superblock, c.in_ok-superblock.ensures.front, inr (t.map, (contents, t.len, inl first))))
+    rw (p.1, p.2) (inr (superblock, s.front, directory_refuses (g.R.ReadAt.bytes c.args.input.now) superblock contents c.in_err-check_streams.field-0.0 s.fit.block_size_fits (rw s.keeps at t.texts) (inl first)))
 
 pub returns-in_err-streams-2-clause-refused : goal.returns-in_err-streams-2-clause-refused
 returns-in_err-streams-2-clause-refused g c =
+    let s = c.in_ok-superblock.ensures in
     let superblock = c.in_ok-superblock.superblock in
     let t = c.in_ok-contents.ensures in
     let d = c.gathered-directory.ensures in
@@ -149,4 +153,11 @@ returns-in_err-streams-2-clause-refused g c =
     let l = c.in_ok-streams.ensures in
     let p = err_from_is_err_and c.from_residual-in_err-streams-2.result c.from_residual-in_err-streams-2.ensures.1 in
     let none = directory_answer superblock contents c.in_ok-streams.streams (rw (d.superblock, is_contents) at l.first) (rw is_contents at l.streams) ∙ rw (d.superblock, is_contents) at c.in_ok-check_streams.ensures in
-    rw (p.1, p.2) (inr (superblock, c.in_ok-superblock.ensures.front, inr (t.map, (contents, t.len, inr (c.in_err-streams-2.ensures.memory, none)))))
+    rw (p.1, p.2) (inr (superblock, s.front, directory_refuses (g.R.ReadAt.bytes c.args.input.now) superblock contents c.in_err-streams-2.field-0.0 s.fit.block_size_fits (rw s.keeps at t.texts) (inr (c.in_err-streams-2.ensures.memory, none))))
+
+pub returns-in_err-contents-clause-refused : goal.returns-in_err-contents-clause-refused
+returns-in_err-contents-clause-refused g c =
+    let s = c.in_ok-superblock.ensures in
+    let superblock = c.in_ok-superblock.superblock in
+    let p = err_from_is_err_and c.from_residual-in_err-contents.result c.from_residual-in_err-contents.ensures.1 in
+    rw (p.1, p.2) (of_more _ _ c.in_err-contents.field-0.0 (λ inner is. inr (superblock, s.front, is)) (rw s.keeps at c.in_err-contents.ensures.refused))

@@ -1,6 +1,6 @@
 use Rattle.std.proofs.Common.{◌≡◌, ◌∙◌, refl, sym, ap, inr, Some, ℕ, List}
 use Rattle.msf_blocks.specs.Superblock.{Fields}
-use Rattle.msf_streams.proofs.AtLaws.{are_blocks}
+use Rattle.msf_streams.proofs.AtLaws.{are_blocks, was_read}
 use Rattle.msf_streams.proofs.LentLaws.{is_sized}
 use Rattle.msf_streams.proofs.at.gather_at.Goals as goal
 
@@ -40,7 +40,10 @@ returns-in-Err-Memory-clause-first g c =
     let b : c.block_size.result ≡ layout.superblock.block_size = c.block_size.ensures.value ∙ ap (λ (f : Fields). f.block_size) c.superblock.ensures in
     inr (refl, sized.inside)
 
-pub returns-in-Ok-clause-len : goal.returns-in-Ok-clause-len
-returns-in-Ok-clause-len g c =
-    let sized = is_sized c.args.layout.now c.args.s c.in-Some.size c.in-Some.ensures.fits (sym c.size.ensures.value ∙ c.in-Some.is) in
-    (sized.stream, sized.here, c.in-Ok.ensures.len ∙ sym sized.is)
+pub returns-in-Ok-clause-text : goal.returns-in-Ok-clause-text
+returns-in-Ok-clause-text g c =
+    let layout = c.args.layout.now in
+    let sized = is_sized layout c.args.s c.in-Some.size c.in-Some.ensures.fits (sym c.size.ensures.value ∙ c.in-Some.is) in
+    let blocks = c.in-Some-blocks.blocks.now in
+    let b : c.block_size.result ≡ layout.superblock.block_size = c.block_size.ensures.value ∙ ap (λ (f : Fields). f.block_size) c.superblock.ensures in
+    was_read (g.R.ReadAt.bytes c.args.input.now) layout c.args.s c.in-Some.size blocks _ sized c.in-Some-blocks.ensures.value c.in-Ok.ensures.len (rw b at c.in-Ok.ensures.given)

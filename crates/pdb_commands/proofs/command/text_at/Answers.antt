@@ -8,7 +8,7 @@ pub returns-in-Err-Of-clause-refused : goal.returns-in-Err-Of-clause-refused
 returns-in-Err-Of-clause-refused g c =
     let refused = rw c.in-Err-Of.field-0-is at c.in-Err-Of.ensures.refused in
     let refuses = rw c.in-Err-Of.field-0-is at c.refuse_layout.ensures.refused in
-    elim (refuses (g.R.ReadAt.told c.args.input.now) refused) [
+    elim (refuses (g.R.ReadAt.bytes c.args.input.now) refused) [
       | inl bad ↦ inl (inl bad)
       | inr want ↦ inr want
     ]

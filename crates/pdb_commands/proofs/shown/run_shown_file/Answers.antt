@@ -7,7 +7,7 @@ pub returns-then-is_unread : goal.returns-then-is_unread
 returns-then-is_unread g c =
     let command = c.args.command in
     let limit = c.args.limit in
-    let after = failed (ShowsWithin command limit) (RefusesWithin command limit) (ShowsWithinRead command limit) (RefusesWithinRead command limit) limit (g.R.ReadAt.bytes c.args.input.now) (g.R.ReadAt.told c.args.input.now) (g.R.ReadAt.is_broken c.run_shown_at-answer.new.input)
+    let after = failed (ShowsWithin command limit) (RefusesWithin command limit) (ShowsWithinRead command limit) (RefusesWithinRead command limit) limit (g.R.ReadAt.bytes c.args.input.now) (g.R.ReadAt.is_broken c.run_shown_at-answer.new.input)
     g.W.Sink.taken g.W.Sink.is_broken c.args.out.now c.run_shown_at-answer.new.out c.run_shown_at-answer.result (c.is_unread.ensures.yes c.if-is_unread.true) c.run_shown_at-answer.ensures in
     inr (record { breaks = after.breaks; within = after.within; answers = rw after.untouched at c.run_shown.ensures })
 

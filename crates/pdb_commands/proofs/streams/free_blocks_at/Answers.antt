@@ -1,7 +1,7 @@
 use Rattle.std.proofs.Common.{◌∙◌, ◌+◌, sym, ap, arith}
 use Rattle.msf_blocks.specs.FreeMap.{is_free}
 use Rattle.pdb_commands.specs.Streams.{free_blocks}
-use Rattle.pdb_commands.proofs.FreeLaws.{next_map}
+use Rattle.pdb_commands.proofs.FreeLaws.{next_map, next_page, one_free, one_used}
 use Rattle.pdb_commands.proofs.StreamsLaws.{count_yes, count_no, count_whole}
 use Rattle.pdb_commands.proofs.streams.free_blocks_at.Goals as goal
 use Rattle.pdb_commands.proofs.streams.free_blocks_at.Goals.{then-branch, else-branch}
@@ -23,6 +23,11 @@ loop-block-preserved g c =
             | then-branch w ↦ w.free-is ∙ ap (λ n. n + 1) (so_far.counted file known) ∙ sym (count_yes (is_free file superblock) superblock.num_blocks block below (sym value ∙ w.if-branch.true))
             | else-branch w ↦ w.free-is ∙ so_far.counted file known ∙ sym (count_no (is_free file superblock) superblock.num_blocks block below (sym value ∙ w.if-branch.false))
           ];
+      given = λ inner. next_page (g.R.ReadAt.bytes c.args.input.now) c.is_free_at.new.page superblock block free.listed (rw so_far.keeps at free.given) inner;
+      marks = elim c.if-branch.branch [
+        | then-branch w ↦ rw w.free-is (one_free (g.R.ReadAt.bytes c.args.input.now) superblock block c.loop-block.free c.in_ok-is_free_at.field-0 so_far.marks (rw so_far.keeps at free.mark) w.if-branch.true)
+        | else-branch w ↦ rw w.free-is (one_used (g.R.ReadAt.bytes c.args.input.now) superblock block c.loop-block.free c.in_ok-is_free_at.field-0 so_far.marks (rw so_far.keeps at free.mark) w.if-branch.false)
+      ];
       few = elim c.if-branch.branch [
         | then-branch w ↦ omega (arith, w.free-is, so_far.few)
         | else-branch w ↦ omega (arith, w.free-is, so_far.few)

@@ -16,4 +16,4 @@ returns-in-Ok-clause-texts g c =
 pub returns-in-Err-clause-refused : goal.returns-in-Err-clause-refused
 returns-in-Err-clause-refused g c =
     let records = c.in_ok-records.ensures.texts in
-    types_refused c.args.layout.now c.in-Err.fault records.1 (c.in-Err.ensures.refused c.args.layout.now records.0)
+    types_refused _ c.args.layout.now c.in-Err.fault records.1 (c.in-Err.ensures.refused _ c.args.layout.now records.0)

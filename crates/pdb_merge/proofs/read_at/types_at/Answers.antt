@@ -23,7 +23,7 @@ returns-in-Ok-clause-texts g c =
 pub returns-in-Err-clause-refused : goal.returns-in-Err-clause-refused
 returns-in-Err-clause-refused g c =
     let t = c.in_ok-records.ensures.texts in
-    elim (types_refused t.0 c.in-Err.fault t.3 (c.in-Err.ensures.refused t.0 t.2)) [
+    elim (types_refused _ t.0 c.in-Err.fault t.3 (c.in-Err.ensures.refused _ t.0 t.2)) [
       | inl refused ↦ inl (inr (t.0, t.1, refused))
       | inr want ↦ inr want
     ]

@@ -29,4 +29,4 @@ returns-clause-held g c = λ file known.
 pub returns-clause-front : goal.returns-clause-front
 returns-clause-front g c =
     let s = c.in_ok-superblock.ensures in
-    (c.read_at.new.into, record { count = c.in-Some.ensures.same; fields_are = s.fields; sound = rw c.len-have.ensures.told at s.first })
+    (c.read_at.new.into, c.in-Some.ensures.given, record { count = c.in-Some.ensures.same; fields_are = s.fields; sound = rw c.len-have.ensures.told at s.first })

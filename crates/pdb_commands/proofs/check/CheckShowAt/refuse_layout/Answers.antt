@@ -5,4 +5,4 @@ pub returns-clause-first : goal.returns-clause-first
 returns-clause-first g c = λ file bytes. no_accepted file c.args.fault c.from.result c.from-2.result c.from.ensures c.from-2.ensures
 
 pub returns-clause-refused : goal.returns-clause-refused
-returns-clause-refused g c = λ told. texts_refused told c.args.fault c.from.result c.from-2.result c.from.ensures c.from-2.ensures
+returns-clause-refused g c = λ bytes. texts_refused bytes c.args.fault c.from.result c.from-2.result c.from.ensures c.from-2.ensures

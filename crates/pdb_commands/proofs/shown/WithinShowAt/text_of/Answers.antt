@@ -74,48 +74,48 @@ returns-in-Info-clause-first g c =
 
 pub returns-in-Records-clause-texts : goal.returns-in-Records-clause-texts
 returns-in-Records-clause-texts g c =
-    read_within string_bytes ShowsRecordsRead c.args.self.now.command c.args.self.now.limit c.args.layout.now c.text_of.result (λ text shows. rw c.in-Records.is shows) c.in_ok-check_layout.ensures.short c.text_of.ensures.texts
+    read_within string_bytes ShowsRecordsRead c.args.self.now.command c.args.self.now.limit (g.R.ReadAt.bytes c.args.input.now) c.args.layout.now c.text_of.result (λ text shows. rw c.in-Records.is shows) c.in_ok-check_layout.ensures.short c.text_of.ensures.texts
 
 pub returns-in-Records-clause-refused : goal.returns-in-Records-clause-refused
 returns-in-Records-clause-refused g c =
-    refused_within RefusesRecordsRead c.args.self.now.command c.args.self.now.limit c.args.layout.now c.text_of.result (λ fault refused. rw c.in-Records.is refused) c.in_ok-check_layout.ensures.short c.text_of.ensures.refused
+    refused_within RefusesRecordsRead c.args.self.now.command c.args.self.now.limit (g.R.ReadAt.bytes c.args.input.now) c.args.layout.now c.text_of.result (λ fault refused. rw c.in-Records.is refused) c.in_ok-check_layout.ensures.short c.text_of.ensures.refused
 
 pub returns-in-Record-clause-texts : goal.returns-in-Record-clause-texts
 returns-in-Record-clause-texts g c =
-    read_within string_bytes (ShowsRecordRead c.in-Record.index) c.args.self.now.command c.args.self.now.limit c.args.layout.now c.text_of-in-Record.result (λ text shows. rw c.in-Record.is shows) c.in_ok-check_layout.ensures.short c.text_of-in-Record.ensures.texts
+    read_within string_bytes (ShowsRecordRead c.in-Record.index) c.args.self.now.command c.args.self.now.limit (g.R.ReadAt.bytes c.args.input.now) c.args.layout.now c.text_of-in-Record.result (λ text shows. rw c.in-Record.is shows) c.in_ok-check_layout.ensures.short c.text_of-in-Record.ensures.texts
 
 pub returns-in-Record-clause-refused : goal.returns-in-Record-clause-refused
 returns-in-Record-clause-refused g c =
-    refused_within (RefusesRecordRead c.in-Record.index) c.args.self.now.command c.args.self.now.limit c.args.layout.now c.text_of-in-Record.result (λ fault refused. rw c.in-Record.is refused) c.in_ok-check_layout.ensures.short c.text_of-in-Record.ensures.refused
+    refused_within (RefusesRecordRead c.in-Record.index) c.args.self.now.command c.args.self.now.limit (g.R.ReadAt.bytes c.args.input.now) c.args.layout.now c.text_of-in-Record.result (λ fault refused. rw c.in-Record.is refused) c.in_ok-check_layout.ensures.short c.text_of-in-Record.ensures.refused
 
 pub returns-in-Types-clause-texts : goal.returns-in-Types-clause-texts
 returns-in-Types-clause-texts g c =
-    read_within string_bytes ShowsTypesRead c.args.self.now.command c.args.self.now.limit c.args.layout.now c.text_of-in-Types.result (λ text shows. rw c.in-Types.is shows) c.in_ok-check_layout.ensures.short c.text_of-in-Types.ensures.texts
+    read_within string_bytes ShowsTypesRead c.args.self.now.command c.args.self.now.limit (g.R.ReadAt.bytes c.args.input.now) c.args.layout.now c.text_of-in-Types.result (λ text shows. rw c.in-Types.is shows) c.in_ok-check_layout.ensures.short c.text_of-in-Types.ensures.texts
 
 pub returns-in-Types-clause-refused : goal.returns-in-Types-clause-refused
 returns-in-Types-clause-refused g c =
-    refused_within RefusesTypesRead c.args.self.now.command c.args.self.now.limit c.args.layout.now c.text_of-in-Types.result (λ fault refused. rw c.in-Types.is refused) c.in_ok-check_layout.ensures.short c.text_of-in-Types.ensures.refused
+    refused_within RefusesTypesRead c.args.self.now.command c.args.self.now.limit (g.R.ReadAt.bytes c.args.input.now) c.args.layout.now c.text_of-in-Types.result (λ fault refused. rw c.in-Types.is refused) c.in_ok-check_layout.ensures.short c.text_of-in-Types.ensures.refused
 
 pub returns-in-Check-clause-texts : goal.returns-in-Check-clause-texts
 returns-in-Check-clause-texts g c =
-    read_within string_bytes ShowsCheckedRead c.args.self.now.command c.args.self.now.limit c.args.layout.now c.text_of-in-Check.result (λ text shows. rw c.in-Check.is shows) c.in_ok-check_layout.ensures.short c.text_of-in-Check.ensures.texts
+    read_within string_bytes ShowsCheckedRead c.args.self.now.command c.args.self.now.limit (g.R.ReadAt.bytes c.args.input.now) c.args.layout.now c.text_of-in-Check.result (λ text shows. rw c.in-Check.is shows) c.in_ok-check_layout.ensures.short c.text_of-in-Check.ensures.texts
 
 pub returns-in-Check-clause-refused : goal.returns-in-Check-clause-refused
 returns-in-Check-clause-refused g c =
-    refused_within RefusesCheckRead c.args.self.now.command c.args.self.now.limit c.args.layout.now c.text_of-in-Check.result (λ fault refused. rw c.in-Check.is refused) c.in_ok-check_layout.ensures.short c.text_of-in-Check.ensures.refused
+    refused_within RefusesCheckRead c.args.self.now.command c.args.self.now.limit (g.R.ReadAt.bytes c.args.input.now) c.args.layout.now c.text_of-in-Check.result (λ fault refused. rw c.in-Check.is refused) c.in_ok-check_layout.ensures.short c.text_of-in-Check.ensures.refused
 
 pub returns-in-Info-clause-texts : goal.returns-in-Info-clause-texts
 returns-in-Info-clause-texts g c =
-    read_within string_bytes ShowsInfoRead c.args.self.now.command c.args.self.now.limit c.args.layout.now c.text_of-in-Info.result (λ text shows. rw c.in-Info.is shows) c.in_ok-check_layout.ensures.short c.text_of-in-Info.ensures.texts
+    read_within string_bytes ShowsInfoRead c.args.self.now.command c.args.self.now.limit (g.R.ReadAt.bytes c.args.input.now) c.args.layout.now c.text_of-in-Info.result (λ text shows. rw c.in-Info.is shows) c.in_ok-check_layout.ensures.short c.text_of-in-Info.ensures.texts
 
 pub returns-in-Info-clause-refused : goal.returns-in-Info-clause-refused
 returns-in-Info-clause-refused g c =
-    refused_within RefusesInfoRead c.args.self.now.command c.args.self.now.limit c.args.layout.now c.text_of-in-Info.result (λ fault refused. rw c.in-Info.is refused) c.in_ok-check_layout.ensures.short c.text_of-in-Info.ensures.refused
+    refused_within RefusesInfoRead c.args.self.now.command c.args.self.now.limit (g.R.ReadAt.bytes c.args.input.now) c.args.layout.now c.text_of-in-Info.result (λ fault refused. rw c.in-Info.is refused) c.in_ok-check_layout.ensures.short c.text_of-in-Info.ensures.refused
 
 pub returns-in-Streams-clause-texts : goal.returns-in-Streams-clause-texts
 returns-in-Streams-clause-texts g c =
-    read_within string_bytes ShowsStreamsRead c.args.self.now.command c.args.self.now.limit c.args.layout.now c.text_of-in-Streams.result (λ text shows. rw c.in-Streams.is shows) c.in_ok-check_layout.ensures.short c.text_of-in-Streams.ensures.texts
+    read_within string_bytes ShowsStreamsRead c.args.self.now.command c.args.self.now.limit (g.R.ReadAt.bytes c.args.input.now) c.args.layout.now c.text_of-in-Streams.result (λ text shows. rw c.in-Streams.is shows) c.in_ok-check_layout.ensures.short c.text_of-in-Streams.ensures.texts
 
 pub returns-in-Streams-clause-refused : goal.returns-in-Streams-clause-refused
 returns-in-Streams-clause-refused g c =
-    refused_within RefusesStreamsRead c.args.self.now.command c.args.self.now.limit c.args.layout.now c.text_of-in-Streams.result (λ fault refused. rw c.in-Streams.is refused) c.in_ok-check_layout.ensures.short c.text_of-in-Streams.ensures.refused
+    refused_within RefusesStreamsRead c.args.self.now.command c.args.self.now.limit (g.R.ReadAt.bytes c.args.input.now) c.args.layout.now c.text_of-in-Streams.result (λ fault refused. rw c.in-Streams.is refused) c.in_ok-check_layout.ensures.short c.text_of-in-Streams.ensures.refused

@@ -9,13 +9,13 @@ returns-in_err-layout-clause-memory g c =
     let p = err_from_is_err_and c.from_residual.result c.from_residual.ensures.1 in
     rw p.1 (layout_want c.args.file.now c.in_err-layout.field-0.0 p.0 p.2 c.in_err-layout.ensures.first)
 
-pub returns-in_err-read_info-clause-first : goal.returns-in_err-read_info-clause-first
-returns-in_err-read_info-clause-first g c =
-    let p = err_from_is_err_and c.from_residual-in_err-read_info.result c.from_residual-in_err-read_info.ensures.1 in
-    rw (p.1, p.2) (inl (info_refused c.args.file.now c.in_ok-layout.layout c.in_err-read_info.field-0.0 c.in_ok-layout.ensures.value c.in_err-read_info.ensures.first))
+pub returns-in_err-check_info-clause-first : goal.returns-in_err-check_info-clause-first
+returns-in_err-check_info-clause-first g c =
+    let p = err_from_is_err_and c.from_residual-in_err-check_info.result c.from_residual-in_err-check_info.ensures.1 in
+    rw (p.1, p.2) (inl (info_refused c.args.file.now c.in_ok-layout.layout c.in_err-check_info.field-0.0 c.in_ok-layout.ensures.value (c.in_err-check_info.ensures.first c.args.file.now)))
 
-pub returns-in_err-read_info-clause-memory : goal.returns-in_err-read_info-clause-memory
-returns-in_err-read_info-clause-memory g c = layout_sound c.args.file.now c.in_ok-layout.layout c.from_residual-in_err-read_info.result (λ i. omega (arith, c.type_inv.file i)) c.in_ok-layout.ensures.value
+pub returns-in_err-check_info-clause-memory : goal.returns-in_err-check_info-clause-memory
+returns-in_err-check_info-clause-memory g c = layout_sound c.args.file.now c.in_ok-layout.layout c.from_residual-in_err-check_info.result (λ i. omega (arith, c.type_inv.file i)) c.in_ok-layout.ensures.value
 
 pub returns-in_err-records-clause-memory : goal.returns-in_err-records-clause-memory
 returns-in_err-records-clause-memory g c = layout_sound c.args.file.now c.in_ok-layout.layout c.from_residual-in_err-records.result (λ i. omega (arith, c.type_inv.file i)) c.in_ok-layout.ensures.value
@@ -25,5 +25,5 @@ returns-clause-value g c =
     record {
       bytes = λ i. omega (arith, c.type_inv.file i);
       has = record { layout = c.in_ok-layout.layout; has_layout = c.in_ok-layout.ensures.value; lists = c.in_ok-records.ensures.value };
-      info = c.in_ok-read_info.ensures.value;
+      info = c.in_ok-check_info.ensures.value c.args.file.now;
     }

@@ -30,4 +30,4 @@ returns-clause-memory g c =
     sound_at (g.R.ReadAt.bytes c.args.input.now) c.records_of.result (λ file known. layout_holds file c.in_ok-layout.layout (l.small file known) (l.value file known))
 
 pub returns-clause-texts : goal.returns-clause-texts
-returns-clause-texts g c = ok_more _ _ c.records_of.result (λ records was. (c.in_ok-layout.layout, c.in_ok-layout.ensures.texts, was)) c.records_of.ensures.texts
+returns-clause-texts g c = ok_more _ _ c.records_of.result (λ records was. (c.in_ok-layout.layout, c.in_ok-layout.ensures.texts, was)) (rw c.in_ok-layout.ensures.keeps at c.records_of.ensures.texts)

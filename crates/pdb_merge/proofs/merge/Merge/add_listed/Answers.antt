@@ -70,17 +70,17 @@ returns-clause-union g c =
     (rw were.0 at were.1, rw (types, were.0) at (rw same at c.in_ok-add.ensures.value))
 
 pub returns-in_err-types-clause-refused : goal.returns-in_err-types-clause-refused
-returns-in_err-types-clause-refused g c = λ layout read info.
+returns-in_err-types-clause-refused g c = λ bytes layout read info.
     let inner = c.in_err-types.field-0.0 in
     let p = err_from_is_err_and c.from_residual.result c.from_residual.ensures.1 in
-    rw p.1 (fault_hinders c.args.self.now.types c.args.self.now.limit layout inner p.0 p.2 (types_refused layout inner info (c.in_err-types.ensures.refused layout read)))
+    rw p.1 (fault_hinders c.args.self.now.types c.args.self.now.limit bytes layout inner p.0 p.2 (types_refused bytes layout inner info (c.in_err-types.ensures.refused bytes layout read)))
 
 pub returns-in_err-add-clause-refused : goal.returns-in_err-add-clause-refused
-returns-in_err-add-clause-refused g c = λ layout read info.
+returns-in_err-add-clause-refused g c = λ bytes layout read info.
     let types : c.self.inside.table ≡ c.args.self.now.types = ap (λ (m : MergeView). m.types) c.self.view_is in
     let limit : c.self.inside.limit ≡ c.args.self.now.limit = ap (λ (m : MergeView). m.limit) c.self.view_is in
     let same = not_added c.add_records.result c.self.inside.table c.add_records.new.self c.add_records.ensures.kept c.if-add_records.false in
     let were = c.in_ok-types.ensures.types in
-    let are : TypesWereRead layout c.in_ok-types.types = rw were.0 (read, info, rw were.0 at were.1) in
+    let are : TypesWereRead bytes layout c.in_ok-types.types = rw were.0 (read, info, rw were.0 at were.1) in
     let p = err_from_is_err_and c.from_residual-in_err-add.result c.from_residual-in_err-add.ensures.1 in
-    rw (p.1, ← types, ← limit) (union_hinders c.self.inside.table c.in_ok-types.types c.self.inside.limit layout c.in_err-add.field-0.0 p.0 are p.2 (rw same at c.in_err-add.ensures.large))
+    rw (p.1, ← types, ← limit) (union_hinders c.self.inside.table c.in_ok-types.types c.self.inside.limit bytes layout c.in_err-add.field-0.0 p.0 are p.2 (rw same at c.in_err-add.ensures.large))

@@ -36,9 +36,9 @@ returns-in-Ok-add_listed-clause-texts g c =
 pub returns-in-Err-Of-clause-refused : goal.returns-in-Err-Of-clause-refused
 returns-in-Err-Of-clause-refused g c =
     let refused = rw c.in-Err-Of.field-0-is at c.in-Err-Of.ensures.refused in
-    texts_hinder c.args.self.now.types c.args.self.now.limit (g.R.ReadAt.told c.args.input.now) c.in-Err-Of.fault c.from.result (rw c.in-Err-Of.field-0-is at c.from.ensures) refused
+    texts_hinder c.args.self.now.types c.args.self.now.limit (g.R.ReadAt.bytes c.args.input.now) c.in-Err-Of.fault c.from.result (rw c.in-Err-Of.field-0-is at c.from.ensures) refused
 
 pub returns-in-Err-clause-refused : goal.returns-in-Err-clause-refused
 returns-in-Err-clause-refused g c =
     let t = c.in-Ok.ensures.texts in
-    inr (t.0, t.1, c.in-Err.ensures.refused t.0 t.2 t.3)
+    inr (t.0, t.1, c.in-Err.ensures.refused _ t.0 t.2 t.3)

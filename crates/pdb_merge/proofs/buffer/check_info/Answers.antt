@@ -1,6 +1,6 @@
 use Rattle.std.proofs.Common.{◌∙◌, sym, refl, arith}
 use Rattle.pdb_merge.proofs.StreamLaws.{long_info, short_info, listed_info}
-use Rattle.pdb_merge.proofs.read_at.check_info.Goals as goal
+use Rattle.pdb_merge.proofs.buffer.check_info.Goals as goal
 
 pub returns-then-size-lt-HEADER-clause-first : goal.returns-then-size-lt-HEADER-clause-first
 returns-then-size-lt-HEADER-clause-first g c = λ file.
