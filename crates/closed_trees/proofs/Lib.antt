@@ -1,0 +1,12 @@
+pub mod TreeLaws
+pub mod WalkLaws
+pub mod DepthLaws
+pub mod SameLaws
+pub mod TextLaws
+pub mod CanonLaws
+pub mod ReadLaws
+pub mod WeightLaws
+pub mod LevelLaws
+pub mod TableLaws
+pub mod NextLaws
+pub mod RenumberLaws

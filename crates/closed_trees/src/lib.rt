@@ -1,0 +1,30 @@
+//! What types are: closed trees, canonical lists of trees, and records that are renumbered.
+//!
+//! A type record names other types by type indices. Those below 0x1000 are *simple* types, and
+//! `0x1000 + i` is the record at position i. What a record means is a *closed tree*. The tree has
+//! the record with zeros at its places (its *blank*), and a branch for each place: the simple
+//! number that is there, or the tree of the record that it names. Two records mean the same type
+//! exactly where their trees are equal. The program builds no trees: only the contracts speak of
+//! them.
+//!
+//! The *depth* of a tree is 0 if it names no record, otherwise one more than that of the deepest
+//! type that it names. The trees of a *canonical list* are in the order of their depths, and at one
+//! depth in the order of the bytes of their records. The records name each other by their positions
+//! in the list. The *weight* of a list is the number of bytes of its records.
+//!
+//! [`renumber_into`] makes a record that names the same types by other type indices.
+//!
+//! What is proved: a renumbered record is the record with the new type index at each place, and it
+//! is made exactly where each reference has a number. The [`laws`] say that there is exactly one
+//! tree at each position of records that make types, and that it is closed; that each tree branch
+//! of a type is a type; and that a set of types has one canonical list, which reads back as that
+//! set.
+//!
+//! The file `src/examples.rt` of the crate `test_examples` shows the trees of records as types of a
+//! table, in a few lines.
+#![tactic(auto)]
+
+pub mod laws;
+mod renumber;
+
+pub use renumber::{number_for, renumber_into};

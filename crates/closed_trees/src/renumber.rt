@@ -1,0 +1,64 @@
+//! Renumbering: a record that names the same types by other type indices.
+
+ghost use Rattle.std.specs.Prelude.{◌≡◌, ◌≤◌, ◌<◌, ◌+◌, ℕ, IsTrue, IfSome, IfNone, IfOk, length, get_or};
+ghost use Rattle.tpi_records.specs.Records.{IsRecord};
+ghost use Rattle.cv_leaves.specs.Place.{IsChecked};
+ghost use Rattle.cv_leaves.specs.References.{references};
+ghost use Rattle.closed_trees.specs.Types.{NamesThere};
+ghost use Rattle.closed_trees.specs.Table.{renumber_one, renumbered, IsNumbered, AreNumbered};
+
+use cv_leaves::{places, ref_at, set_ref};
+use std::alloc::{AllocError, Allocator};
+use tpi_records::FIRST_INDEX;
+
+/// The new type index for a reference. A simple one stays as it is. `None` where the reference
+/// names a record that has no number.
+#[tactic(auto, using(crate::proofs::RenumberLaws::simple_number, crate::proofs::RenumberLaws::given_number))]
+pub fn number_for(to: u32, numbers: &[u32]) -> Option<u32>
+    ensures there { IfSome result (λ _. to < FIRST_INDEX + length numbers.now) }
+    ensures value { IfSome result (λ n. n ≡ renumber_one (λ k. get_or numbers.now k 0) to) }
+    ensures none { IfNone result (IsNumbered numbers.now to → ⊥) }
+{
+    match to.checked_sub(FIRST_INDEX) {
+        Some(position) => FIRST_INDEX.checked_add(*numbers.get(position as usize)?),
+        None => Some(to),
+    }
+}
+
+/// Writes the new type index of each reference of a record into a copy of the record. Returns
+/// whether each reference has one. Where one has none, those before it are written.
+pub fn renumber(bytes: &[u8], numbers: &[u32], copy: &mut [u8]) -> bool
+    requires framed { IsRecord bytes.now }
+    requires checked { IsChecked bytes.now }
+    requires same { copy.old ≡ bytes.now }
+    ensures value { IsTrue result → copy.new ≡ renumbered (λ k. get_or numbers.now k 0) bytes.now }
+    ensures there { IsTrue result → NamesThere (length numbers.now) (references bytes.now) }
+    ensures named { AreNumbered numbers.now (references bytes.now) → IsTrue result }
+{
+    for place in places(bytes) {
+        match number_for(ref_at(bytes, place), numbers) {
+            Some(to) => set_ref(copy, place, to),
+            None => return false,
+        }
+    }
+    true
+}
+
+/// Makes `copy` the record with its new type indices. Returns whether each reference has one.
+///
+/// `numbers` has the position of each record that may be named.
+pub fn renumber_into<A: Allocator>(
+    copy: &mut Vec<u8, A>,
+    bytes: &[u8],
+    numbers: &[u32],
+) -> Result<bool, AllocError>
+    requires framed { IsRecord bytes.now }
+    requires checked { IsChecked bytes.now }
+    ensures value { IfOk result (λ all. IsTrue all → copy.new.items ≡ renumbered (λ k. get_or numbers.now k 0) bytes.now) }
+    ensures there { IfOk result (λ all. IsTrue all → NamesThere (length numbers.now) (references bytes.now)) }
+    ensures named { IfOk result (λ all. AreNumbered numbers.now (references bytes.now) → IsTrue all) }
+{
+    copy.clear();
+    copy.extend_from_slice(bytes)?;
+    Ok(renumber(bytes, numbers, copy))
+}
