@@ -1,0 +1,4 @@
+pub mod Graph
+pub mod Order
+pub mod Check
+pub mod Laws
