@@ -1,0 +1,43 @@
+-- How a table's canonical list is made, level by level.
+use Rattle.std.specs.Prelude.{ℕ, ◌≡◌, ◌≢◌, ◌+◌, ◌<◌, ◌↔◌, List, length, get_or}
+use Rattle.std.specs.List.{AllPairs, Contains}
+use Rattle.key_chains.specs.Chains.{IsNewest}
+use Rattle.closed_trees.specs.Tree.{Tree}
+use Rattle.closed_trees.specs.Canon.{texts, Canonical}
+use Rattle.closed_trees.specs.Table.{IsTable, HoldsBelow}
+use Rattle.canonical_list.specs.Rows.{Numbers}
+
+-- `out` is the canonical list of those types of r that are less deep than d, and f gives the position of each in it
+pub record ListsBelow (r : List (List ℕ)) (d : ℕ) (out : List (List ℕ)) (f : ℕ → ℕ) : Type 0 where
+  pub trees : List Tree
+  pub canonical : Canonical trees
+  pub holds : HoldsBelow r d trees
+  pub are : out ≡ texts trees
+  pub numbers : Numbers r d trees f
+
+-- ps are the positions that have this depth, each once and in any order
+pub record AtLevel (depths : List ℕ) (d : ℕ) (ps : List ℕ) : Type 0 where
+  pub within : (k : ℕ) → k < length ps → (get_or ps k 0 < length depths) × (get_or depths (get_or ps k 0) 0 ≡ d)
+  pub all : (j : ℕ) → j < length depths → get_or depths j 0 ≡ d → Contains ps j
+  pub distinct : AllPairs (λ i j. i ≢ j) ps
+
+-- each level leads to the last position of this depth, and each position to the last one before it of the same depth
+pub record AreLinked (depths newest older : List ℕ) : Type 0 where
+  pub newest_lead : (d : ℕ) → IsNewest depths d (length depths) (get_or newest d 0)
+  pub older_lead : (k : ℕ) → k < length depths → IsNewest depths (get_or depths k 0) k (get_or older k 0)
+
+-- the records are the canonical list of the trees for which Has holds
+abbrev pub IsCanonOf : List (List ℕ) → (Tree → Type 0) → Type 0
+IsCanonOf records Has = (l : List Tree) × Canonical l × (records ≡ texts l) × ((t : Tree) → Contains l t ↔ Has t)
+
+-- the records are a canonical list of trees, and they are a table
+pub record IsCanon (records : List (List ℕ)) : Type 0 where
+  pub trees : List Tree
+  pub canonical : Canonical trees
+  pub are : records ≡ texts trees
+  pub table : IsTable records
+
+-- the first `end` positions of ps have the numbers from `first` on, if they are distinct, and all other numbers stay as they were
+pub record Numbered (ps : List ℕ) (first end : ℕ) (before after : List ℕ) : Type 0 where
+  pub put : AllPairs (λ i j. i ≢ j) ps → (k : ℕ) → k < end → get_or after (get_or ps k 0) 0 ≡ first + k
+  pub kept : (i : ℕ) → ((k : ℕ) → k < end → get_or ps k 0 ≢ i) → get_or after i 0 ≡ get_or before i 0

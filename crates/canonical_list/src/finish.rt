@@ -1,0 +1,255 @@
+//! The canonical list of a table, which is made level by level.
+//!
+//! A *level* is the records of one depth. The *number* of a record is its position in the canonical
+//! list. The *row* of a record is the record with the type indices of the canonical list in place
+//! of those of the table. The rows of a level are known as soon as the records of the lower levels
+//! have their numbers.
+
+ghost use Rattle.std.specs.Prelude.{◌≡◌, ◌≢◌, ◌⊎◌, ◌↔◌, ◌+◌, ◌-◌, ◌%◌, ◌^◌, ◌<◌, ◌≤◌, ◌++◌, [], ◌∷◌, ℕ, List, length, get_or, map, take, drop, IfOk, IfErr};
+ghost use Rattle.std.specs.List.{All, AllByRecursion, Contains, concat};
+ghost use Rattle.std.specs.List.Sorted.{IsPermutation};
+ghost use Rattle.std.specs.Ordering.{nat_cmp};
+ghost use Rattle.std.specs.Cmp.Lexicographic.{slice_cmp};
+ghost use Rattle.std.specs.declared.cmp.Ordering.TheVariants.{Greater};
+ghost use Rattle.tpi_records.specs.Records.{IsRecord};
+ghost use Rattle.cv_leaves.specs.Place.{IsChecked};
+ghost use Rattle.cv_leaves.specs.References.{references};
+ghost use Rattle.closed_trees.specs.Depth.{AreDepths, HasDepths, HasLevels};
+ghost use Rattle.closed_trees.specs.Tree.{Tree, IsType};
+ghost use Rattle.closed_trees.specs.Table.{IsTable, AreNumbered, renumbered};
+ghost use Rattle.canonical_list.specs.Rows.{row, IsKeyed};
+ghost use Rattle.canonical_list.specs.Finish.{ListsBelow, AtLevel, Numbered, IsCanonOf};
+
+use crate::levels::{Levels, levels_of};
+use crate::row::Row;
+use closed_trees::renumber_into;
+use packed_texts::PackedTexts;
+use std::alloc::{AllocError, Allocator};
+use std::hash::BuildHasher;
+use text_set::TextSet;
+
+/// Appends the row of a record to the other rows.
+#[tactic(auto, using(closed_trees::proofs::RenumberLaws::padded_record, closed_trees::proofs::RenumberLaws::renumbered_long))]
+fn push_row<A: Allocator>(
+    rows: &mut PackedTexts<A>,
+    copy: &mut Vec<u8, A>,
+    bytes: &[u8],
+    numbers: &[u32],
+) -> Result<(), AllocError>
+    requires framed { IsRecord bytes.now }
+    requires checked { IsChecked bytes.now }
+    requires named { AreNumbered numbers.now (references bytes.now) }
+    requires few { length (concat rows.old) + length bytes.now < 2 ^ 34 }
+    ensures ok { IfOk result (λ _. rows.new ≡ rows.old ++ renumbered (λ k. get_or numbers.now k 0) bytes.now ∷ []) }
+{
+    renumber_into(copy, bytes, numbers)?;
+    rows.push(copy)
+}
+
+// The memory of a level of more rows is given back before the next one.
+const KEPT_ROWS: usize = 1024;
+
+/// The rows of a level in any order, and for each the position of its record in the table. One
+/// value serves all levels, so that small levels use the same memory again.
+#[derive(Drop)]
+struct Unsorted<A: Allocator> {
+    rows: PackedTexts<A>,
+    positions: Vec<u32, A>,
+    // in which the next row is made
+    copy: Vec<u8, A>,
+}
+
+impl<A: Allocator + Copy> Unsorted<A> {
+    /// No rows. This does not allocate.
+    fn new(alloc: A) -> Unsorted<A> {
+        Unsorted {
+            rows: PackedTexts::new(alloc),
+            positions: Vec::new(alloc),
+            copy: Vec::new(alloc),
+        }
+    }
+
+    /// Takes all rows out. The memory of many rows is given back.
+    fn clear(&mut self, alloc: A)
+        ensures rows { self.new.rows ≡ [] }
+        ensures positions { self.new.positions.items ≡ [] }
+    {
+        if self.rows.len() > KEPT_ROWS {
+            *self = Unsorted::new(alloc);
+        }
+        self.rows.truncate(0);
+        self.positions.clear();
+    }
+}
+
+/// Collects the rows of a level.
+fn collect<S: BuildHasher, A: Allocator + Copy>(
+    alloc: A,
+    table: &TextSet<S, A>,
+    depths: &Levels<'_, A>,
+    level: u32,
+    numbers: &[u32],
+    unsorted: &mut Unsorted<A>,
+) -> Result<(), AllocError>
+    requires table { IsTable table.now }
+    requires short { length (concat table.now) < 2 ^ 32 }
+    requires many { length depths.now ≡ length table.now }
+    requires numbered { length numbers.now ≡ length table.now }
+    requires bounded { (k : ℕ) → get_or numbers.now k 0 < 2 ^ 31 }
+    ensures rows { IfOk result (λ _. unsorted.new.rows ≡ map (row table.now (λ k. get_or numbers.now k 0)) unsorted.new.positions.items) }
+    ensures level { IfOk result (λ _. AtLevel depths.now level unsorted.new.positions.items) }
+{
+    unsorted.clear(alloc);
+    let mut candidate = depths.newest(level);
+    while let Some(position) = candidate {
+        let bytes = table.get(position);
+        push_row(&mut unsorted.rows, &mut unsorted.copy, bytes, numbers)?;
+        unsorted.positions.push(position as u32)?;
+        candidate = depths.older(position);
+    }
+    Ok(())
+}
+
+/// Each row with its key and the position of its record.
+fn keyed_rows<'a, A: Allocator + Copy>(
+    alloc: A,
+    rows: &'a PackedTexts<A>,
+    positions: &[u32],
+) -> Result<Vec<Row<'a>, A>, AllocError>
+    requires many { length positions.now ≡ length rows.now }
+    ensures rows { IfOk result (λ v. map (λ p. p.bytes.now) v.items ≡ rows.now) }
+    ensures positions { IfOk result (λ v. map (λ p. p.position) v.items ≡ positions.now) }
+    ensures keyed { IfOk result (λ v. All (λ p. IsKeyed p.key p.bytes.now) v.items) }
+{
+    let mut keyed = Vec::with_capacity(alloc, rows.len())?;
+    for k in 0..rows.len() {
+        keyed.push(Row::new(rows.get(k), positions[k]))?;
+    }
+    Ok(keyed)
+}
+
+/// Appends the rows to the list.
+fn append_rows<A: Allocator>(order: &[Row<'_>], out: &mut PackedTexts<A>) -> Result<(), AllocError>
+    requires padded { (x : List ℕ) → Contains (map (λ p. p.bytes.now) order.now) x → length x % 4 ≡ 0 }
+    requires few { length (concat out.old) + length (concat (map (λ p. p.bytes.now) order.now)) < 2 ^ 34 }
+    ensures { IfOk result (λ _. out.new ≡ out.old ++ map (λ p. p.bytes.now) order.now) }
+{
+    for entry in order {
+        out.push(entry.bytes)?;
+    }
+    Ok(())
+}
+
+/// Numbers the records of the rows in order, from `first` on.
+fn number_rows(order: &[Row<'_>], first: usize, numbers: &mut [u32])
+    requires within { (k : ℕ) → k < length order.now → get_or (map (λ p. p.position) order.now) k 0 < length numbers.old }
+    requires few { first + length order.now < 2 ^ 31 }
+    requires bounded { (k : ℕ) → get_or numbers.old k 0 < 2 ^ 31 }
+    ensures numbered { Numbered (map (λ p. p.position) order.now) first (length order.now) numbers.old numbers.new }
+    ensures same { length numbers.new ≡ length numbers.old }
+    ensures bounded { (k : ℕ) → get_or numbers.new k 0 < 2 ^ 31 }
+{
+    let mut number = first;
+    for entry in order {
+        numbers[entry.position as usize] = number as u32;
+        number += 1;
+    }
+}
+
+/// The rows in the order of their bytes, each with the position of its record.
+fn sorted_rows<'a, A: Allocator + Copy>(
+    alloc: A,
+    rows: &'a PackedTexts<A>,
+    positions: &[u32],
+) -> Result<Vec<Row<'a>, A>, AllocError>
+    requires many { length positions.now ≡ length rows.now }
+    ensures moved { IfOk result (λ v. IsPermutation positions.now (map (λ p. p.position) v.items)) }
+    ensures fit { IfOk result (λ v. (g : ℕ → List ℕ) → rows.now ≡ map g positions.now → map (λ p. p.bytes.now) v.items ≡ map g (map (λ p. p.position) v.items)) }
+    ensures sorted { IfOk result (λ v. (k : ℕ) → k + 1 < length v.items → slice_cmp nat_cmp (get_or (map (λ p. p.bytes.now) v.items) k []) (get_or (map (λ p. p.bytes.now) v.items) (k + 1) []) ≢ Greater) }
+{
+    let mut keyed = keyed_rows(alloc, rows, positions)?;
+    keyed.sort_unstable();
+    Ok(keyed)
+}
+
+/// Appends the next level to the list, and numbers its records.
+fn list_level<S: BuildHasher, A: Allocator + Copy>(
+    alloc: A,
+    table: &TextSet<S, A>,
+    depths: &Levels<'_, A>,
+    level: u32,
+    numbers: &mut [u32],
+    unsorted: &mut Unsorted<A>,
+    out: &mut PackedTexts<A>,
+) -> Result<(), AllocError>
+    requires table { IsTable table.now }
+    requires short { length (concat table.now) < 2 ^ 32 }
+    requires many { length depths.now ≡ length table.now }
+    requires depths { AreDepths table.now depths.now }
+    requires listed { ListsBelow table.now level out.old (λ k. get_or numbers.old k 0) }
+    requires numbered { length numbers.old ≡ length table.now }
+    requires bounded { (k : ℕ) → get_or numbers.old k 0 < 2 ^ 31 }
+    ensures listed { IfOk result (λ _. ListsBelow table.now (level + 1) out.new (λ k. get_or numbers.new k 0)) }
+    ensures numbered { length numbers.new ≡ length table.now }
+    ensures bounded { (k : ℕ) → get_or numbers.new k 0 < 2 ^ 31 }
+{
+    collect(alloc, table, depths, level, numbers, unsorted)?;
+    let order = sorted_rows(alloc, &unsorted.rows, &unsorted.positions)?;
+    let first = out.len();
+    append_rows(&order, out)?;
+    number_rows(&order, first, numbers);
+    Ok(())
+}
+
+/// The canonical list of the types of a table, level by level.
+///
+/// `numbers` has an entry of any value for each record; a record gets its number once it is listed.
+fn list_levels<S: BuildHasher, A: Allocator + Copy>(
+    alloc: A,
+    table: &TextSet<S, A>,
+    depths: &Levels<'_, A>,
+    levels: u32,
+    numbers: &mut [u32],
+) -> Result<PackedTexts<A>, AllocError>
+    requires table { IsTable table.now }
+    requires short { length (concat table.now) < 2 ^ 32 }
+    requires many { length depths.now ≡ length table.now }
+    requires depths { AreDepths table.now depths.now }
+    requires levels { HasLevels table.now levels }
+    requires numbered { length numbers.old ≡ length table.now }
+    requires bounded { (k : ℕ) → get_or numbers.old k 0 < 2 ^ 31 }
+    ensures { IfOk result (λ out. IsCanonOf out (IsType table.now)) }
+{
+    let mut unsorted = Unsorted::new(alloc);
+    let mut out = PackedTexts::new(alloc);
+    for level in 0..levels {
+        list_level(
+            alloc,
+            table,
+            depths,
+            level,
+            numbers,
+            &mut unsorted,
+            &mut out,
+        )?;
+    }
+    Ok(out)
+}
+
+/// The canonical list of the types of a table whose depths are known.
+#[tactic(auto, using(crate::proofs::LinkLaws::zeros_small, crate::proofs::FinishLaws::table_small))]
+pub fn canonical_list<S: BuildHasher, A: Allocator + Copy>(
+    alloc: A,
+    table: &TextSet<S, A>,
+    depths: &[u32],
+) -> Result<PackedTexts<A>, AllocError>
+    requires table { IsTable table.now }
+    requires short { length (concat table.now) < 2 ^ 32 }
+    requires known { HasDepths table.now depths.now }
+    ensures { IfOk result (λ out. IsCanonOf out (IsType table.now)) }
+{
+    let levels = levels_of(depths);
+    let chained = Levels::of(alloc, depths, levels)?;
+    let mut numbers = vec![in alloc; 0u32; table.len()]?;
+    list_levels(alloc, table, &chained, levels, &mut numbers)
+}
