@@ -1,0 +1,6 @@
+pub mod PushLaws
+pub mod AddLaws
+pub mod GuessLaws
+pub mod OrderedLaws
+pub mod KeptLaws
+pub mod CanonTableLaws

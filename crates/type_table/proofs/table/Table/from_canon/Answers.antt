@@ -1,0 +1,39 @@
+use Rattle.std.proofs.Common.{◌≡◌, ◌+◌, ◌≤◌, [], get_or, length, arith, rules}
+use Rattle.type_table.proofs.CanonTableLaws.{next_fits, canon_short, whole_taken}
+use Rattle.canonical_list.proofs.FinishLaws.{table_small}
+use Rattle.type_table.proofs.KeptLaws.{knows_none}
+use Rattle.type_table.proofs.table.Table.from_canon.Goals as goal
+
+pub intern-requires-clause-few : goal.intern-requires-clause-few
+intern-requires-clause-few g c =
+    let canon = c.args.canon.now in
+    let k = c.loop-position.position in
+    let inside : k + 1 ≤ length canon = search rules in
+    let at : c.get.result.now ≡ get_or canon k [] = rw c.canon.view_is at c.get.ensures in
+    rw (c.loop-position.invariant, at) (next_fits canon k (canon_short canon c.len-position-end.ensures.canon) (omega (arith, inside)))
+
+pub measure_new-requires-clause-table : goal.measure_new-requires-clause-table
+measure_new-requires-clause-table g c =
+    let canon = c.args.canon.now in
+    let last : c.loop-position.position ≡ length canon = search rules in
+    let whole : c.loop-position.texts ≡ canon = whole_taken canon c.loop-position.texts c.loop-position.position c.loop-position.invariant last in
+    rw whole c.len-position-end.ensures.canon.table
+
+pub measure_new-requires-clause-few : goal.measure_new-requires-clause-few
+measure_new-requires-clause-few g c =
+    let canon = c.args.canon.now in
+    let last : c.loop-position.position ≡ length canon = search rules in
+    let whole : c.loop-position.texts ≡ canon = whole_taken canon c.loop-position.texts c.loop-position.position c.loop-position.invariant last in
+    rw whole (omega (arith, table_small canon c.len-position-end.ensures.canon.table (canon_short canon c.len-position-end.ensures.canon)))
+
+pub measure_new-requires-clause-known : goal.measure_new-requires-clause-known
+measure_new-requires-clause-known g c =
+    let none : c.new-depths.result.items ≡ [] = search rules in
+    rw none (knows_none c.loop-position.texts)
+
+pub invariant_of-result : goal.invariant_of-result
+invariant_of-result g c =
+    let canon = c.args.canon.now in
+    let last : c.loop-position.position ≡ length canon = search rules in
+    let whole : c.loop-position.texts ≡ canon = whole_taken canon c.loop-position.texts c.loop-position.position c.loop-position.invariant last in
+    (rw whole c.len-position-end.ensures.canon.table, rw whole (canon_short canon c.len-position-end.ensures.canon), c.in_ok-measure_new.ensures.ok)

@@ -1,0 +1,75 @@
+//! The guess: the record of a table that a record is expected to become.
+//!
+//! Most records of an input are in the table already, in the same sequence. So before a record is
+//! copied and hashed, it is compared with the one after the record that the last one became.
+
+ghost use Rattle.std.specs.Prelude.{◌≡◌, ◌≤◌, ◌<◌, ◌+◌, ◌-◌, ◌^◌, [], ℕ, IsTrue, length, get_or, take, drop};
+ghost use Rattle.tpi_records.specs.Records.{IsRecord};
+ghost use Rattle.cv_leaves.specs.Place.{IsChecked};
+ghost use Rattle.cv_leaves.specs.References.{references};
+ghost use Rattle.byte_fields.specs.Bytes.{AreBytes};
+ghost use Rattle.closed_trees.specs.Types.{NamesThere};
+ghost use Rattle.closed_trees.specs.Table.{IsTable, renumbered};
+
+use closed_trees::number_for;
+use cv_leaves::{places, ref_at};
+use std::alloc::Allocator;
+use std::hash::BuildHasher;
+use text_set::TextSet;
+
+/// Whether two slices have the same bytes from one offset to another.
+fn same_part(one: &[u8], other: &[u8], from: usize, to: usize) -> bool
+    requires order { from ≤ to }
+    requires inside { to ≤ length one.now }
+    requires both { length one.now ≡ length other.now }
+    ensures { IsTrue result → take (to - from) (drop from one.now) ≡ take (to - from) (drop from other.now) }
+{
+    one[from..to] == other[from..to]
+}
+
+/// Whether a record becomes this entry of a table, once its references have their new type indices.
+///
+/// The bytes before, between and after the places of the entry are compared with those of the
+/// record. At each place the new type index of the record's reference is compared with that of the
+/// entry. A record that becomes the entry has the same places, so it needs no check of its own.
+pub fn becomes(bytes: &[u8], numbers: &[u32], entry: &[u8]) -> bool
+    requires framed { IsRecord entry.now }
+    requires checked { IsChecked entry.now }
+    ensures same { IsTrue result → entry.now ≡ renumbered (λ k. get_or numbers.now k 0) bytes.now }
+    ensures checked { IsTrue result → IsChecked bytes.now }
+    ensures there { IsTrue result → NamesThere (length numbers.now) (references bytes.now) }
+{
+    if bytes.len() != entry.len() {
+        return false;
+    }
+    let mut from = 0;
+    for place in places(entry) {
+        let at = 4 + place;
+        if !same_part(bytes, entry, from, at) {
+            return false;
+        }
+        if number_for(ref_at(bytes, place), numbers) != Some(ref_at(entry, place)) {
+            return false;
+        }
+        from = at + 4;
+    }
+    same_part(bytes, entry, from, entry.len())
+}
+
+/// Whether a record becomes the record at this position of a table.
+#[tactic(auto, using(crate::proofs::GuessLaws::entry_framed, crate::proofs::GuessLaws::entry_checked, crate::proofs::GuessLaws::entry_bytes))]
+pub fn is_at<S: BuildHasher, A: Allocator>(
+    texts: &TextSet<S, A>,
+    position: usize,
+    bytes: &[u8],
+    numbers: &[u32],
+) -> bool
+    requires table { IsTable texts.now }
+    ensures at { IsTrue result → (position < length texts.now) × (get_or texts.now position [] ≡ renumbered (λ k. get_or numbers.now k 0) bytes.now) }
+    ensures small { IsTrue result → position < 2 ^ 31 }
+    ensures bytes { IsTrue result → AreBytes (renumbered (λ k. get_or numbers.now k 0) bytes.now) }
+    ensures checked { IsTrue result → IsChecked bytes.now }
+    ensures there { IsTrue result → NamesThere (length numbers.now) (references bytes.now) }
+{
+    position < texts.len() && becomes(bytes, numbers, texts.get(position))
+}

@@ -1,0 +1,37 @@
+//! Why types are not joined.
+
+ghost use Rattle.std.specs.Prelude.{◌≡◌};
+ghost use Rattle.type_table.specs.declared.fault.JoinFault.TheVariants as join;
+
+use std::alloc::{AllocError, AllocFailed};
+use thiserror::Error;
+
+/// Why types are not joined.
+///
+/// A refusal leaves the table or the list as it was.
+#[derive(Clone, Copy, Debug, PartialEq, Eq, Error)]
+pub enum JoinFault {
+    /// The records of all types have this many bytes together, with their length fields. That is
+    /// more than the limit.
+    #[error("32 TooLarge bytes {bytes}")]
+    TooLarge { bytes: u64 },
+    /// Out of memory.
+    #[error("33 Memory")]
+    Memory,
+}
+
+impl From<AllocError> for JoinFault {
+    ghost from_gives = { λ _ fault. fault ≡ join.Memory };
+
+    fn from(_error: AllocError) -> JoinFault {
+        JoinFault::Memory
+    }
+}
+
+impl<T: Drop> From<AllocFailed<T>> for JoinFault {
+    ghost from_gives = { λ _ fault. fault ≡ join.Memory };
+
+    fn from(_error: AllocFailed<T>) -> JoinFault {
+        JoinFault::Memory
+    }
+}

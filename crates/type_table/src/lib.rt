@@ -1,0 +1,30 @@
+//! Tables of types, and canonical lists of types.
+//!
+//! - [`Table`] holds a set of types, each once, in the order in which they came. Types are added
+//!   up to a limit of bytes, and a refusal leaves the table as it was.
+//!   [`Table::add_records`] adds records that name only earlier ones while it checks them, and
+//!   [`Table::add`] adds types in any order.
+//! - [`Canon`] holds a set of types as its *canonical list*: each type once, in the order of the
+//!   depths, and at one depth in the order of the bytes of the records. The records name each other
+//!   by their positions in the list. Equal sets have equal canonical lists.
+//!
+//! What is proved: a table and a canonical list hold exactly the types that were put into them. A
+//! union that is refused is larger than the limit, and the fault has its bytes, unless this runs
+//! out of memory. [`Table::add_records`] adds only records that make types (`AreTypes` of
+//! `closed_trees`).
+//!
+//! The file `src/examples.rt` of the crate `test_examples` shows this crate in use, in a few lines.
+#![tactic(auto)]
+
+mod canon;
+mod canon_records;
+mod expected;
+mod fault;
+mod ordered;
+mod table;
+mod table_depths;
+
+pub use canon::Canon;
+pub use canon_records::CanonRecords;
+pub use fault::JoinFault;
+pub use table::Table;
