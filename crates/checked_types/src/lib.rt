@@ -13,7 +13,7 @@
 //! fails, and for a cycle exactly the records that lead into one (`IsCycle`). Each record that is
 //! lent is whole and has places. Each depth is that of the tree at that position.
 //!
-//! The [`laws`] say that records have one list of those that lead into a cycle, and that records
+//! The [`laws`] say that records have at most one list of those that lead into a cycle, and that records
 //! with a cycle have no rank. Nothing recurses along references: a record is read after those that
 //! it names.
 //!

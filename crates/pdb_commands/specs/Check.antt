@@ -1,7 +1,7 @@
 -- What the command `check` prints.
 use Rattle.std.specs.Prelude.{ℕ, ◌≡◌, List, ◌∷◌, ◌++◌, length, codes}
 use Rattle.std.specs.List.{concat}
-use Rattle.type_trees.specs.Depth.{HasLevels}
+use Rattle.closed_trees.specs.Depth.{HasLevels}
 use Rattle.byte_io.specs.At.{Bytes}
 use Rattle.msf_blocks.specs.Layout.{LayoutView}
 use Rattle.pdb_merge.specs.Read.{IsAccepted, TypesWereRead, HasPdbFault, HasPdbFaultRead}

@@ -11,8 +11,8 @@ use Rattle.msf_blocks.proofs.MemoryLaws.{layout_wants_none}
 use Rattle.pdb_merge.specs.Fault.{of_msf, of_pdb, of_join, AddNamesFault}
 use Rattle.pdb_merge.specs.Read.{HasPdbFault}
 use Rattle.pdb_merge.specs.Union.{IsAddFault}
-use Rattle.type_trees.specs.declared.fault.JoinFault.{JoinFault}
-use Rattle.type_trees.specs.declared.fault.JoinFault.TheVariants as join
+use Rattle.type_table.specs.declared.fault.JoinFault.{JoinFault}
+use Rattle.type_table.specs.declared.fault.JoinFault.TheVariants as join
 use Rattle.pdb_merge.specs.declared.fault.AddFault.{AddFault}
 use Rattle.pdb_merge.specs.declared.fault.AddFault.TheVariants as add
 use Rattle.pdb_merge.specs.declared.fault.PdbFault.{PdbFault}

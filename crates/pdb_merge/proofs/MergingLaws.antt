@@ -2,10 +2,10 @@
 use Rattle.std.proofs.Common.{◌≡◌, ◌↔◌, ◌⊎◌, inl, inr, ℕ, ◌+◌, ◌<◌, ◌≤◌, List, [], ◌∷◌, ◌++◌, length, get_or, take, drop, refl, ap, ◌∙◌, arith, length-append}
 use Rattle.std.proofs.lemmas.List.{get_or_append_left, take_more, take-append-drop, length-take-le}
 use Rattle.std.proofs.Math.Seq.{get_or-append_seam}
-use Rattle.type_trees.specs.Tree.{Tree, IsType}
+use Rattle.closed_trees.specs.Tree.{Tree, IsType}
 use Rattle.std.specs.Prelude.{Result, Ok, Err, IfOk, IfErr}
-use Rattle.type_trees.specs.Finish.{IsCanonOf}
-use Rattle.type_trees.proofs.CanonTableLaws.{canon_same}
+use Rattle.canonical_list.specs.Finish.{IsCanonOf}
+use Rattle.type_table.proofs.CanonTableLaws.{canon_same}
 use Rattle.byte_io.specs.At.{Bytes, IfKnown, IfOf}
 use Rattle.byte_io.specs.declared.at.AtFault.{AtFault}
 use Rattle.byte_io.specs.declared.at.AtFault.TheVariants as at

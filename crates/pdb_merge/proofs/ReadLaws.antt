@@ -18,10 +18,11 @@ use Rattle.tpi_records.specs.Records.{HasRecords, IsFirstFault}
 use Rattle.tpi_records.specs.declared.fault.TpiFault.{TpiFault}
 use Rattle.tpi_records.specs.declared.fault.TpiFault.TheVariants as tpi
 use Rattle.tpi_records.proofs.StreamLaws.{one_records, no_fault}
-use Rattle.type_trees.proofs.CycleLaws.{types_sound}
-use Rattle.type_trees.specs.Check.{AreTypes, IsTypeFault}
-use Rattle.type_trees.specs.declared.fault.TypeFault.{TypeFault}
-use Rattle.type_trees.specs.declared.fault.TypeFault.TheVariants as types
+use Rattle.checked_types.proofs.CycleLaws.{types_sound}
+use Rattle.closed_trees.specs.Types.{AreTypes}
+use Rattle.checked_types.specs.Check.{IsTypeFault}
+use Rattle.checked_types.specs.declared.fault.TypeFault.{TypeFault}
+use Rattle.checked_types.specs.declared.fault.TypeFault.TheVariants as types
 use Rattle.pdb_merge.specs.Read.{ListsTypes, IsAccepted, HasTypeRecords, ListsRecords, HasLongInfo, HasInfoFault, HasStreamFault, HasRecordsFault, HasPdbFault, IsLayoutFault}
 use Rattle.pdb_merge.specs.Fault.{of_msf, of_stream, of_tpi, of_type}
 use Rattle.pdb_merge.specs.declared.fault.PdbFault.{PdbFault}

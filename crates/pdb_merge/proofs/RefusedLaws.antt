@@ -8,11 +8,11 @@ use Rattle.msf_streams.specs.Streams.{WasRead}
 use Rattle.tpi_records.specs.Records.{HasRecords, IsFirstFault}
 use Rattle.tpi_records.specs.declared.fault.TpiFault.{TpiFault}
 use Rattle.tpi_records.specs.declared.fault.TpiFault.TheVariants as tpi
-use Rattle.type_trees.specs.Tree.{Tree}
-use Rattle.type_trees.specs.Canon.{weight}
-use Rattle.type_trees.specs.Table.{IsUnion}
-use Rattle.type_trees.specs.declared.fault.JoinFault.{JoinFault}
-use Rattle.type_trees.specs.declared.fault.JoinFault.TheVariants as join
+use Rattle.closed_trees.specs.Tree.{Tree}
+use Rattle.closed_trees.specs.Canon.{weight}
+use Rattle.closed_trees.specs.Table.{IsUnion}
+use Rattle.type_table.specs.declared.fault.JoinFault.{JoinFault}
+use Rattle.type_table.specs.declared.fault.JoinFault.TheVariants as join
 use Rattle.pdb_merge.specs.Read.{ListsLongInfo, TypesWereRead, HasTypeFaultRead, HasStreamFaultRead, HasPdbFaultRead, IsLayoutFaultRead, HasFaultOfTexts}
 use Rattle.pdb_merge.specs.Union.{IsAddFaultRead, IsAddFaultOfTexts}
 use Rattle.pdb_merge.specs.Fault.{of_msf, of_tpi, of_pdb, of_join}

@@ -5,12 +5,12 @@ use Rattle.std.specs.List.{Contains}
 use Rattle.std.proofs.lemmas.Bool.{cases_lt}
 use Rattle.std.proofs.lemmas.List.{get_or_default}
 use Rattle.std.proofs.lemmas.List.Elements.{Contains-get_or}
-use Rattle.type_trees.specs.Tree.{Tree, tree, IsType}
-use Rattle.type_trees.specs.Canon.{weight}
-use Rattle.type_trees.specs.Table.{IsUnion}
-use Rattle.type_trees.specs.declared.fault.JoinFault.{JoinFault}
-use Rattle.type_trees.specs.declared.fault.JoinFault.TheVariants as join
-use Rattle.type_trees.proofs.WeightLaws.{weight-none, weight_grows}
+use Rattle.closed_trees.specs.Tree.{Tree, tree, IsType}
+use Rattle.closed_trees.specs.Canon.{weight}
+use Rattle.closed_trees.specs.Table.{IsUnion}
+use Rattle.type_table.specs.declared.fault.JoinFault.{JoinFault}
+use Rattle.type_table.specs.declared.fault.JoinFault.TheVariants as join
+use Rattle.closed_trees.proofs.WeightLaws.{weight-none, weight_grows}
 use Rattle.pdb_merge.specs.Read.{IsAccepted}
 use Rattle.pdb_merge.specs.Fault.{of_join, of_add}
 use Rattle.pdb_merge.specs.Laws.{TypesOfFirst, TypesOfBoth, AnyOrder, RefusedInAnyOrder, OneWeight}

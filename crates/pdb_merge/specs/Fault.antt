@@ -10,11 +10,11 @@ use Rattle.pdb_info.specs.declared.fault.InfoFault.{InfoFault}
 use Rattle.pdb_info.specs.declared.fault.InfoFault.TheVariants as infos
 use Rattle.tpi_records.specs.declared.fault.TpiFault.{TpiFault}
 use Rattle.tpi_records.specs.declared.fault.TpiFault.TheVariants as tpi
-use Rattle.type_trees.specs.declared.fault.TypeFault.{TypeFault}
-use Rattle.type_trees.specs.declared.fault.TypeFault.TheVariants as types
+use Rattle.checked_types.specs.declared.fault.TypeFault.{TypeFault}
+use Rattle.checked_types.specs.declared.fault.TypeFault.TheVariants as types
 use Rattle.std.specs.Prelude.{ℕ, ◌≢◌}
-use Rattle.type_trees.specs.declared.fault.JoinFault.{JoinFault}
-use Rattle.type_trees.specs.declared.fault.JoinFault.TheVariants as join
+use Rattle.type_table.specs.declared.fault.JoinFault.{JoinFault}
+use Rattle.type_table.specs.declared.fault.JoinFault.TheVariants as join
 use Rattle.pdb_merge.specs.declared.fault.AddFault.{AddFault}
 use Rattle.pdb_merge.specs.declared.fault.AddFault.TheVariants as add
 use Rattle.pdb_merge.specs.declared.fault.MergeFault.{MergeFault}

@@ -1,7 +1,7 @@
 -- What holds of accepted files, and of the files that are written for their types.
 use Rattle.std.specs.Prelude.{ℕ, ◌≡◌, ◌≢◌, ◌⊎◌, ◌↔◌, List, [], ◌∷◌, ◌++◌}
 use Rattle.pdb_info.specs.Settings.{SettingsView, AreSettings, record_limit}
-use Rattle.type_trees.specs.Tree.{Tree}
+use Rattle.closed_trees.specs.Tree.{Tree}
 use Rattle.pdb_merge.specs.Read.{IsAccepted}
 use Rattle.pdb_merge.specs.Union.{FileHas, HasTypeBelow, HasType, SameFiles, SameTypes, Weighs, Within, CanMerge, IsMergeFault}
 use Rattle.pdb_merge.specs.Merged.{Merged, HoldsJust}

@@ -1,6 +1,6 @@
 -- A merge in progress.
 use Rattle.std.specs.Prelude.{ℕ, List, length}
-use Rattle.type_trees.specs.Tree.{IsType}
+use Rattle.closed_trees.specs.Tree.{IsType}
 use Rattle.pdb_merge.specs.Union.{AcceptedBelow, Unites, Within}
 
 -- records that have the types of the files so far, and how many bytes the types may have together

@@ -9,7 +9,8 @@ use Rattle.msf_blocks.specs.Layout.{LayoutView, HasLayout, HasTexts, TextsRefuse
 use Rattle.msf_streams.specs.Streams.{WasRead, stream_contents}
 use Rattle.pdb_info.specs.declared.fault.InfoFault.TheVariants.{InfoShort}
 use Rattle.tpi_records.specs.Records.{HasRecords, IsFirstFault}
-use Rattle.type_trees.specs.Check.{AreTypes, HasTypeFault}
+use Rattle.closed_trees.specs.Types.{AreTypes}
+use Rattle.checked_types.specs.Check.{HasTypeFault}
 use Rattle.pdb_merge.specs.declared.fault.PdbFault.{PdbFault}
 use Rattle.pdb_merge.specs.declared.fault.PdbFault.TheVariants as fault
 

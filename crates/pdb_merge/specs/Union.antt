@@ -4,8 +4,8 @@ use Rattle.std.specs.List.{AllPairs, Contains}
 use Rattle.byte_io.specs.At.{Bytes}
 use Rattle.byte_io.specs.Inputs.{CanRead, IsFirstUnread}
 use Rattle.byte_io.specs.declared.inputs.InputFault.{InputFault}
-use Rattle.type_trees.specs.Tree.{Tree, IsType}
-use Rattle.type_trees.specs.Canon.{weight}
+use Rattle.closed_trees.specs.Tree.{Tree, IsType}
+use Rattle.closed_trees.specs.Canon.{weight}
 use Rattle.msf_blocks.specs.Layout.{LayoutView, HasTexts}
 use Rattle.pdb_merge.specs.Read.{IsAccepted, TypesWereRead, HasPdbFault, HasPdbFaultRead, IsLayoutFaultRead}
 use Rattle.pdb_merge.specs.declared.fault.AddFault.{AddFault}

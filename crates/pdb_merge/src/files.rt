@@ -4,8 +4,8 @@ ghost use Rattle.std.specs.Prelude.{◌≡◌, ◌≢◌, ◌<◌, ◌≤◌, �
 ghost use Rattle.std.specs.List.{concat};
 ghost use Rattle.byte_io.specs.At.{IfOf};
 ghost use Rattle.byte_io.specs.Inputs.{Give, CanRead, HasBytes};
-ghost use Rattle.type_trees.specs.Tree.{IsType};
-ghost use Rattle.type_trees.specs.Finish.{IsCanonOf};
+ghost use Rattle.closed_trees.specs.Tree.{IsType};
+ghost use Rattle.canonical_list.specs.Finish.{IsCanonOf};
 ghost use Rattle.pdb_info.specs.Settings.{record_limit};
 ghost use Rattle.pdb_merge.specs.Fault.{of_add, of_input, AddNamesFault, NamesFault};
 ghost use Rattle.pdb_merge.specs.Union.{HasType, Within, SameFiles, CanMerge, IsMergeFault, ReadsFirst};

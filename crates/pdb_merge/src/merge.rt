@@ -4,9 +4,9 @@ ghost use Rattle.std.specs.Prelude.{◌≡◌, ◌⊎◌, ◌↔◌, ◌++◌, [
 ghost use Rattle.byte_fields.specs.Check.{first_failing};
 ghost use Rattle.byte_io.specs.At.{Breaks, Bytes, IfKnown, IfOf};
 ghost use Rattle.msf_blocks.specs.Layout.{LayoutView, layout_checks};
-ghost use Rattle.type_trees.specs.Check.{AreTypes};
-ghost use Rattle.type_trees.specs.Tree.{Tree, IsType};
-ghost use Rattle.type_trees.specs.Finish.{IsCanonOf};
+ghost use Rattle.closed_trees.specs.Types.{AreTypes};
+ghost use Rattle.closed_trees.specs.Tree.{Tree, IsType};
+ghost use Rattle.canonical_list.specs.Finish.{IsCanonOf};
 ghost use Rattle.pdb_merge.specs.Fault.{of_add, AddNamesFault};
 ghost use Rattle.pdb_merge.specs.Union.{HasType, Within, AddsFile, AddsTexts, IsAddFault, IsAddFaultRead, IsAddFaultOfTexts, CanMerge, IsMergeFault};
 ghost use Rattle.pdb_merge.specs.Merging.{HasTaken};

@@ -4,7 +4,7 @@ ghost use Rattle.std.specs.Prelude.{◌≡◌, ◌⊎◌, ◌*◌, ◌≤◌, �
 ghost use Rattle.byte_fields.specs.Check.{first_failing};
 ghost use Rattle.byte_io.specs.At.{Bytes};
 ghost use Rattle.msf_blocks.specs.Layout.{LayoutView, layout_checks};
-ghost use Rattle.type_trees.specs.Check.{AreTypes};
+ghost use Rattle.closed_trees.specs.Types.{AreTypes};
 ghost use Rattle.pdb_merge.specs.Read.{ListsTypes, IsAccepted, HasPdbFault, HasTypeRecords, ListsRecords, HasRecordsFault, HasStreamFault, HasLongInfo, HasInfoFault, RecordsWereRead, HasTypeFaultRead};
 
 use crate::buffer::Buffer;

@@ -18,7 +18,7 @@ use tpi_records::tpi_header_bytes;
 use type_trees::Canon;
 
 /// The header of the TPI stream of a canonical list.
-#[tactic(auto, using(type_trees::proofs::CanonTableLaws::canon_short))]
+#[tactic(auto, using(type_table::proofs::CanonTableLaws::canon_short))]
 fn header_of<A: Allocator>(canon: &Canon<A>) -> [u8; 56]
     ensures { result ≡ header_bytes (length canon.now) (length (concat canon.now)) }
 {

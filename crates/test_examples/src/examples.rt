@@ -3,6 +3,7 @@
 use crate::orders::names_nodes;
 use byte_fields::{u16_at, u32_at};
 use byte_io::{In, Out, put_all};
+use closed_trees::renumber_into;
 use cv_leaves::{places, ref_at, type_name};
 use key_chains::KeyChains;
 use msf_blocks::Layout;
@@ -145,7 +146,22 @@ fn the_references_of_a_record(rt: HostRuntime) -> Result<(), Fail> {
     Ok(())
 }
 
-/// `type_trees` checks records, and lists the types of several files in canonical order.
+/// `closed_trees` makes a record that names the same types by other type indices.
+#[test]
+fn a_record_that_is_renumbered(rt: HostRuntime) -> Result<(), Fail> {
+    let file = sample(rt.alloc())?;
+    let mut buffer = Buffer::new(rt.alloc());
+    let types = Types::check(rt.alloc(), read_records(rt.alloc(), &file, &mut buffer)?)?;
+    let record = types.get(0).ok_or("no such type")?;
+    let mut copy = Vec::new(rt.alloc());
+    // it names only simple types, and these stay
+    assert!(rt; renumber_into(&mut copy, record, &[])?);
+    assert_eq!(rt; copy.as_slice(), record);
+    Ok(())
+}
+
+/// `type_trees` has the names of the crates of types: `checked_types` checks records, and a table of
+/// `type_table` lists the types of several files in canonical order (`canonical_list`).
 #[test]
 fn types_in_canonical_order(rt: HostRuntime) -> Result<(), Fail> {
     let file = sample(rt.alloc())?;

@@ -9,8 +9,8 @@
 //!   by their positions in the list. Equal sets have equal canonical lists.
 //!
 //! What is proved: a table and a canonical list hold exactly the types that were put into them. A
-//! union that is refused is larger than the limit, and the fault has its bytes, unless this runs
-//! out of memory. [`Table::add_records`] adds only records that make types (`AreTypes` of
+//! union that is refused as too large has more bytes than the limit, and the fault has their
+//! number. [`Table::add_records`] adds only records that make types (`AreTypes` of
 //! `closed_trees`).
 //!
 //! The file `src/examples.rt` of the crate `test_examples` shows this crate in use, in a few lines.

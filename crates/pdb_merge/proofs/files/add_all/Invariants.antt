@@ -1,7 +1,7 @@
 use Rattle.std.proofs.Common.{◌≡◌, ℕ, List, take}
 use Rattle.std.specs.Prelude.{IfSome}
 use Rattle.byte_io.specs.Inputs.{Give, CanRead}
-use Rattle.type_trees.specs.Tree.{IsType}
+use Rattle.closed_trees.specs.Tree.{IsType}
 use Rattle.pdb_merge.specs.Union.{Within}
 use Rattle.pdb_merge.specs.Merging.{HasTaken}
 use Rattle.pdb_merge.proofs.files.add_all.Given as goal

@@ -1,5 +1,5 @@
 use Rattle.std.proofs.Common.{◌≡◌, ◌∙◌, ap}
-use Rattle.type_trees.specs.Tree.{IsType}
+use Rattle.closed_trees.specs.Tree.{IsType}
 use Rattle.pdb_merge.specs.Merging.{MergeView}
 use Rattle.pdb_merge.proofs.MergingLaws.{taken_can}
 use Rattle.pdb_merge.proofs.ReadBackLaws.{canon_within}

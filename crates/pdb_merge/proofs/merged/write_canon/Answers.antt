@@ -1,7 +1,7 @@
 use Rattle.std.proofs.Common.{◌∙◌, ◌+◌, ◌∷◌, ℕ, [], sym, ap, arith}
 use Rattle.msf_streams.specs.Image.{image_length}
-use Rattle.type_trees.proofs.CanonTableLaws.{canon_short}
-use Rattle.type_trees.proofs.FinishLaws.{table_small}
+use Rattle.type_table.proofs.CanonTableLaws.{canon_short}
+use Rattle.canonical_list.proofs.FinishLaws.{table_small}
 use Rattle.pdb_merge.proofs.ReadBackLaws.{merged_length}
 use Rattle.pdb_merge.proofs.merged.write_canon.Goals as goal
 

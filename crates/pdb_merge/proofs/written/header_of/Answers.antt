@@ -1,6 +1,6 @@
 use Rattle.std.proofs.Common.{arith}
-use Rattle.type_trees.proofs.CanonTableLaws.{canon_short}
-use Rattle.type_trees.proofs.FinishLaws.{table_small}
+use Rattle.type_table.proofs.CanonTableLaws.{canon_short}
+use Rattle.canonical_list.proofs.FinishLaws.{table_small}
 use Rattle.pdb_merge.proofs.written.header_of.Goals as goal
 
 pub overflow_cast-count : goal.overflow_cast-count
