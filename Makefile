@@ -38,6 +38,7 @@ test:
 	docs/figures --check
 	tools/stale
 	tools/unreached
+	tools/columns
 	tests/program $(PROGRAM)
 	tests/examples $(PROGRAM)
 	tests/answers $(PROGRAM)

@@ -19,7 +19,8 @@ fn rest_from(bytes: &[u8], offset: usize) -> &[u8]
 #[tactic(auto, using(crate::proofs::NameLaws::name_here, crate::proofs::NameLaws::no_name_here, crate::proofs::NameLaws::no_name_past, crate::proofs::NameLaws::name_is_before, crate::proofs::NameLaws::name_has_nul, crate::proofs::NameLaws::no_name_no_nul))]
 pub fn name_at(bytes: &[u8], offset: usize) -> Option<&[u8]>
     ensures value { option_map (λ name. name.now) result ≡ name_at bytes.now offset }
-    ensures before { IfSome result (λ name. name.now ≡ before_first (λ byte. byte == 0) (drop offset bytes.now)) }
+    ensures before { IfSome result (λ name.
+        name.now ≡ before_first (λ byte. byte == 0) (drop offset bytes.now)) }
     ensures found { is_some result ≡ list_any (λ byte. byte == 0) (drop offset bytes.now) }
 {
     if bytes.len() < offset {

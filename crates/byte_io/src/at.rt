@@ -44,10 +44,12 @@ pub trait ReadAt {
 
     /// Fills a slice with the bytes from this offset on. `None` means that the reader is broken.
     fn read_at(&mut self, offset: u64, into: &mut [u8]) -> Option<()>
-        requires inside { IfKnown (bytes self.old) (λ file. offset + length into.old ≤ length file) }
+        requires inside { IfKnown (bytes self.old) (λ file.
+            offset + length into.old ≤ length file) }
         ensures keeps { bytes self.new ≡ bytes self.old }
         ensures same { length into.new ≡ length into.old }
-        ensures value { IfSome result (λ _. IfKnown (bytes self.old) (λ file. StandsAt file offset into.new)) }
+        ensures value { IfSome result (λ _.
+            IfKnown (bytes self.old) (λ file. StandsAt file offset into.new)) }
         ensures given { IfSome result (λ _. AreGiven (bytes self.old) offset into.new) }
         ensures whole { IfSome result (λ _. is_broken self.new ≡ is_broken self.old) }
         ensures refuses { IfNone result (Breaks (bytes self.old) (is_broken self.new)) }
@@ -66,10 +68,14 @@ pub fn read_more<R: ReadAt, A: Allocator>(
 ) -> Result<(), ReadFault>
     requires inside { IfKnown (R.bytes input.old) (λ file. offset + count ≤ length file) }
     ensures keeps { R.bytes input.new ≡ R.bytes input.old }
-    ensures value { OnOk result (IfKnown (R.bytes input.old) (λ file. buffer.new.items ≡ buffer.old.items ++ take count (drop offset file))) }
+    ensures value { OnOk result (IfKnown (R.bytes input.old) (λ file.
+        buffer.new.items ≡ buffer.old.items ++ take count (drop offset file))) }
     ensures len { OnOk result (length buffer.new.items ≡ length buffer.old.items + count) }
-    ensures given { OnOk result (GivesBehind (R.bytes input.old) offset buffer.old.items buffer.new.items) }
-    ensures first { IfErr result (λ fault. ((fault ≡ ReadFault.Read) × Breaks (R.bytes input.old) (R.is_broken input.new)) ⊎ (fault ≡ ReadFault.Memory)) }
+    ensures given { OnOk result
+        (GivesBehind (R.bytes input.old) offset buffer.old.items buffer.new.items) }
+    ensures first { IfErr result (λ fault.
+        ((fault ≡ ReadFault.Read) × Breaks (R.bytes input.old) (R.is_broken input.new))
+        ⊎ (fault ≡ ReadFault.Memory)) }
 {
     let length = buffer.len();
     buffer.resize(length + count as usize, 0)?;

@@ -44,9 +44,13 @@ impl From<AllocError> for ReadFault {
 /// are no more. `TooLong` where more than `room` bytes came.
 fn fetch_piece<R: Source>(input: &mut R, piece: &mut [u8], room: usize) -> Result<usize, ReadFault>
     requires some { 0 < length piece.old }
-    ensures value { IfOk result (λ n. (n ≤ length piece.new) × (n ≤ room) × Consumes (R.left input.old) (R.left input.new) (take n piece.new) × (n ≡ 0 → IsAtEnd (R.left input.new))) }
+    ensures value { IfOk result (λ n.
+        (n ≤ length piece.new) × (n ≤ room)
+        × Consumes (R.left input.old) (R.left input.new) (take n piece.new)
+        × (n ≡ 0 → IsAtEnd (R.left input.new))) }
     ensures same { length piece.new ≡ length piece.old }
-    ensures first { IfErr result (IsNotRead (R.left input.old) (R.left input.new) (R.is_broken input.new) room) }
+    ensures first { IfErr result
+        (IsNotRead (R.left input.old) (R.left input.new) (R.is_broken input.new) room) }
 {
     match input.fetch(piece) {
         None => Err(ReadFault::Read),
@@ -75,8 +79,11 @@ fn fetch_more<R: Source, A: Allocator>(
     file: &mut Vec<u8, A>,
 ) -> Result<usize, ReadFault>
     requires short { length file.old.items ≤ limit }
-    ensures value { IfOk result (GivesMore (R.left input.old) (R.left input.new) limit file.old.items file.new.items) }
-    ensures first { IfErr result (λ fault. IsNotRead (R.left input.old) (R.left input.new) (R.is_broken input.new) (limit - length file.old.items) fault
+    ensures value { IfOk result
+        (GivesMore (R.left input.old) (R.left input.new) limit file.old.items file.new.items) }
+    ensures first { IfErr result (λ fault.
+        IsNotRead (R.left input.old) (R.left input.new) (R.is_broken input.new)
+        (limit - length file.old.items) fault
         ⊎ ((fault ≡ ReadFault.Memory) × (R.left input.new ≡ R.left input.old))) }
 {
     let length = file.len();
@@ -101,9 +108,13 @@ pub fn read_into<R: Source, A: Allocator>(
     limit: u32,
     file: &mut Vec<u8, A>,
 ) -> Result<(), ReadFault>
-    ensures value { OnOk result (GivesAll (R.left input.old) (R.left input.new) limit file.new.items) }
-    ensures first { IfErr result (λ fault. IsNotRead (R.left input.old) (R.left input.new) (R.is_broken input.new) limit fault ⊎ (fault ≡ ReadFault.Memory)) }
-    ensures memory { IfErr result (λ fault. fault ≡ ReadFault.Memory → HasGiven (R.left input.old) (R.left input.new) limit) }
+    ensures value { OnOk result
+        (GivesAll (R.left input.old) (R.left input.new) limit file.new.items) }
+    ensures first { IfErr result (λ fault.
+        IsNotRead (R.left input.old) (R.left input.new) (R.is_broken input.new) limit fault
+        ⊎ (fault ≡ ReadFault.Memory)) }
+    ensures memory { IfErr result (λ fault.
+        fault ≡ ReadFault.Memory → HasGiven (R.left input.old) (R.left input.new) limit) }
 {
     file.clear();
     for turn in 0..u64::from(limit) + 1 {
@@ -121,9 +132,13 @@ pub fn read_all<R: Source, A: Allocator>(
     input: &mut R,
     limit: u32,
 ) -> Result<Vec<u8, A>, ReadFault>
-    ensures value { IfOk result (λ file. GivesAll (R.left input.old) (R.left input.new) limit file.items) }
-    ensures first { IfErr result (λ fault. IsNotRead (R.left input.old) (R.left input.new) (R.is_broken input.new) limit fault ⊎ (fault ≡ ReadFault.Memory)) }
-    ensures memory { IfErr result (λ fault. fault ≡ ReadFault.Memory → HasGiven (R.left input.old) (R.left input.new) limit) }
+    ensures value { IfOk result (λ file.
+        GivesAll (R.left input.old) (R.left input.new) limit file.items) }
+    ensures first { IfErr result (λ fault.
+        IsNotRead (R.left input.old) (R.left input.new) (R.is_broken input.new) limit fault
+        ⊎ (fault ≡ ReadFault.Memory)) }
+    ensures memory { IfErr result (λ fault.
+        fault ≡ ReadFault.Memory → HasGiven (R.left input.old) (R.left input.new) limit) }
 {
     let mut file = Vec::new(alloc);
     read_into(input, limit, &mut file)?;
@@ -133,8 +148,10 @@ pub fn read_all<R: Source, A: Allocator>(
 /// Reads a source to its end, and drops its bytes. The faults are those of [`read_into`], but for
 /// `Memory`, since this does not allocate.
 pub fn skip_all<R: Source>(input: &mut R, limit: u32) -> Result<(), ReadFault>
-    ensures value { OnOk result ((bytes : List ℕ) × GivesAll (R.left input.old) (R.left input.new) limit bytes) }
-    ensures first { IfErr result (IsNotRead (R.left input.old) (R.left input.new) (R.is_broken input.new) limit) }
+    ensures value { OnOk result
+        ((bytes : List ℕ) × GivesAll (R.left input.old) (R.left input.new) limit bytes) }
+    ensures first { IfErr result
+        (IsNotRead (R.left input.old) (R.left input.new) (R.is_broken input.new) limit) }
 {
     let mut piece = [0u8; DROPPED];
     let mut room = limit as usize;

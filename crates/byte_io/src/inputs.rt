@@ -54,8 +54,10 @@ pub trait Inputs {
         buffer: &'a mut Vec<u8, A>,
     ) -> Result<&'a [u8], InputFault>
         requires inside { IfSome (known self.now) (λ each. input < length each) }
-        ensures value { IfSome (known self.now) (λ each. IfOk result (λ bytes. slice_get each input ≡ Some (Ok bytes.now))) }
-        ensures fault { IfSome (known self.now) (λ each. IfErr result (λ fault. (slice_get each input ≡ Some (Err fault)) ⊎ (fault ≡ InputFault.Read reads.Memory))) };
+        ensures value { IfSome (known self.now) (λ each.
+            IfOk result (λ bytes. slice_get each input ≡ Some (Ok bytes.now))) }
+        ensures fault { IfSome (known self.now) (λ each. IfErr result (λ fault.
+            (slice_get each input ≡ Some (Err fault)) ⊎ (fault ≡ InputFault.Read reads.Memory))) };
 
     /// Opens the input at a position, from 0. One that is not read by position is read to its end,
     /// as `read` does.
@@ -65,14 +67,19 @@ pub trait Inputs {
         buffer: &'a mut Vec<u8, A>,
     ) -> Result<Opened<'a, Self::File>, InputFault>
         requires inside { IfSome (known self.now) (λ each. input < length each) }
-        ensures value { IfSome (known self.now) (λ each. IfOk result (λ opened. (bytes : List ℕ) × (slice_get each input ≡ Some (Ok bytes)) × HasBytes Self.File.bytes opened bytes)) }
-        ensures fault { IfSome (known self.now) (λ each. IfErr result (λ fault. (slice_get each input ≡ Some (Err fault)) ⊎ (fault ≡ InputFault.Read reads.Memory))) };
+        ensures value { IfSome (known self.now) (λ each. IfOk result (λ opened.
+            (bytes : List ℕ) × (slice_get each input ≡ Some (Ok bytes))
+            × HasBytes Self.File.bytes opened bytes)) }
+        ensures fault { IfSome (known self.now) (λ each. IfErr result (λ fault.
+            (slice_get each input ≡ Some (Err fault)) ⊎ (fault ≡ InputFault.Read reads.Memory))) };
 
     /// Checks that the input at a position, from 0, can be read to its end. This does not allocate.
     fn check(&self, input: usize) -> Result<(), InputFault>
         requires inside { IfSome (known self.now) (λ each. input < length each) }
-        ensures value { IfSome (known self.now) (λ each. IfOk result (λ _. (bytes : List ℕ) × (slice_get each input ≡ Some (Ok bytes)))) }
-        ensures fault { IfSome (known self.now) (λ each. IfErr result (λ fault. slice_get each input ≡ Some (Err fault))) };
+        ensures value { IfSome (known self.now) (λ each.
+            IfOk result (λ _. (bytes : List ℕ) × (slice_get each input ≡ Some (Ok bytes)))) }
+        ensures fault { IfSome (known self.now) (λ each.
+            IfErr result (λ fault. slice_get each input ≡ Some (Err fault))) };
 }
 
 impl<'f> Inputs for &'f [&'f [u8]] {

@@ -20,7 +20,8 @@ pub trait Source {
     /// 0 means that there are no more bytes, and `None` means that the source is broken.
     fn fetch(&mut self, into: &mut [u8]) -> Option<usize>
         ensures bound { IfSome result (λ n. n ≤ length into.new) }
-        ensures gives { IfSome result (λ n. Consumes (left self.old) (left self.new) (take n into.new)) }
+        ensures gives { IfSome result (λ n.
+            Consumes (left self.old) (left self.new) (take n into.new)) }
         ensures end { IfSome result (λ n. 0 < length into.new → n ≡ 0 → IsAtEnd (left self.new)) }
         ensures whole { IfSome result (λ _. is_broken self.new ≡ is_broken self.old) }
         ensures refuses { IfNone result (0 < length into.new → is_broken self.new ≡ true) }

@@ -40,7 +40,8 @@ fn push_row<A: Allocator>(
     requires checked { IsChecked bytes.now }
     requires named { AreNumbered numbers.now (references bytes.now) }
     requires few { length (concat rows.old) + length bytes.now < 2 ^ 34 }
-    ensures ok { IfOk result (λ _. rows.new ≡ rows.old ++ renumbered (λ k. get_or numbers.now k 0) bytes.now ∷ []) }
+    ensures ok { IfOk result (λ _.
+        rows.new ≡ rows.old ++ renumbered (λ k. get_or numbers.now k 0) bytes.now ∷ []) }
 {
     renumber_into(copy, bytes, numbers)?;
     rows.push(copy)
@@ -96,7 +97,9 @@ fn collect<S: BuildHasher, A: Allocator + Copy>(
     requires many { length depths.now ≡ length table.now }
     requires numbered { length numbers.now ≡ length table.now }
     requires bounded { (k : ℕ) → get_or numbers.now k 0 < 2 ^ 31 }
-    ensures rows { IfOk result (λ _. unsorted.new.rows ≡ map (row table.now (λ k. get_or numbers.now k 0)) unsorted.new.positions.items) }
+    ensures rows { IfOk result (λ _.
+        unsorted.new.rows
+        ≡ map (row table.now (λ k. get_or numbers.now k 0)) unsorted.new.positions.items) }
     ensures level { IfOk result (λ _. AtLevel depths.now level unsorted.new.positions.items) }
 {
     unsorted.clear(alloc);
@@ -130,8 +133,10 @@ fn keyed_rows<'a, A: Allocator + Copy>(
 
 /// Appends the rows to the list.
 fn append_rows<A: Allocator>(order: &[Row<'_>], out: &mut PackedTexts<A>) -> Result<(), AllocError>
-    requires padded { (x : List ℕ) → Contains (map (λ p. p.bytes.now) order.now) x → length x % 4 ≡ 0 }
-    requires few { length (concat out.old) + length (concat (map (λ p. p.bytes.now) order.now)) < 2 ^ 34 }
+    requires padded { (x : List ℕ) → Contains (map (λ p. p.bytes.now) order.now) x →
+        length x % 4 ≡ 0 }
+    requires few { length (concat out.old) + length (concat (map (λ p. p.bytes.now) order.now))
+        < 2 ^ 34 }
     ensures { IfOk result (λ _. out.new ≡ out.old ++ map (λ p. p.bytes.now) order.now) }
 {
     for entry in order {
@@ -142,10 +147,12 @@ fn append_rows<A: Allocator>(order: &[Row<'_>], out: &mut PackedTexts<A>) -> Res
 
 /// Numbers the records of the rows in order, from `first` on.
 fn number_rows(order: &[Row<'_>], first: usize, numbers: &mut [u32])
-    requires within { (k : ℕ) → k < length order.now → get_or (map (λ p. p.position) order.now) k 0 < length numbers.old }
+    requires within { (k : ℕ) → k < length order.now →
+        get_or (map (λ p. p.position) order.now) k 0 < length numbers.old }
     requires few { first + length order.now < 2 ^ 31 }
     requires bounded { (k : ℕ) → get_or numbers.old k 0 < 2 ^ 31 }
-    ensures numbered { Numbered (map (λ p. p.position) order.now) first (length order.now) numbers.old numbers.new }
+    ensures numbered { Numbered (map (λ p. p.position) order.now) first (length order.now)
+        numbers.old numbers.new }
     ensures same { length numbers.new ≡ length numbers.old }
     ensures bounded { (k : ℕ) → get_or numbers.new k 0 < 2 ^ 31 }
 {
@@ -164,8 +171,14 @@ fn sorted_rows<'a, A: Allocator + Copy>(
 ) -> Result<Vec<Row<'a>, A>, AllocError>
     requires many { length positions.now ≡ length rows.now }
     ensures moved { IfOk result (λ v. IsPermutation positions.now (map (λ p. p.position) v.items)) }
-    ensures fit { IfOk result (λ v. (g : ℕ → List ℕ) → rows.now ≡ map g positions.now → map (λ p. p.bytes.now) v.items ≡ map g (map (λ p. p.position) v.items)) }
-    ensures sorted { IfOk result (λ v. (k : ℕ) → k + 1 < length v.items → slice_cmp nat_cmp (get_or (map (λ p. p.bytes.now) v.items) k []) (get_or (map (λ p. p.bytes.now) v.items) (k + 1) []) ≢ Greater) }
+    ensures fit { IfOk result (λ v.
+        (g : ℕ → List ℕ) → rows.now ≡ map g positions.now →
+        map (λ p. p.bytes.now) v.items ≡ map g (map (λ p. p.position) v.items)) }
+    ensures sorted { IfOk result (λ v.
+        (k : ℕ) → k + 1 < length v.items →
+        slice_cmp nat_cmp (get_or (map (λ p. p.bytes.now) v.items) k [])
+        (get_or (map (λ p. p.bytes.now) v.items) (k + 1) [])
+        ≢ Greater) }
 {
     let mut keyed = keyed_rows(alloc, rows, positions)?;
     keyed.sort_unstable();
@@ -189,7 +202,8 @@ fn list_level<S: BuildHasher, A: Allocator + Copy>(
     requires listed { ListsBelow table.now level out.old (λ k. get_or numbers.old k 0) }
     requires numbered { length numbers.old ≡ length table.now }
     requires bounded { (k : ℕ) → get_or numbers.old k 0 < 2 ^ 31 }
-    ensures listed { IfOk result (λ _. ListsBelow table.now (level + 1) out.new (λ k. get_or numbers.new k 0)) }
+    ensures listed { IfOk result (λ _.
+        ListsBelow table.now (level + 1) out.new (λ k. get_or numbers.new k 0)) }
     ensures numbered { length numbers.new ≡ length table.now }
     ensures bounded { (k : ℕ) → get_or numbers.new k 0 < 2 ^ 31 }
 {

@@ -29,7 +29,9 @@ impl<'a, A: Allocator> Model for Levels<'a, A> {
 
     ghost view = { λ l. l.depths.now };
 
-    ghost invariant = { λ l. (length l.older.items ≡ length l.depths.now) × AreLinked l.depths.now l.newest.items l.older.items };
+    ghost invariant = { λ l.
+        (length l.older.items ≡ length l.depths.now)
+        × AreLinked l.depths.now l.newest.items l.older.items };
 }
 
 /// How many levels there are: one more than the greatest depth, or 0 where there are no depths.
@@ -95,8 +97,10 @@ impl<'a, A: Allocator> Levels<'a, A> {
     /// The last position before this one that has the same depth. `None` where there is none.
     pub fn older(&self, position: usize) -> Option<usize>
         requires inside { position < length self.now }
-        ensures found { IfSome result (λ k. (k < position) × (get_or self.now k 0 ≡ get_or self.now position 0)) }
-        ensures last { IfSome result (λ k. NoneFrom self.now (get_or self.now position 0) (k + 1) position) }
+        ensures found { IfSome result (λ k.
+            (k < position) × (get_or self.now k 0 ≡ get_or self.now position 0)) }
+        ensures last { IfSome result (λ k.
+            NoneFrom self.now (get_or self.now position 0) (k + 1) position) }
         ensures none { IfNone result (NoneFrom self.now (get_or self.now position 0) 0 position) }
     {
         position_of(self.older[position])

@@ -20,7 +20,9 @@ use tpi_records::FIRST_INDEX;
 fn deepest(depth: Option<u32>, to: u32, known: u32, depths: &[u32]) -> Option<u32>
     requires known { known ≤ FIRST_INDEX + length depths.now }
     requires bounded { AreBelow (2 ^ 31) depths.now }
-    ensures some { IfSome result (λ d. (before : ℕ) × (depth ≡ Some before) × (to < known) × (d ≡ max before (height (λ k. get_or depths.now k 0) to))
+    ensures some { IfSome result (λ d.
+        (before : ℕ) × (depth ≡ Some before) × (to < known)
+        × (d ≡ max before (height (λ k. get_or depths.now k 0) to))
         × ((bound : ℕ) → AreBelow bound depths.now → before ≤ bound → d ≤ bound)) }
 {
     let before = depth?;
@@ -47,9 +49,12 @@ fn check_references(
     requires checked { IsChecked bytes.now }
     requires bounded { AreBelow (2 ^ 31) depths.now }
     ensures first { Makes result (reference_checks many position bytes.now (places_of bytes.now)) }
-    ensures lower { IfOk result (λ found. IfSome found (λ _. NamesThere position (references bytes.now))) }
-    ensures depth { IfOk result (λ found. IfSome found (λ d. d ≡ depth_above (λ k. get_or depths.now k 0) (references bytes.now))) }
-    ensures bound { IfOk result (λ found. IfSome found (λ d. (bound : ℕ) → AreBelow bound depths.now → d ≤ bound)) }
+    ensures lower { IfOk result (λ found.
+        IfSome found (λ _. NamesThere position (references bytes.now))) }
+    ensures depth { IfOk result (λ found.
+        IfSome found (λ d. d ≡ depth_above (λ k. get_or depths.now k 0) (references bytes.now))) }
+    ensures bound { IfOk result (λ found.
+        IfSome found (λ d. (bound : ℕ) → AreBelow bound depths.now → d ≤ bound)) }
 {
     let index = FIRST_INDEX + position as u32;
     let end = FIRST_INDEX + many as u32;
@@ -84,9 +89,12 @@ pub fn check_record(
     requires framed { IsRecord bytes.now }
     requires bounded { AreBelow (2 ^ 31) depths.now }
     ensures first { Makes result (type_checks many position bytes.now) }
-    ensures lower { IfOk result (λ found. IfSome found (λ _. NamesThere position (references bytes.now))) }
-    ensures depth { IfOk result (λ found. IfSome found (λ d. d ≡ depth_above (λ k. get_or depths.now k 0) (references bytes.now))) }
-    ensures bound { IfOk result (λ found. IfSome found (λ d. (bound : ℕ) → AreBelow bound depths.now → d ≤ bound)) }
+    ensures lower { IfOk result (λ found.
+        IfSome found (λ _. NamesThere position (references bytes.now))) }
+    ensures depth { IfOk result (λ found.
+        IfSome found (λ d. d ≡ depth_above (λ k. get_or depths.now k 0) (references bytes.now))) }
+    ensures bound { IfOk result (λ found.
+        IfSome found (λ d. (bound : ℕ) → AreBelow bound depths.now → d ≤ bound)) }
 {
     if let Err(fault) = check(bytes) {
         let index = FIRST_INDEX + position as u32;

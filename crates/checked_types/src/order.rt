@@ -77,7 +77,8 @@ pub fn arrange<A: Allocator + Copy>(
 ) -> Result<Order<A>, TypeFault<A>>
     requires checked { AllByRecursion IsChecked records.now }
     requires there { AllNameThere (length records.now) records.now }
-    ensures value { IfOk result (λ order. IsOrder (graph_of records.now) (order_list (length records.now) order)) }
+    ensures value { IfOk result (λ order.
+        IsOrder (graph_of records.now) (order_list (length records.now) order)) }
     ensures cycle { IfErr result (IsCycleFault records.now) }
 {
     let graph = graph_of(alloc, records)?;

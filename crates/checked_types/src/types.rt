@@ -45,7 +45,10 @@ impl<'a, A: Allocator> Model for Types<'a, A> {
 
     ghost view = { λ t. t.records };
 
-    ghost invariant = { λ t. AreTypes t.records × IsOrder (graph_of t.records) (order_list (length t.records) t.order) × (length t.depths.items ≡ length t.records) × AreDepths t.records t.depths.items × HasLevels t.records t.levels };
+    ghost invariant = { λ t.
+        AreTypes t.records × IsOrder (graph_of t.records) (order_list (length t.records) t.order)
+        × (length t.depths.items ≡ length t.records) × AreDepths t.records t.depths.items
+        × HasLevels t.records t.levels };
 }
 
 /// Stores the depth of the record at a position. Returns how many levels there are with it. `None`
@@ -57,7 +60,10 @@ fn keep_depth(
     depth: Option<u32>,
 ) -> Option<u32>
     requires { IfSome depth (λ d. d < 2 ^ 31) }
-    ensures some { IfSome result (λ n. (before : ℕ) × (d : ℕ) × (levels ≡ Some before) × (depth ≡ Some d) × (position < length depths.old) × (depths.new ≡ set depths.old position d) × (n ≡ max before (d + 1))) }
+    ensures some { IfSome result (λ n.
+        (before : ℕ) × (d : ℕ) × (levels ≡ Some before) × (depth ≡ Some d)
+        × (position < length depths.old) × (depths.new ≡ set depths.old position d)
+        × (n ≡ max before (d + 1))) }
     ensures none { IfNone result (depths.new ≡ depths.old) }
 {
     let before = levels?;
@@ -80,8 +86,10 @@ fn check_all<A: Allocator>(
     ensures framed { AllByRecursion IsRecord records.now }
     ensures first { Makes result (checks_of records.now) }
     ensures lower { IfOk result (λ levels. IfSome levels (λ _. IsRanked records.now (λ i. i))) }
-    ensures measured { IfOk result (λ levels. IfSome levels (λ n. depths.old ≡ replicate (length records.now) 0
-        → (length depths.new ≡ length records.now) × AreDepths records.now depths.new × HasLevels records.now n)) }
+    ensures measured { IfOk result (λ levels. IfSome levels (λ n.
+        depths.old ≡ replicate (length records.now) 0 →
+        (length depths.new ≡ length records.now) × AreDepths records.now depths.new
+        × HasLevels records.now n)) }
 {
     let many = records.len();
     let mut position = 0;
@@ -195,7 +203,8 @@ impl<'a, A: Allocator> Types<'a, A> {
     /// otherwise one more than the depth of the deepest type that it names. `None` where there is
     /// no such position.
     pub fn depth(&self, i: usize) -> Option<u32>
-        ensures value { IfSome result (λ d. (i < length self.now) × ((t : Tree) → IsTreeAt self.now i t → d ≡ depth t)) }
+        ensures value { IfSome result (λ d.
+            (i < length self.now) × ((t : Tree) → IsTreeAt self.now i t → d ≡ depth t)) }
         ensures none { IfNone result (length self.now ≤ i) }
     {
         self.depths.get(i).copied()

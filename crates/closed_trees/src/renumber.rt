@@ -54,9 +54,12 @@ pub fn renumber_into<A: Allocator>(
 ) -> Result<bool, AllocError>
     requires framed { IsRecord bytes.now }
     requires checked { IsChecked bytes.now }
-    ensures value { IfOk result (λ all. IsTrue all → copy.new.items ≡ renumbered (λ k. get_or numbers.now k 0) bytes.now) }
-    ensures there { IfOk result (λ all. IsTrue all → NamesThere (length numbers.now) (references bytes.now)) }
-    ensures named { IfOk result (λ all. AreNumbered numbers.now (references bytes.now) → IsTrue all) }
+    ensures value { IfOk result (λ all.
+        IsTrue all → copy.new.items ≡ renumbered (λ k. get_or numbers.now k 0) bytes.now) }
+    ensures there { IfOk result (λ all.
+        IsTrue all → NamesThere (length numbers.now) (references bytes.now)) }
+    ensures named { IfOk result (λ all.
+        AreNumbered numbers.now (references bytes.now) → IsTrue all) }
 {
     copy.clear();
     copy.extend_from_slice(bytes)?;

@@ -46,7 +46,8 @@ fn points_to_member(attributes: u32) -> bool
 /// The offsets in the body at which the parts begin and stop.
 #[tactic(auto, unfolding(crate::specs::Part::extent_checks))]
 pub fn extent(rest: Rest, body: &[u8]) -> Result<(usize, usize), LeafFault>
-    ensures value { IfOk result (λ e. (e.0 ≤ 4) × (e.0 ≡ start_of rest) × (e.1 ≡ stop_of rest body.now)) }
+    ensures value { IfOk result (λ e.
+        (e.0 ≤ 4) × (e.0 ≡ start_of rest) × (e.1 ≡ stop_of rest body.now)) }
     ensures first { Makes result (extent_checks rest body.now) }
 {
     match rest {
@@ -66,7 +67,8 @@ pub fn part_at(rest: Rest, body: &[u8], at: usize) -> Result<Part, LeafFault>
     requires { (at < 2 ^ 17) × (length body.now < 2 ^ 17) }
     ensures inside { IfOk result (λ p. p.end ≤ length body.now) }
     ensures end { IfOk result (λ p. p.end ≡ part_end rest body.now at) }
-    ensures places { IfOk result (λ p. map (λ k. at + k) p.places.now ≡ part_places rest body.now at) }
+    ensures places { IfOk result (λ p.
+        map (λ k. at + k) p.places.now ≡ part_places rest body.now at) }
     ensures first { Makes result (part_checks rest body.now at) }
 {
     match rest {

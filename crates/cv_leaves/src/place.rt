@@ -49,9 +49,12 @@ impl<'a> Model for RecordPlaces<'a> {
 
     ghost Value = { List ℕ };
 
-    ghost view = { λ p. map (λ k. p.base + k) p.pending.now ++ places_from p.rest p.body.now p.stop p.next };
+    ghost view = { λ p.
+        map (λ k. p.base + k) p.pending.now ++ places_from p.rest p.body.now p.stop p.next };
 
-    ghost invariant = { λ p. (length p.body.now < 2 ^ 17) × (p.base < 2 ^ 17) × (p.next < 2 ^ 17) × (first_failing (checks_from p.rest p.body.now p.stop p.next) ≡ None) };
+    ghost invariant = { λ p.
+        (length p.body.now < 2 ^ 17) × (p.base < 2 ^ 17) × (p.next < 2 ^ 17)
+        × (first_failing (checks_from p.rest p.body.now p.stop p.next) ≡ None) };
 }
 
 impl<'a> Iterator for RecordPlaces<'a> {
@@ -89,9 +92,12 @@ fn next_placed(rest: Rest, body: &[u8], start: usize, stop: usize) -> Option<(us
     requires few { (start < 2 ^ 17) × (length body.now < 2 ^ 17) }
     requires checked { first_failing (checks_from rest body.now stop start) ≡ None }
     ensures none { IfNone result (places_from rest body.now stop start ≡ []) }
-    ensures some { IfSome result (λ p. places_from rest body.now stop start ≡ map (λ k. p.0 + k) p.1.places.now ++ places_from rest body.now stop p.1.end) }
+    ensures some { IfSome result (λ p.
+        places_from rest body.now stop start
+        ≡ map (λ k. p.0 + k) p.1.places.now ++ places_from rest body.now stop p.1.end) }
     ensures placed { IfSome result (λ p. 0 < length p.1.places.now) }
-    ensures held { IfSome result (λ p. first_failing (checks_from rest body.now stop p.1.end) ≡ None) }
+    ensures held { IfSome result (λ p.
+        first_failing (checks_from rest body.now stop p.1.end) ≡ None) }
     ensures near { IfSome result (λ p. (p.0 < 2 ^ 17) × (p.1.end < 2 ^ 17)) }
 {
     let mut at = start;

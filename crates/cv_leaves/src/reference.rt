@@ -34,7 +34,8 @@ fn put_u32(bytes: &mut [u8], at: usize, number: u32)
 pub fn set_ref(record: &mut [u8], place: usize, to: u32)
     requires { IsPlace «record».old place }
     ensures changes { «record».new ≡ put_four «record».old (4 + place) to }
-    ensures keeps { (places : List ℕ) → HasPlaces «record».old places → HasPlaces «record».new places }
+    ensures keeps { (places : List ℕ) → HasPlaces «record».old places →
+        HasPlaces «record».new places }
 {
     put_u32(record, 4 + place, to);
 }

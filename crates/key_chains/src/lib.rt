@@ -40,7 +40,9 @@ impl<A: Allocator> Model for KeyChains<A> {
 
     ghost view = { λ c. c.keys.items };
 
-    ghost invariant = { λ c. (length c.links.items ≡ length c.keys.items) × (length c.keys.items < 2 ^ 31) × AreChained c.keys.items (get nat_eq c.newest) c.links.items };
+    ghost invariant = { λ c.
+        (length c.links.items ≡ length c.keys.items) × (length c.keys.items < 2 ^ 31)
+        × AreChained c.keys.items (get nat_eq c.newest) c.links.items };
 }
 
 /// The position that a link leads to. `None` for the link 0.
@@ -58,7 +60,9 @@ fn relink<A: Allocator>(
     link: u32,
 )
     requires there { ContainsKey nat_eq newest.old key }
-    ensures { (q : ℕ) → unwrap_or (get nat_eq newest.new q) 0 ≡ (if nat_eq key q then link else unwrap_or (get nat_eq newest.old q) 0) }
+    ensures { (q : ℕ) →
+        unwrap_or (get nat_eq newest.new q) 0
+        ≡ (if nat_eq key q then link else unwrap_or (get nat_eq newest.old q) 0) }
 {
     if link == 0 {
         newest.swap_remove(&key);
@@ -156,8 +160,10 @@ impl<A: Allocator> KeyChains<A> {
     /// The newest position before this one that has the same key. `None` where there is none.
     pub fn older(&self, position: usize) -> Option<usize>
         requires inside { position < length self.now }
-        ensures found { IfSome result (λ k. (k < position) × (get_or self.now k 0 ≡ get_or self.now position 0)) }
-        ensures last { IfSome result (λ k. NoneFrom self.now (get_or self.now position 0) (k + 1) position) }
+        ensures found { IfSome result (λ k.
+            (k < position) × (get_or self.now k 0 ≡ get_or self.now position 0)) }
+        ensures last { IfSome result (λ k.
+            NoneFrom self.now (get_or self.now position 0) (k + 1) position) }
         ensures none { IfNone result (NoneFrom self.now (get_or self.now position 0) 0 position) }
     {
         position_of(self.links[position])

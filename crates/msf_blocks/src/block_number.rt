@@ -78,7 +78,8 @@ pub fn nth_block(block_size: u32, j: u32) -> u32
     requires fits { nth_block block_size j < 2 ^ 32 }
     ensures value { result ≡ nth_block block_size j }
     ensures free { is_map_block block_size result ≡ false }
-    ensures below { data_blocks block_size result ≡ map (nth_block block_size) (range_with_len 0 j) }
+    ensures below { data_blocks block_size result
+        ≡ map (nth_block block_size) (range_with_len 0 j) }
     ensures count { length (data_blocks block_size result) ≡ j }
 {
     nth_by_formula(block_size, j)

@@ -18,7 +18,8 @@ fn run_len(blocks: &[u32], position: u32, most: u32) -> u32
     ensures some { 0 < result }
     ensures most { result ≤ most }
     ensures inside { position + result ≤ length blocks.now }
-    ensures side { (k : ℕ) → k < result → get_or blocks.now (position + k) 0 ≡ get_or blocks.now position 0 + k }
+    ensures side { (k : ℕ) → k < result →
+        get_or blocks.now (position + k) 0 ≡ get_or blocks.now position 0 + k }
 {
     let first = u64::from(blocks[position as usize]);
     for k in 1..most {
@@ -48,9 +49,13 @@ pub fn read_blocks<R: ReadAt, A: Allocator>(
     requires inside { IfKnown (R.bytes input.old) (λ file. AreInside file block_size blocks.now) }
     ensures keeps { R.bytes input.new ≡ R.bytes input.old }
     ensures len { OnOk result (length buffer.new.items ≡ size) }
-    ensures value { OnOk result (IfKnown (R.bytes input.old) (λ file. buffer.new.items ≡ in_blocks file block_size blocks.now size)) }
-    ensures given { OnOk result (AreGivenIn (R.bytes input.old) block_size blocks.now buffer.new.items) }
-    ensures first { IfErr result (λ fault. ((fault ≡ ReadFault.Read) × Breaks (R.bytes input.old) (R.is_broken input.new)) ⊎ (fault ≡ ReadFault.Memory)) }
+    ensures value { OnOk result (IfKnown (R.bytes input.old) (λ file.
+        buffer.new.items ≡ in_blocks file block_size blocks.now size)) }
+    ensures given { OnOk result
+        (AreGivenIn (R.bytes input.old) block_size blocks.now buffer.new.items) }
+    ensures first { IfErr result (λ fault.
+        ((fault ≡ ReadFault.Read) × Breaks (R.bytes input.old) (R.is_broken input.new))
+        ⊎ (fault ≡ ReadFault.Memory)) }
 {
     buffer.clear();
     buffer.reserve_exact(size as usize)?;

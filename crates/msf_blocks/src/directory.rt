@@ -47,7 +47,8 @@ impl<'a> Model for Directory<'a> {
 
     ghost Value = { DirectoryView };
 
-    ghost view = { λ d. record { superblock = d.superblock; contents = contents_in d.place d.superblock } };
+    ghost view = { λ d.
+        record { superblock = d.superblock; contents = contents_in d.place d.superblock } };
 
     ghost invariant = { λ d. IsThere d.place d.superblock };
 }
@@ -159,7 +160,8 @@ impl<'a> Directory<'a> {
     #[tactic(auto, unfolding(crate::specs::Directory::stream_blocks))]
     pub fn stream_blocks(&self, stream: u32) -> u32
         requires { 4 * (1 + stream) + 4 ≤ length self.now.contents }
-        ensures value { result ≡ stream_blocks self.now.superblock.block_size self.now.contents stream }
+        ensures value { result
+            ≡ stream_blocks self.now.superblock.block_size self.now.contents stream }
         ensures few { result ≤ 2 ^ 23 }
     {
         blocks_for(self.superblock().block_size(), bytes_of(self.size(stream)))
@@ -170,7 +172,8 @@ impl<'a> Directory<'a> {
     fn lists_end(&self, streams: u32) -> u64
         requires streams { streams ≡ nth_u32 self.now.contents 0 }
         requires room { 4 * (1 + streams) ≤ length self.now.contents }
-        ensures value { result ≡ list_start self.now.superblock.block_size self.now.contents streams }
+        ensures value { result
+            ≡ list_start self.now.superblock.block_size self.now.contents streams }
         ensures few { result < 2 ^ 60 }
     {
         let mut end = 1 + u64::from(streams);
@@ -185,8 +188,11 @@ impl<'a> Directory<'a> {
     #[tactic(auto, unfolding(crate::specs::Directory::length_checks))]
     pub fn check_length(&self) -> Result<u32, MsfFault>
         ensures streams { IfOk result (λ n. n ≡ nth_u32 self.now.contents 0) }
-        ensures room { IfOk result (λ n. 4 * list_start self.now.superblock.block_size self.now.contents n ≤ length self.now.contents) }
-        ensures first { Makes result (length_checks self.now.superblock.block_size self.now.contents) }
+        ensures room { IfOk result (λ n.
+            4 * list_start self.now.superblock.block_size self.now.contents n
+            ≤ length self.now.contents) }
+        ensures first { Makes result
+            (length_checks self.now.superblock.block_size self.now.contents) }
     {
         let have = u64::from(self.superblock().directory_bytes());
         if have < 4 {
@@ -209,8 +215,10 @@ impl<'a> Directory<'a> {
     /// `start`.
     #[tactic(auto, unfolding(crate::specs::Directory::stream_checks))]
     fn check_stream(&self, stream: u32, start: u32, count: u32) -> Result<(), MsfFault>
-        requires start { start ≡ list_start self.now.superblock.block_size self.now.contents stream }
-        requires count { count ≡ stream_blocks self.now.superblock.block_size self.now.contents stream }
+        requires start { start
+            ≡ list_start self.now.superblock.block_size self.now.contents stream }
+        requires count { count
+            ≡ stream_blocks self.now.superblock.block_size self.now.contents stream }
         requires room { 4 * (start + count) ≤ length self.now.contents }
         ensures { Makes result (stream_checks self.now.superblock self.now.contents stream) }
     {
@@ -228,9 +236,11 @@ impl<'a> Directory<'a> {
     #[tactic(auto, unfolding(crate::specs::Directory::list_start))]
     pub fn check_streams(&self, streams: u32) -> Result<(), MsfFault>
         requires streams { streams ≡ nth_u32 self.now.contents 0 }
-        requires room { 4 * list_start self.now.superblock.block_size self.now.contents streams ≤ length self.now.contents }
+        requires room { 4 * list_start self.now.superblock.block_size self.now.contents streams
+            ≤ length self.now.contents }
         requires short { length self.now.contents < 2 ^ 32 }
-        ensures { Makes result (checks_below streams (stream_checks self.now.superblock self.now.contents)) }
+        ensures { Makes result
+            (checks_below streams (stream_checks self.now.superblock self.now.contents)) }
     {
         let mut start = 1 + streams;
         for stream in 0..streams {
@@ -252,7 +262,8 @@ impl<'a> Directory<'a> {
     ) -> Result<Vec<u32, A>, AllocError>
         requires room { 4 * (start + count) ≤ length self.now.contents }
         requires short { length self.now.contents < 2 ^ 32 }
-        ensures { IfOk result (λ v. v.items ≡ map (λ k. nth_u32 self.now.contents (start + k)) (range_with_len 0 count)) }
+        ensures { IfOk result (λ v.
+            v.items ≡ map (λ k. nth_u32 self.now.contents (start + k)) (range_with_len 0 count)) }
     {
         let mut numbers = Vec::with_capacity(alloc, count as usize)?;
         for k in 0..count {
@@ -283,7 +294,8 @@ fn push_blocks<A: Allocator>(
 ) -> Result<(), AllocError>
     requires size { IsBlockSize block_size }
     requires few { first + count < 2 ^ 28 }
-    ensures { OnOk result (bytes.new.items ≡ bytes.old.items ++ u32s (numbers block_size first count)) }
+    ensures { OnOk result
+        (bytes.new.items ≡ bytes.old.items ++ u32s (numbers block_size first count)) }
 {
     for j in 0..count {
         push_u32(bytes, nth_block(block_size, first + j))?;
@@ -325,7 +337,8 @@ pub fn directory_bytes<A: Allocator>(
     requires size { IsBlockSize block_size }
     requires few { directory_blocks < 2 ^ 26 }
     requires fits { blocks ≤ 5 * 2 ^ 23 }
-    ensures { IfOk result (λ v. v.items ≡ u32s (5 ∷ sizes.now ++ numbers block_size (2 + directory_blocks) blocks)) }
+    ensures { IfOk result (λ v.
+        v.items ≡ u32s (5 ∷ sizes.now ++ numbers block_size (2 + directory_blocks) blocks)) }
 {
     let mut bytes = Vec::with_capacity(alloc, 4 * (6 + blocks as usize))?;
     push_u32(&mut bytes, 5)?;

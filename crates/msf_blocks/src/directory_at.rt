@@ -30,9 +30,11 @@ fn number_of(bytes: &[u8]) -> u32
 fn read_number<R: ReadAt>(input: &mut R, offset: u64) -> Option<u32>
     requires inside { IfKnown (R.bytes input.old) (λ file. offset + 4 ≤ length file) }
     ensures keeps { R.bytes input.new ≡ R.bytes input.old }
-    ensures value { IfSome result (λ n. IfKnown (R.bytes input.old) (λ file. n ≡ number_at 4 file offset)) }
+    ensures value { IfSome result (λ n.
+        IfKnown (R.bytes input.old) (λ file. n ≡ number_at 4 file offset)) }
     ensures given { IfSome result (IsNumberGiven (R.bytes input.old) offset) }
-    ensures bytes { IfSome result (λ n. (n < 2 ^ 32) × AreGiven (R.bytes input.old) offset (four_bytes n)) }
+    ensures bytes { IfSome result (λ n.
+        (n < 2 ^ 32) × AreGiven (R.bytes input.old) offset (four_bytes n)) }
     ensures refuses { IfNone result (Breaks (R.bytes input.old) (R.is_broken input.new)) }
 {
     let mut bytes = [0u8; 4];
@@ -43,11 +45,14 @@ fn read_number<R: ReadAt>(input: &mut R, offset: u64) -> Option<u32>
 /// The number at a position of the block map.
 #[tactic(auto, unfolding(crate::specs::Directory::map_number))]
 fn read_map_number<R: ReadAt>(input: &mut R, superblock: &Superblock, position: u32) -> Option<u32>
-    requires whole { IfKnown (R.bytes input.old) (λ file. superblock.now.num_blocks * superblock.now.block_size ≤ length file) }
+    requires whole { IfKnown (R.bytes input.old) (λ file.
+        superblock.now.num_blocks * superblock.now.block_size ≤ length file) }
     requires below { position < directory_blocks superblock.now }
     ensures keeps { R.bytes input.new ≡ R.bytes input.old }
-    ensures value { IfSome result (λ n. IfKnown (R.bytes input.old) (λ file. n ≡ map_number file superblock.now position)) }
-    ensures given { IfSome result (IsNumberGiven (R.bytes input.old) (map_start superblock.now + 4 * position)) }
+    ensures value { IfSome result (λ n.
+        IfKnown (R.bytes input.old) (λ file. n ≡ map_number file superblock.now position)) }
+    ensures given { IfSome result
+        (IsNumberGiven (R.bytes input.old) (map_start superblock.now + 4 * position)) }
     ensures refuses { IfNone result (Breaks (R.bytes input.old) (R.is_broken input.new)) }
 {
     let start = u64::from(superblock.block_map_addr()) * u64::from(superblock.block_size());
@@ -56,14 +61,18 @@ fn read_map_number<R: ReadAt>(input: &mut R, superblock: &Superblock, position: 
 
 /// Checks the numbers in the block map.
 fn check_map<R: ReadAt>(input: &mut R, superblock: &Superblock) -> Result<(), AtFault<MsfFault>>
-    requires whole { IfKnown (R.bytes input.old) (λ file. superblock.now.num_blocks * superblock.now.block_size ≤ length file) }
+    requires whole { IfKnown (R.bytes input.old) (λ file.
+        superblock.now.num_blocks * superblock.now.block_size ≤ length file) }
     ensures keeps { R.bytes input.new ≡ R.bytes input.old }
-    ensures held { OnOk result (IfKnown (R.bytes input.old) (λ file. first_failing (directory_block_checks file superblock.now) ≡ None)) }
-    ensures first { IfErr result (IfOf (λ fault. IfKnown (R.bytes input.old) (λ file. first_failing (directory_block_checks file superblock.now) ≡ Some fault))) }
+    ensures held { OnOk result (IfKnown (R.bytes input.old) (λ file.
+        first_failing (directory_block_checks file superblock.now) ≡ None)) }
+    ensures first { IfErr result (IfOf (λ fault. IfKnown (R.bytes input.old) (λ file.
+        first_failing (directory_block_checks file superblock.now) ≡ Some fault))) }
     // Whatever is known of the file, there is a block map without a fault, or one with this fault.
     ensures map { OnOk result (HasBlockMap (R.bytes input.old) superblock.now) }
     ensures refused { IfErr result (IfOf (BlockMapRefuses (R.bytes input.old) superblock.now)) }
-    ensures read { IfErr result (λ fault. fault ≡ AtFault.Read → Breaks (R.bytes input.old) (R.is_broken input.new)) }
+    ensures read { IfErr result (λ fault.
+        fault ≡ AtFault.Read → Breaks (R.bytes input.old) (R.is_broken input.new)) }
 {
     for at in 0..blocks_for(superblock.block_size(), superblock.directory_bytes()) {
         let Some(n) = read_map_number(input, superblock, at) else {
@@ -85,7 +94,8 @@ fn read_directory_number<R: ReadAt>(
     requires readable { IfKnown (R.bytes input.old) (λ file. IsReadable file superblock.now) }
     requires there { 4 * position + 4 ≤ superblock.now.directory_bytes }
     ensures keeps { R.bytes input.new ≡ R.bytes input.old }
-    ensures value { IfSome result (λ n. IfKnown (R.bytes input.old) (λ file. n ≡ nth_u32 (directory_contents file superblock.now) position)) }
+    ensures value { IfSome result (λ n. IfKnown (R.bytes input.old) (λ file.
+        n ≡ nth_u32 (directory_contents file superblock.now) position)) }
     ensures given { IfSome result (IsDirectoryNumber (R.bytes input.old) superblock.now position) }
     ensures refuses { IfNone result (Breaks (R.bytes input.old) (R.is_broken input.new)) }
 {
@@ -102,7 +112,10 @@ fn read_stream_blocks<R: ReadAt>(input: &mut R, superblock: &Superblock, stream:
     requires readable { IfKnown (R.bytes input.old) (λ file. IsReadable file superblock.now) }
     requires there { 4 * (1 + stream) + 4 ≤ superblock.now.directory_bytes }
     ensures keeps { R.bytes input.new ≡ R.bytes input.old }
-    ensures value { IfSome result (λ n. IfKnown (R.bytes input.old) (λ file. n ≡ stream_blocks superblock.now.block_size (directory_contents file superblock.now) stream)) }
+    ensures value { IfSome result (λ n. IfKnown (R.bytes input.old) (λ file.
+        n
+        ≡ stream_blocks superblock.now.block_size (directory_contents file superblock.now)
+        stream)) }
     ensures few { IfSome result (λ n. n ≤ 2 ^ 23) }
     ensures size { IfSome result (HasSize (R.bytes input.old) superblock.now stream) }
     ensures refuses { IfNone result (Breaks (R.bytes input.old) (R.is_broken input.new)) }
@@ -122,12 +135,16 @@ fn read_lists_end<R: ReadAt>(
     streams: u32,
 ) -> Option<u64>
     requires readable { IfKnown (R.bytes input.old) (λ file. IsReadable file superblock.now) }
-    requires start { IfKnown (R.bytes input.old) (λ file. start ≡ list_start superblock.now.block_size (directory_contents file superblock.now) from) }
+    requires start { IfKnown (R.bytes input.old) (λ file.
+        start
+        ≡ list_start superblock.now.block_size (directory_contents file superblock.now) from) }
     requires few { 4 * (1 + streams) ≤ superblock.now.directory_bytes }
     requires upto { from ≤ streams }
     requires short { start ≤ 2 ^ 33 }
     ensures keeps { R.bytes input.new ≡ R.bytes input.old }
-    ensures value { IfSome result (λ n. IfKnown (R.bytes input.old) (λ file. n ≡ list_start superblock.now.block_size (directory_contents file superblock.now) streams)) }
+    ensures value { IfSome result (λ n. IfKnown (R.bytes input.old) (λ file.
+        n
+        ≡ list_start superblock.now.block_size (directory_contents file superblock.now) streams)) }
     ensures few { IfSome result (λ n. n < 2 ^ 60) }
     ensures sizes { IfSome result (HasSizes (R.bytes input.old) superblock.now from streams start) }
     ensures refuses { IfNone result (Breaks (R.bytes input.old) (R.is_broken input.new)) }
@@ -149,18 +166,26 @@ fn check_end<R: ReadAt>(
     streams: u32,
 ) -> Result<(), AtFault<MsfFault>>
     requires readable { IfKnown (R.bytes input.old) (λ file. IsReadable file superblock.now) }
-    requires start { IfKnown (R.bytes input.old) (λ file. start ≡ list_start superblock.now.block_size (directory_contents file superblock.now) from) }
+    requires start { IfKnown (R.bytes input.old) (λ file.
+        start
+        ≡ list_start superblock.now.block_size (directory_contents file superblock.now) from) }
     requires few { 4 * (1 + streams) ≤ superblock.now.directory_bytes }
     requires upto { from ≤ streams }
     requires short { start ≤ 2 ^ 33 }
     ensures keeps { R.bytes input.new ≡ R.bytes input.old }
-    ensures held { OnOk result (IfKnown (R.bytes input.old) (λ file. 4 * list_start superblock.now.block_size (directory_contents file superblock.now) streams ≤ superblock.now.directory_bytes)) }
+    ensures held { OnOk result (IfKnown (R.bytes input.old) (λ file.
+        4 * list_start superblock.now.block_size (directory_contents file superblock.now) streams
+        ≤ superblock.now.directory_bytes)) }
     ensures first { IfErr result (IfOf (λ fault. IfKnown (R.bytes input.old) (λ file.
-        let end = list_start superblock.now.block_size (directory_contents file superblock.now) streams in
-        (superblock.now.directory_bytes < 4 * end) × (fault ≡ MsfFault.DirectoryShort (4 * end) superblock.now.directory_bytes)))) }
+        let end = list_start superblock.now.block_size (directory_contents file superblock.now)
+        streams in
+        (superblock.now.directory_bytes < 4 * end)
+        × (fault ≡ MsfFault.DirectoryShort (4 * end) superblock.now.directory_bytes)))) }
     ensures room { OnOk result (HasRoom (R.bytes input.old) superblock.now from streams start) }
-    ensures refused { IfErr result (IfOf (LacksRoom (R.bytes input.old) superblock.now from streams start)) }
-    ensures read { IfErr result (λ fault. fault ≡ AtFault.Read → Breaks (R.bytes input.old) (R.is_broken input.new)) }
+    ensures refused { IfErr result
+        (IfOf (LacksRoom (R.bytes input.old) superblock.now from streams start)) }
+    ensures read { IfErr result (λ fault.
+        fault ≡ AtFault.Read → Breaks (R.bytes input.old) (R.is_broken input.new)) }
 {
     let Some(end) = read_lists_end(input, superblock, from, start, streams) else {
         return Err(AtFault::Read);
@@ -182,12 +207,22 @@ fn check_length<R: ReadAt>(input: &mut R, superblock: &Superblock) -> Result<u32
     ensures few { IfOk result (λ n. 4 * (1 + n) ≤ superblock.now.directory_bytes) }
     ensures short { IfOk result (λ n. 4 * (1 + n) < 2 ^ 32) }
     ensures given { IfOk result (IsDirectoryNumber (R.bytes input.old) superblock.now 0) }
-    ensures streams { IfOk result (λ n. IfKnown (R.bytes input.old) (λ file. n ≡ nth_u32 (directory_contents file superblock.now) 0)) }
-    ensures room { IfOk result (λ n. IfKnown (R.bytes input.old) (λ file. 4 * list_start superblock.now.block_size (directory_contents file superblock.now) n ≤ superblock.now.directory_bytes)) }
-    ensures held { OnOk result (IfKnown (R.bytes input.old) (λ file. first_failing (length_checks superblock.now.block_size (directory_contents file superblock.now)) ≡ None)) }
-    ensures first { IfErr result (IfOf (λ fault. IfKnown (R.bytes input.old) (λ file. first_failing (length_checks superblock.now.block_size (directory_contents file superblock.now)) ≡ Some fault))) }
+    ensures streams { IfOk result (λ n. IfKnown (R.bytes input.old) (λ file.
+        n ≡ nth_u32 (directory_contents file superblock.now) 0)) }
+    ensures room { IfOk result (λ n. IfKnown (R.bytes input.old) (λ file.
+        4 * list_start superblock.now.block_size (directory_contents file superblock.now) n
+        ≤ superblock.now.directory_bytes)) }
+    ensures held { OnOk result (IfKnown (R.bytes input.old) (λ file.
+        first_failing
+        (length_checks superblock.now.block_size (directory_contents file superblock.now))
+        ≡ None)) }
+    ensures first { IfErr result (IfOf (λ fault. IfKnown (R.bytes input.old) (λ file.
+        first_failing
+        (length_checks superblock.now.block_size (directory_contents file superblock.now))
+        ≡ Some fault))) }
     ensures refused { IfErr result (IfOf (ContentsRefuse (R.bytes input.old) superblock.now)) }
-    ensures read { IfErr result (λ fault. fault ≡ AtFault.Read → Breaks (R.bytes input.old) (R.is_broken input.new)) }
+    ensures read { IfErr result (λ fault.
+        fault ≡ AtFault.Read → Breaks (R.bytes input.old) (R.is_broken input.new)) }
 {
     let have = u64::from(superblock.directory_bytes());
     if have < 4 {
@@ -214,17 +249,29 @@ fn check_stream<R: ReadAt>(
     count: u32,
 ) -> Result<(), AtFault<MsfFault>>
     requires readable { IfKnown (R.bytes input.old) (λ file. IsReadable file superblock.now) }
-    requires room { IfKnown (R.bytes input.old) (λ file. 4 * (start + count) ≤ superblock.now.directory_bytes) }
-    requires start { IfKnown (R.bytes input.old) (λ file. start ≡ list_start superblock.now.block_size (directory_contents file superblock.now) stream) }
-    requires count { IfKnown (R.bytes input.old) (λ file. count ≡ stream_blocks superblock.now.block_size (directory_contents file superblock.now) stream) }
+    requires room { IfKnown (R.bytes input.old) (λ file.
+        4 * (start + count) ≤ superblock.now.directory_bytes) }
+    requires start { IfKnown (R.bytes input.old) (λ file.
+        start
+        ≡ list_start superblock.now.block_size (directory_contents file superblock.now) stream) }
+    requires count { IfKnown (R.bytes input.old) (λ file.
+        count
+        ≡ stream_blocks superblock.now.block_size (directory_contents file superblock.now) stream) }
     ensures keeps { R.bytes input.new ≡ R.bytes input.old }
     ensures room { OnOk result (4 * (start + count) ≤ superblock.now.directory_bytes) }
     ensures short { OnOk result (4 * (start + count) < 2 ^ 32) }
-    ensures held { OnOk result (IfKnown (R.bytes input.old) (λ file. first_failing (stream_checks superblock.now (directory_contents file superblock.now) stream) ≡ None)) }
-    ensures first { IfErr result (IfOf (λ fault. IfKnown (R.bytes input.old) (λ file. first_failing (stream_checks superblock.now (directory_contents file superblock.now) stream) ≡ Some fault))) }
-    ensures listed { OnOk result (HasBlocks (R.bytes input.old) superblock.now start (start + count)) }
-    ensures refused { IfErr result (IfOf (ListRefuses (R.bytes input.old) superblock.now stream start count)) }
-    ensures read { IfErr result (λ fault. fault ≡ AtFault.Read → Breaks (R.bytes input.old) (R.is_broken input.new)) }
+    ensures held { OnOk result (IfKnown (R.bytes input.old) (λ file.
+        first_failing (stream_checks superblock.now (directory_contents file superblock.now) stream)
+        ≡ None)) }
+    ensures first { IfErr result (IfOf (λ fault. IfKnown (R.bytes input.old) (λ file.
+        first_failing (stream_checks superblock.now (directory_contents file superblock.now) stream)
+        ≡ Some fault))) }
+    ensures listed { OnOk result
+        (HasBlocks (R.bytes input.old) superblock.now start (start + count)) }
+    ensures refused { IfErr result
+        (IfOf (ListRefuses (R.bytes input.old) superblock.now stream start count)) }
+    ensures read { IfErr result (λ fault.
+        fault ≡ AtFault.Read → Breaks (R.bytes input.old) (R.is_broken input.new)) }
 {
     let have = u64::from(superblock.directory_bytes());
     // A file that changes may list more blocks now than when its length was checked.
@@ -257,17 +304,29 @@ fn check_list<R: ReadAt>(
     requires readable { IfKnown (R.bytes input.old) (λ file. IsReadable file superblock.now) }
     requires few { 4 * (1 + streams) ≤ superblock.now.directory_bytes }
     requires below { stream < streams }
-    requires start { IfKnown (R.bytes input.old) (λ file. start ≡ list_start superblock.now.block_size (directory_contents file superblock.now) stream) }
-    requires room { IfKnown (R.bytes input.old) (λ file. 4 * list_start superblock.now.block_size (directory_contents file superblock.now) streams ≤ superblock.now.directory_bytes) }
+    requires start { IfKnown (R.bytes input.old) (λ file.
+        start
+        ≡ list_start superblock.now.block_size (directory_contents file superblock.now) stream) }
+    requires room { IfKnown (R.bytes input.old) (λ file.
+        4 * list_start superblock.now.block_size (directory_contents file superblock.now) streams
+        ≤ superblock.now.directory_bytes) }
     requires lists { HasLists (R.bytes input.old) superblock.now streams stream start }
     ensures keeps { R.bytes input.new ≡ R.bytes input.old }
     ensures fits { IfOk result (λ end. 4 * end ≤ superblock.now.directory_bytes) }
-    ensures end { IfOk result (λ end. IfKnown (R.bytes input.old) (λ file. end ≡ list_start superblock.now.block_size (directory_contents file superblock.now) (stream + 1))) }
-    ensures held { OnOk result (IfKnown (R.bytes input.old) (λ file. first_failing (stream_checks superblock.now (directory_contents file superblock.now) stream) ≡ None)) }
-    ensures first { IfErr result (IfOf (λ fault. IfKnown (R.bytes input.old) (λ file. first_failing (stream_checks superblock.now (directory_contents file superblock.now) stream) ≡ Some fault))) }
+    ensures end { IfOk result (λ end. IfKnown (R.bytes input.old) (λ file.
+        end
+        ≡ list_start superblock.now.block_size (directory_contents file superblock.now)
+        (stream + 1))) }
+    ensures held { OnOk result (IfKnown (R.bytes input.old) (λ file.
+        first_failing (stream_checks superblock.now (directory_contents file superblock.now) stream)
+        ≡ None)) }
+    ensures first { IfErr result (IfOf (λ fault. IfKnown (R.bytes input.old) (λ file.
+        first_failing (stream_checks superblock.now (directory_contents file superblock.now) stream)
+        ≡ Some fault))) }
     ensures lists { IfOk result (HasLists (R.bytes input.old) superblock.now streams (stream + 1)) }
     ensures refused { IfErr result (IfOf (ContentsRefuse (R.bytes input.old) superblock.now)) }
-    ensures read { IfErr result (λ fault. fault ≡ AtFault.Read → Breaks (R.bytes input.old) (R.is_broken input.new)) }
+    ensures read { IfErr result (λ fault.
+        fault ≡ AtFault.Read → Breaks (R.bytes input.old) (R.is_broken input.new)) }
 {
     let Some(count) = read_stream_blocks(input, superblock, stream) else {
         return Err(AtFault::Read);
@@ -293,15 +352,26 @@ fn check_streams<R: ReadAt>(
     requires few { 4 * (1 + streams) ≤ superblock.now.directory_bytes }
     requires short { 4 * (1 + streams) < 2 ^ 32 }
     requires given { IsDirectoryNumber (R.bytes input.old) superblock.now 0 streams }
-    requires streams { IfKnown (R.bytes input.old) (λ file. streams ≡ nth_u32 (directory_contents file superblock.now) 0) }
-    requires room { IfKnown (R.bytes input.old) (λ file. 4 * list_start superblock.now.block_size (directory_contents file superblock.now) streams ≤ superblock.now.directory_bytes) }
+    requires streams { IfKnown (R.bytes input.old) (λ file.
+        streams ≡ nth_u32 (directory_contents file superblock.now) 0) }
+    requires room { IfKnown (R.bytes input.old) (λ file.
+        4 * list_start superblock.now.block_size (directory_contents file superblock.now) streams
+        ≤ superblock.now.directory_bytes) }
     ensures keeps { R.bytes input.new ≡ R.bytes input.old }
-    ensures held { OnOk result (IfKnown (R.bytes input.old) (λ file. first_failing (checks_below streams (stream_checks superblock.now (directory_contents file superblock.now))) ≡ None)) }
-    ensures first { IfErr result (IfOf (λ fault. IfKnown (R.bytes input.old) (λ file. first_failing (checks_below streams (stream_checks superblock.now (directory_contents file superblock.now))) ≡ Some fault))) }
+    ensures held { OnOk result (IfKnown (R.bytes input.old) (λ file.
+        first_failing (checks_below streams
+        (stream_checks superblock.now (directory_contents file superblock.now)))
+        ≡ None)) }
+    ensures first { IfErr result (IfOf (λ fault. IfKnown (R.bytes input.old) (λ file.
+        first_failing (checks_below streams
+        (stream_checks superblock.now (directory_contents file superblock.now)))
+        ≡ Some fault))) }
     // Whatever is known of the file, there are contents without a fault, or some with this fault.
-    ensures sound { OnOk result (ContentsRefuse (R.bytes input.old) superblock.now MsfFault.Memory) }
+    ensures sound { OnOk result
+        (ContentsRefuse (R.bytes input.old) superblock.now MsfFault.Memory) }
     ensures refused { IfErr result (IfOf (ContentsRefuse (R.bytes input.old) superblock.now)) }
-    ensures read { IfErr result (λ fault. fault ≡ AtFault.Read → Breaks (R.bytes input.old) (R.is_broken input.new)) }
+    ensures read { IfErr result (λ fault.
+        fault ≡ AtFault.Read → Breaks (R.bytes input.old) (R.is_broken input.new)) }
 {
     let mut start = 1 + streams;
     for stream in 0..streams {
@@ -317,11 +387,17 @@ fn check_directory<R: ReadAt>(
 ) -> Result<(), AtFault<MsfFault>>
     requires readable { IfKnown (R.bytes input.old) (λ file. IsReadable file superblock.now) }
     ensures keeps { R.bytes input.new ≡ R.bytes input.old }
-    ensures held { OnOk result (IfKnown (R.bytes input.old) (λ file. first_failing (directory_checks superblock.now (directory_contents file superblock.now)) ≡ None)) }
-    ensures first { IfErr result (IfOf (λ fault. IfKnown (R.bytes input.old) (λ file. first_failing (directory_checks superblock.now (directory_contents file superblock.now)) ≡ Some fault))) }
-    ensures sound { OnOk result (ContentsRefuse (R.bytes input.old) superblock.now MsfFault.Memory) }
+    ensures held { OnOk result (IfKnown (R.bytes input.old) (λ file.
+        first_failing (directory_checks superblock.now (directory_contents file superblock.now))
+        ≡ None)) }
+    ensures first { IfErr result (IfOf (λ fault. IfKnown (R.bytes input.old) (λ file.
+        first_failing (directory_checks superblock.now (directory_contents file superblock.now))
+        ≡ Some fault))) }
+    ensures sound { OnOk result
+        (ContentsRefuse (R.bytes input.old) superblock.now MsfFault.Memory) }
     ensures refused { IfErr result (IfOf (ContentsRefuse (R.bytes input.old) superblock.now)) }
-    ensures read { IfErr result (λ fault. fault ≡ AtFault.Read → Breaks (R.bytes input.old) (R.is_broken input.new)) }
+    ensures read { IfErr result (λ fault.
+        fault ≡ AtFault.Read → Breaks (R.bytes input.old) (R.is_broken input.new)) }
 {
     let streams = check_length(input, superblock)?;
     check_streams(input, superblock, streams)?;
@@ -331,9 +407,13 @@ fn check_directory<R: ReadAt>(
 /// The fault of a directory for which memory was refused. This does not allocate: it checks one
 /// number at a time, and `Memory` is left where all checks hold.
 fn fault_without_memory<R: ReadAt>(input: &mut R, superblock: &Superblock) -> AtFault<MsfFault>
-    requires { IfKnown (R.bytes input.old) (λ file. superblock.now.num_blocks * superblock.now.block_size ≤ length file) }
+    requires { IfKnown (R.bytes input.old) (λ file.
+        superblock.now.num_blocks * superblock.now.block_size ≤ length file) }
     ensures keeps { R.bytes input.new ≡ R.bytes input.old }
-    ensures first { IfOf (λ fault. IfKnown (R.bytes input.old) (λ file. IsDirectoryFault file superblock.now fault)) result }
+    ensures first { IfOf
+        (λ fault.
+        IfKnown (R.bytes input.old) (λ file. IsDirectoryFault file superblock.now fault))
+        result }
     ensures refused { IfOf (DirectoryRefuses (R.bytes input.old) superblock.now) result }
     ensures read { result ≡ AtFault.Read → Breaks (R.bytes input.old) (R.is_broken input.new) }
 {
@@ -366,12 +446,16 @@ fn read_map<R: ReadAt, A: Allocator + Copy>(
     input: &mut R,
     superblock: &Superblock,
 ) -> Result<Vec<u32, A>, ReadFault>
-    requires { IfKnown (R.bytes input.old) (λ file. superblock.now.num_blocks * superblock.now.block_size ≤ length file) }
+    requires { IfKnown (R.bytes input.old) (λ file.
+        superblock.now.num_blocks * superblock.now.block_size ≤ length file) }
     ensures keeps { R.bytes input.new ≡ R.bytes input.old }
     ensures len { IfOk result (λ v. length v.items ≡ directory_blocks superblock.now) }
-    ensures value { IfOk result (λ v. IfKnown (R.bytes input.old) (λ file. v.items ≡ map_numbers file superblock.now)) }
+    ensures value { IfOk result (λ v.
+        IfKnown (R.bytes input.old) (λ file. v.items ≡ map_numbers file superblock.now)) }
     ensures given { IfOk result (λ v. AreMapNumbers (R.bytes input.old) superblock.now v.items) }
-    ensures first { IfErr result (λ fault. ((fault ≡ ReadFault.Read) × Breaks (R.bytes input.old) (R.is_broken input.new)) ⊎ (fault ≡ ReadFault.Memory)) }
+    ensures first { IfErr result (λ fault.
+        ((fault ≡ ReadFault.Read) × Breaks (R.bytes input.old) (R.is_broken input.new))
+        ⊎ (fault ≡ ReadFault.Memory)) }
 {
     let block_size = superblock.block_size();
     let count = blocks_for(block_size, superblock.directory_bytes());
@@ -402,14 +486,19 @@ fn read_numbers<R: ReadAt, A: Allocator + Copy>(
     input: &mut R,
     superblock: &Superblock,
 ) -> Result<Vec<u32, A>, AtFault<MsfFault>>
-    requires { IfKnown (R.bytes input.old) (λ file. superblock.now.num_blocks * superblock.now.block_size ≤ length file) }
+    requires { IfKnown (R.bytes input.old) (λ file.
+        superblock.now.num_blocks * superblock.now.block_size ≤ length file) }
     ensures keeps { R.bytes input.new ≡ R.bytes input.old }
-    ensures value { IfOk result (λ v. IfKnown (R.bytes input.old) (λ file. v.items ≡ map_numbers file superblock.now)) }
+    ensures value { IfOk result (λ v.
+        IfKnown (R.bytes input.old) (λ file. v.items ≡ map_numbers file superblock.now)) }
     ensures map { IfOk result (λ v. IsBlockMap (R.bytes input.old) superblock.now v.items) }
-    ensures held { OnOk result (IfKnown (R.bytes input.old) (λ file. first_failing (directory_block_checks file superblock.now) ≡ None)) }
-    ensures first { IfErr result (IfOf (λ fault. IfKnown (R.bytes input.old) (λ file. IsDirectoryFault file superblock.now fault))) }
+    ensures held { OnOk result (IfKnown (R.bytes input.old) (λ file.
+        first_failing (directory_block_checks file superblock.now) ≡ None)) }
+    ensures first { IfErr result (IfOf (λ fault.
+        IfKnown (R.bytes input.old) (λ file. IsDirectoryFault file superblock.now fault))) }
     ensures refused { IfErr result (IfOf (DirectoryRefuses (R.bytes input.old) superblock.now)) }
-    ensures read { IfErr result (λ fault. fault ≡ AtFault.Read → Breaks (R.bytes input.old) (R.is_broken input.new)) }
+    ensures read { IfErr result (λ fault.
+        fault ≡ AtFault.Read → Breaks (R.bytes input.old) (R.is_broken input.new)) }
 {
     let numbers = match read_map(alloc, input, superblock) {
         Ok(numbers) => numbers,
@@ -432,14 +521,20 @@ pub fn read_contents<R: ReadAt, A: Allocator + Copy>(
     input: &mut R,
     superblock: &Superblock,
 ) -> Result<Vec<u8, A>, AtFault<MsfFault>>
-    requires { IfKnown (R.bytes input.old) (λ file. superblock.now.num_blocks * superblock.now.block_size ≤ length file) }
+    requires { IfKnown (R.bytes input.old) (λ file.
+        superblock.now.num_blocks * superblock.now.block_size ≤ length file) }
     ensures keeps { R.bytes input.new ≡ R.bytes input.old }
-    ensures value { IfOk result (λ contents. IfKnown (R.bytes input.old) (λ file. contents.items ≡ directory_contents file superblock.now)) }
-    ensures texts { IfOk result (λ contents. HasContents (R.bytes input.old) superblock.now contents.items) }
-    ensures held { OnOk result (IfKnown (R.bytes input.old) (λ file. first_failing (directory_block_checks file superblock.now) ≡ None)) }
-    ensures first { IfErr result (IfOf (λ fault. IfKnown (R.bytes input.old) (λ file. IsDirectoryFault file superblock.now fault))) }
+    ensures value { IfOk result (λ contents. IfKnown (R.bytes input.old) (λ file.
+        contents.items ≡ directory_contents file superblock.now)) }
+    ensures texts { IfOk result (λ contents.
+        HasContents (R.bytes input.old) superblock.now contents.items) }
+    ensures held { OnOk result (IfKnown (R.bytes input.old) (λ file.
+        first_failing (directory_block_checks file superblock.now) ≡ None)) }
+    ensures first { IfErr result (IfOf (λ fault.
+        IfKnown (R.bytes input.old) (λ file. IsDirectoryFault file superblock.now fault))) }
     ensures refused { IfErr result (IfOf (DirectoryRefuses (R.bytes input.old) superblock.now)) }
-    ensures read { IfErr result (λ fault. fault ≡ AtFault.Read → Breaks (R.bytes input.old) (R.is_broken input.new)) }
+    ensures read { IfErr result (λ fault.
+        fault ≡ AtFault.Read → Breaks (R.bytes input.old) (R.is_broken input.new)) }
 {
     let blocks = read_numbers(alloc, input, superblock)?;
     let size = superblock.directory_bytes();

@@ -44,9 +44,11 @@ impl<A: Allocator> Model for Layout<A> {
 
     ghost Value = { LayoutView };
 
-    ghost view = { λ l. record { superblock = l.superblock; streams = map listed_of l.streams.items } };
+    ghost view = { λ l.
+        record { superblock = l.superblock; streams = map listed_of l.streams.items } };
 
-    ghost invariant = { λ l. IsLayout (record { superblock = l.superblock; streams = map listed_of l.streams.items }) };
+    ghost invariant = { λ l.
+        IsLayout (record { superblock = l.superblock; streams = map listed_of l.streams.items }) };
 }
 
 /// Checks the layout of a file, and returns the directory and how many streams it lists. This does
@@ -55,10 +57,12 @@ impl<A: Allocator> Model for Layout<A> {
 fn check(file: &[u8]) -> Result<(Directory<'_>, u32), MsfFault>
     ensures found { IfOk result (λ r. IsSuperblock file.now r.0.superblock) }
     ensures fields { IfOk result (λ r. r.0.superblock ≡ fields_of file.now) }
-    ensures contents { IfOk result (λ r. r.0.contents ≡ directory_contents file.now r.0.superblock) }
+    ensures contents { IfOk result (λ r.
+        r.0.contents ≡ directory_contents file.now r.0.superblock) }
     ensures short { IfOk result (λ r. length r.0.contents < 2 ^ 32) }
     ensures streams { IfOk result (λ r. r.1 ≡ nth_u32 r.0.contents 0) }
-    ensures room { IfOk result (λ r. 4 * list_start r.0.superblock.block_size r.0.contents r.1 ≤ length r.0.contents) }
+    ensures room { IfOk result (λ r.
+        4 * list_start r.0.superblock.block_size r.0.contents r.1 ≤ length r.0.contents) }
     ensures first { Makes result (layout_checks file.now) }
 {
     let superblock = Superblock::read(file)?;
@@ -76,9 +80,13 @@ fn listed<A: Allocator + Copy>(
     streams: u32,
 ) -> Result<Vec<Stream<A>, A>, MsfFault>
     requires streams { streams ≡ nth_u32 directory.now.contents 0 }
-    requires room { 4 * list_start directory.now.superblock.block_size directory.now.contents streams ≤ length directory.now.contents }
+    requires room { 4 * list_start directory.now.superblock.block_size directory.now.contents
+        streams
+        ≤ length directory.now.contents }
     requires short { length directory.now.contents < 2 ^ 32 }
-    ensures value { IfOk result (λ v. map listed_of v.items ≡ listed_below directory.now.superblock.block_size directory.now.contents streams) }
+    ensures value { IfOk result (λ v.
+        map listed_of v.items
+        ≡ listed_below directory.now.superblock.block_size directory.now.contents streams) }
     ensures memory { IfErr result (λ fault. fault ≡ MsfFault.Memory) }
 {
     let mut listed = Vec::with_capacity(alloc, streams as usize)?;
@@ -111,8 +119,10 @@ impl<A: Allocator + Copy> Layout<A> {
     /// "The Stream Directory".)
     pub fn read(alloc: A, file: &[u8]) -> Result<Layout<A>, MsfFault>
         ensures value { IfOk result (HasLayout file.now) }
-        ensures found { (layout : LayoutView) → HasLayout file.now layout → IfErr result (λ fault. fault ≡ MsfFault.Memory) }
-        ensures first { IfErr result (Refuses MsfFault.Memory (first_failing (layout_checks file.now))) }
+        ensures found { (layout : LayoutView) → HasLayout file.now layout →
+            IfErr result (λ fault. fault ≡ MsfFault.Memory) }
+        ensures first { IfErr result
+            (Refuses MsfFault.Memory (first_failing (layout_checks file.now))) }
     {
         let (directory, streams) = check(file)?;
         let superblock = directory.superblock();
@@ -131,11 +141,14 @@ fn layout_at<R: ReadAt, A: Allocator + Copy>(
 ) -> Result<Layout<A>, AtFault<MsfFault>>
     ensures keeps { R.bytes input.new ≡ R.bytes input.old }
     ensures small { IfKnown (R.bytes input.old) AreBytes }
-    ensures value { IfOk result (λ layout. IfKnown (R.bytes input.old) (λ file. HasLayout file layout)) }
+    ensures value { IfOk result (λ layout.
+        IfKnown (R.bytes input.old) (λ file. HasLayout file layout)) }
     ensures texts { IfOk result (HasTexts (R.bytes input.old)) }
-    ensures first { IfErr result (IfOf (λ fault. IfKnown (R.bytes input.old) (λ file. Refuses MsfFault.Memory (first_failing (layout_checks file)) fault))) }
+    ensures first { IfErr result (IfOf (λ fault. IfKnown (R.bytes input.old) (λ file.
+        Refuses MsfFault.Memory (first_failing (layout_checks file)) fault))) }
     ensures refused { IfErr result (IfOf (TextsRefuse (R.bytes input.old))) }
-    ensures read { IfErr result (λ fault. fault ≡ AtFault.Read → Breaks (R.bytes input.old) (R.is_broken input.new)) }
+    ensures read { IfErr result (λ fault.
+        fault ≡ AtFault.Read → Breaks (R.bytes input.old) (R.is_broken input.new)) }
 {
     let superblock = Superblock::read_at(input)?;
     let contents = read_contents(alloc, input, &superblock)?;
@@ -159,14 +172,18 @@ impl<A: Allocator + Copy> Layout<A> {
     pub fn read_at<R: ReadAt>(alloc: A, input: &mut R) -> Result<Layout<A>, AtFault<MsfFault>>
         ensures keeps { R.bytes input.new ≡ R.bytes input.old }
         ensures small { IfKnown (R.bytes input.old) AreBytes }
-        ensures value { IfOk result (λ layout. IfKnown (R.bytes input.old) (λ file. HasLayout file layout)) }
+        ensures value { IfOk result (λ layout.
+            IfKnown (R.bytes input.old) (λ file. HasLayout file layout)) }
         // Whatever is known of the file, the layout is that of texts that reads gave.
         ensures texts { IfOk result (HasTexts (R.bytes input.old)) }
-        ensures found { IfErr result (λ fault. IfKnown (R.bytes input.old) (λ file. (layout : LayoutView) → HasLayout file layout → fault ≡ AtFault.Of MsfFault.Memory)) }
-        ensures first { IfErr result (IfOf (λ fault. IfKnown (R.bytes input.old) (λ file. Refuses MsfFault.Memory (first_failing (layout_checks file)) fault))) }
+        ensures found { IfErr result (λ fault. IfKnown (R.bytes input.old) (λ file.
+            (layout : LayoutView) → HasLayout file layout → fault ≡ AtFault.Of MsfFault.Memory)) }
+        ensures first { IfErr result (IfOf (λ fault. IfKnown (R.bytes input.old) (λ file.
+            Refuses MsfFault.Memory (first_failing (layout_checks file)) fault))) }
         // Whatever is known of the file, a fault is that of texts that reads gave.
         ensures refused { IfErr result (IfOf (TextsRefuse (R.bytes input.old))) }
-        ensures read { IfErr result (λ fault. fault ≡ AtFault.Read → Breaks (R.bytes input.old) (R.is_broken input.new)) }
+        ensures read { IfErr result (λ fault.
+            fault ≡ AtFault.Read → Breaks (R.bytes input.old) (R.is_broken input.new)) }
     {
         layout_at(alloc, input)
     }
@@ -200,7 +217,8 @@ impl<A: Allocator> Layout<A> {
 
     /// The numbers of the blocks of the `s`-th stream, from 0. `None` where `s` is not a stream.
     pub fn blocks(&self, s: u32) -> Option<&[u32]>
-        ensures value { option_map (λ blocks. blocks.now) result ≡ option_map (λ l. l.blocks) (slice_get self.now.streams s) }
+        ensures value { option_map (λ blocks. blocks.now) result
+            ≡ option_map (λ l. l.blocks) (slice_get self.now.streams s) }
         ensures fits { IsLayout self.now }
     {
         let stream = self.streams.get(s as usize)?;

@@ -161,15 +161,20 @@ impl Superblock {
     pub fn read_at<R: ReadAt>(input: &mut R) -> Result<Superblock, AtFault<MsfFault>>
         ensures keeps { R.bytes input.new ≡ R.bytes input.old }
         ensures small { IfKnown (R.bytes input.old) AreBytes }
-        ensures value { IfOk result (λ s. IfKnown (R.bytes input.old) (λ file. IsSuperblock file s)) }
-        ensures fields { IfOk result (λ s. IfKnown (R.bytes input.old) (λ file. s ≡ fields_of file)) }
+        ensures value { IfOk result (λ s.
+            IfKnown (R.bytes input.old) (λ file. IsSuperblock file s)) }
+        ensures fields { IfOk result (λ s.
+            IfKnown (R.bytes input.old) (λ file. s ≡ fields_of file)) }
         ensures fit { IfOk result IsFit }
         // Whatever is known of the file, the superblock and the fault are those of bytes that reads gave.
         ensures front { IfOk result (HasFront (R.bytes input.old)) }
-        ensures held { OnOk result (IfKnown (R.bytes input.old) (λ file. first_failing (superblock_checks file) ≡ None)) }
+        ensures held { OnOk result
+            (IfKnown (R.bytes input.old) (λ file. first_failing (superblock_checks file) ≡ None)) }
         ensures refused { IfErr result (IfOf (FrontRefuses (R.bytes input.old))) }
-        ensures first { IfErr result (IfOf (λ fault. IfKnown (R.bytes input.old) (λ file. first_failing (superblock_checks file) ≡ Some fault))) }
-        ensures read { IfErr result (λ fault. fault ≡ AtFault.Read → Breaks (R.bytes input.old) (R.is_broken input.new)) }
+        ensures first { IfErr result (IfOf (λ fault. IfKnown (R.bytes input.old) (λ file.
+            first_failing (superblock_checks file) ≡ Some fault))) }
+        ensures read { IfErr result (λ fault.
+            fault ≡ AtFault.Read → Breaks (R.bytes input.old) (R.is_broken input.new)) }
     {
         let have = input.len();
         if have < LENGTH as u64 {
@@ -246,7 +251,8 @@ pub fn superblock_bytes(
     directory_bytes: u32,
     block_map_addr: u32,
 ) -> [u8; LENGTH]
-    ensures { result ≡ magic ++ u32s (block_size ∷ 1 ∷ num_blocks ∷ directory_bytes ∷ 0 ∷ block_map_addr ∷ []) }
+    ensures { result
+        ≡ magic ++ u32s (block_size ∷ 1 ∷ num_blocks ∷ directory_bytes ∷ 0 ∷ block_map_addr ∷ []) }
 {
     let mut bytes = [0; LENGTH];
     bytes[..BLOCK_SIZE].copy_from_slice(&MAGIC);

@@ -22,15 +22,21 @@ pub fn gather_at<R: ReadAt, A: Allocator, L: Allocator>(
     s: u32,
     buffer: &mut Vec<u8, A>,
 ) -> Result<(), AtFault<StreamFault>>
-    requires { IfKnown (R.bytes input.old) (λ file. layout.now.superblock.num_blocks * layout.now.superblock.block_size ≤ length file) }
+    requires { IfKnown (R.bytes input.old) (λ file.
+        layout.now.superblock.num_blocks * layout.now.superblock.block_size ≤ length file) }
     ensures keeps { R.bytes input.new ≡ R.bytes input.old }
-    ensures value { OnOk result (IfKnown (R.bytes input.old) (λ file. stream_contents file layout.now s ≡ Some buffer.new.items)) }
+    ensures value { OnOk result (IfKnown (R.bytes input.old) (λ file.
+        stream_contents file layout.now s ≡ Some buffer.new.items)) }
     // Whatever is known of the file, these are bytes that reads gave.
     ensures text { OnOk result (WasRead (R.bytes input.old) layout.now s buffer.new.items) }
-    ensures found { s < length layout.now.streams → IfErr result (λ fault. IfKnown (R.bytes input.old) (λ _. fault ≡ AtFault.Of StreamFault.Memory)) }
-    ensures first { IfErr result (IfOf (λ fault. ((fault ≡ StreamFault.NoStream s) × (length layout.now.streams ≤ s))
+    ensures found { s < length layout.now.streams →
+        IfErr result (λ fault.
+        IfKnown (R.bytes input.old) (λ _. fault ≡ AtFault.Of StreamFault.Memory)) }
+    ensures first { IfErr result (IfOf (λ fault.
+        ((fault ≡ StreamFault.NoStream s) × (length layout.now.streams ≤ s))
         ⊎ ((fault ≡ StreamFault.Memory) × (s < length layout.now.streams)))) }
-    ensures read { IfErr result (λ fault. fault ≡ AtFault.Read → Breaks (R.bytes input.old) (R.is_broken input.new)) }
+    ensures read { IfErr result (λ fault.
+        fault ≡ AtFault.Read → Breaks (R.bytes input.old) (R.is_broken input.new)) }
 {
     let Some(size) = layout.size(s) else {
         return Err(AtFault::Of(StreamFault::NoStream(s)));

@@ -30,7 +30,9 @@ impl<A: Allocator + Copy> Front<A> {
         requires size { IsBlockSize block_size }
         requires fits { Fits block_size sizes.now }
         requires count { num_blocks ≡ image_blocks block_size sizes.now }
-        ensures value { IfOk result (λ f. IsFront block_size num_blocks sizes.now f.superblock f.block_map.items f.directory.items) }
+        ensures value { IfOk result (λ f.
+            IsFront block_size num_blocks sizes.now f.superblock f.block_map.items
+            f.directory.items) }
         ensures page { IfOk result (λ f. length f.page.items ≡ block_size) }
     {
         let blocks = stream_blocks(block_size, sizes);

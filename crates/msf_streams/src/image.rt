@@ -61,7 +61,8 @@ pub(crate) fn image_blocks(block_size: u32, sizes: &[u32; 5]) -> Option<u32>
 /// Format".)
 pub fn image_len(sizes: &[u32; 5], block_size: u32) -> Option<u32>
     requires { IsBlockSize block_size }
-    ensures some { IfSome result (λ n. Fits block_size sizes.now × (n ≡ image_length block_size sizes.now)) }
+    ensures some { IfSome result (λ n.
+        Fits block_size sizes.now × (n ≡ image_length block_size sizes.now)) }
     ensures none { IfNone result (Fits block_size sizes.now → ⊥) }
 {
     image_blocks(block_size, sizes)?.checked_mul(block_size)

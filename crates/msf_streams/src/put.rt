@@ -53,9 +53,11 @@ fn put_maps<W: Sink>(
     requires long { length page.old ≡ block_size }
     requires few { interval * block_size + 2 < 2 ^ 32 }
     ensures long { length page.new ≡ block_size }
-    ensures ok { OnOk result (Appends (W.taken out.old) (W.taken out.new) (maps_of block_size num_blocks interval)) }
+    ensures ok { OnOk result
+        (Appends (W.taken out.old) (W.taken out.new) (maps_of block_size num_blocks interval)) }
     ensures broken { OnErr result (W.is_broken out.new ≡ true) }
-    ensures prefix { OnErr result (AppendsPart (W.taken out.old) (W.taken out.new) (maps_of block_size num_blocks interval)) }
+    ensures prefix { OnErr result
+        (AppendsPart (W.taken out.old) (W.taken out.new) (maps_of block_size num_blocks interval)) }
 {
     let start = interval * block_size;
     fill_map_block(block_size, num_blocks, start + 1, page);
@@ -77,9 +79,11 @@ fn put_maps_before<W: Sink>(
     requires long { length page.old ≡ block_size }
     requires few { position < 2 ^ 33 }
     ensures long { length page.new ≡ block_size }
-    ensures ok { OnOk result (Appends (W.taken out.old) (W.taken out.new) (maps_before block_size num_blocks position)) }
+    ensures ok { OnOk result
+        (Appends (W.taken out.old) (W.taken out.new) (maps_before block_size num_blocks position)) }
     ensures broken { OnErr result (W.is_broken out.new ≡ true) }
-    ensures prefix { OnErr result (AppendsPart (W.taken out.old) (W.taken out.new) (maps_before block_size num_blocks position)) }
+    ensures prefix { OnErr result (AppendsPart (W.taken out.old) (W.taken out.new)
+        (maps_before block_size num_blocks position)) }
 {
     let first = block_size as usize;
     let stretch = stretch(block_size);
@@ -106,9 +110,11 @@ fn put_run<W: Sink>(
     requires few { position < 2 ^ 33 }
     ensures long { length page.new ≡ block_size }
     ensures count { IfOk result (λ count. (0 < count) × (count ≤ length bytes.now)) }
-    ensures ok { IfOk result (λ count. Appends (W.taken out.old) (W.taken out.new) (woven block_size num_blocks position (take count bytes.now))) }
+    ensures ok { IfOk result (λ count. Appends (W.taken out.old) (W.taken out.new)
+        (woven block_size num_blocks position (take count bytes.now))) }
     ensures broken { OnErr result (W.is_broken out.new ≡ true) }
-    ensures prefix { OnErr result (AppendsPart (W.taken out.old) (W.taken out.new) (woven block_size num_blocks position bytes.now)) }
+    ensures prefix { OnErr result (AppendsPart (W.taken out.old) (W.taken out.new)
+        (woven block_size num_blocks position bytes.now)) }
 {
     put_maps_before(block_size, num_blocks, position, page, out)?;
     let count = room(block_size, position).min(bytes.len());
@@ -129,9 +135,11 @@ fn put_bytes<W: Sink>(
     requires long { length page.old ≡ block_size }
     requires few { position + length bytes.now < 2 ^ 33 }
     ensures long { length page.new ≡ block_size }
-    ensures ok { OnOk result (Appends (W.taken out.old) (W.taken out.new) (woven block_size num_blocks position bytes.now)) }
+    ensures ok { OnOk result (Appends (W.taken out.old) (W.taken out.new)
+        (woven block_size num_blocks position bytes.now)) }
     ensures broken { OnErr result (W.is_broken out.new ≡ true) }
-    ensures prefix { OnErr result (AppendsPart (W.taken out.old) (W.taken out.new) (woven block_size num_blocks position bytes.now)) }
+    ensures prefix { OnErr result (AppendsPart (W.taken out.old) (W.taken out.new)
+        (woven block_size num_blocks position bytes.now)) }
 {
     let mut position = position;
     let mut rest = bytes;
@@ -181,9 +189,11 @@ fn put_joined<W: Sink>(
     requires few { position + length (joined parts.now) < 2 ^ 33 }
     ensures long { length page.new ≡ block_size }
     ensures end { IfOk result (λ end. end ≡ position + length (joined parts.now)) }
-    ensures ok { OnOk result (Appends (W.taken out.old) (W.taken out.new) (woven block_size num_blocks position (joined parts.now))) }
+    ensures ok { OnOk result (Appends (W.taken out.old) (W.taken out.new)
+        (woven block_size num_blocks position (joined parts.now))) }
     ensures broken { OnErr result (W.is_broken out.new ≡ true) }
-    ensures prefix { OnErr result (AppendsPart (W.taken out.old) (W.taken out.new) (woven block_size num_blocks position (joined parts.now))) }
+    ensures prefix { OnErr result (AppendsPart (W.taken out.old) (W.taken out.new)
+        (woven block_size num_blocks position (joined parts.now))) }
 {
     let mut position = position;
     for part in parts {
@@ -207,10 +217,13 @@ fn put_stream<W: Sink>(
     requires long { length page.old ≡ block_size }
     requires few { position + length (filled block_size (joined parts.now)) < 2 ^ 33 }
     ensures long { length page.new ≡ block_size }
-    ensures end { IfOk result (λ end. end ≡ position + length (filled block_size (joined parts.now))) }
-    ensures ok { OnOk result (Appends (W.taken out.old) (W.taken out.new) (woven block_size num_blocks position (filled block_size (joined parts.now)))) }
+    ensures end { IfOk result (λ end.
+        end ≡ position + length (filled block_size (joined parts.now))) }
+    ensures ok { OnOk result (Appends (W.taken out.old) (W.taken out.new)
+        (woven block_size num_blocks position (filled block_size (joined parts.now)))) }
     ensures broken { OnErr result (W.is_broken out.new ≡ true) }
-    ensures prefix { OnErr result (AppendsPart (W.taken out.old) (W.taken out.new) (woven block_size num_blocks position (filled block_size (joined parts.now)))) }
+    ensures prefix { OnErr result (AppendsPart (W.taken out.old) (W.taken out.new)
+        (woven block_size num_blocks position (filled block_size (joined parts.now)))) }
 {
     let end = put_joined(block_size, num_blocks, position, parts, page, out)?;
     let fill = zeros(fill_len(block_size, end - position));
@@ -234,9 +247,11 @@ pub(crate) fn put_part<W: Sink>(
     requires few { position + length (filled block_size part.now) < 2 ^ 33 }
     ensures long { length page.new ≡ block_size }
     ensures end { IfOk result (λ end. end ≡ position + length (filled block_size part.now)) }
-    ensures ok { OnOk result (Appends (W.taken out.old) (W.taken out.new) (woven block_size num_blocks position (filled block_size part.now))) }
+    ensures ok { OnOk result (Appends (W.taken out.old) (W.taken out.new)
+        (woven block_size num_blocks position (filled block_size part.now))) }
     ensures broken { OnErr result (W.is_broken out.new ≡ true) }
-    ensures prefix { OnErr result (AppendsPart (W.taken out.old) (W.taken out.new) (woven block_size num_blocks position (filled block_size part.now))) }
+    ensures prefix { OnErr result (AppendsPart (W.taken out.old) (W.taken out.new)
+        (woven block_size num_blocks position (filled block_size part.now))) }
 {
     put_stream(block_size, num_blocks, position, &[part], page, out)
 }
@@ -252,10 +267,15 @@ pub(crate) fn put_streams<W: Sink>(
 ) -> Result<(), NotTaken>
     requires size { IsBlockSize block_size }
     requires long { length page.old ≡ block_size }
-    requires few { position + length (flat_map (filled block_size) (joined_of streams.now)) < 2 ^ 33 }
-    ensures ok { OnOk result (Appends (W.taken out.old) (W.taken out.new) (woven block_size num_blocks position (flat_map (filled block_size) (joined_of streams.now)))) }
+    requires few { position + length (flat_map (filled block_size) (joined_of streams.now))
+        < 2 ^ 33 }
+    ensures ok { OnOk result (Appends (W.taken out.old) (W.taken out.new)
+        (woven block_size num_blocks position
+        (flat_map (filled block_size) (joined_of streams.now)))) }
     ensures broken { OnErr result (W.is_broken out.new ≡ true) }
-    ensures prefix { OnErr result (AppendsPart (W.taken out.old) (W.taken out.new) (woven block_size num_blocks position (flat_map (filled block_size) (joined_of streams.now)))) }
+    ensures prefix { OnErr result (AppendsPart (W.taken out.old) (W.taken out.new)
+        (woven block_size num_blocks position
+        (flat_map (filled block_size) (joined_of streams.now)))) }
 {
     let mut position = position;
     for parts in streams {

@@ -37,7 +37,8 @@ pub fn pieces<'a, A: Allocator>(
     layout: &'a Layout<A>,
     s: u32,
 ) -> Option<StreamPieces<'a, A>>
-    requires { layout.now.superblock.num_blocks * layout.now.superblock.block_size ≤ length file.now }
+    requires { layout.now.superblock.num_blocks * layout.now.superblock.block_size
+        ≤ length file.now }
     ensures value { result ≡ stream_pieces file.now layout.now s }
     ensures bytes { IfSome result (λ p. stream_contents file.now layout.now s ≡ Some (concat p)) }
     ensures count { IfSome result (λ p. IfSome (slice_get layout.now.streams s) (λ stream.
@@ -65,10 +66,13 @@ pub fn gather<A: Allocator + Copy, L: Allocator>(
     layout: &Layout<L>,
     s: u32,
 ) -> Result<Vec<u8, A>, StreamFault>
-    requires { layout.now.superblock.num_blocks * layout.now.superblock.block_size ≤ length file.now }
+    requires { layout.now.superblock.num_blocks * layout.now.superblock.block_size
+        ≤ length file.now }
     ensures value { IfOk result (λ v. stream_contents file.now layout.now s ≡ Some v.items) }
-    ensures found { s < length layout.now.streams → IfErr result (λ fault. fault ≡ StreamFault.Memory) }
-    ensures first { IfErr result (λ fault. ((fault ≡ StreamFault.NoStream s) × (length layout.now.streams ≤ s))
+    ensures found { s < length layout.now.streams →
+        IfErr result (λ fault. fault ≡ StreamFault.Memory) }
+    ensures first { IfErr result (λ fault.
+        ((fault ≡ StreamFault.NoStream s) × (length layout.now.streams ≤ s))
         ⊎ ((fault ≡ StreamFault.Memory) × (s < length layout.now.streams))) }
 {
     let (Some(size), Some(found)) = (layout.size(s), pieces(file, layout, s)) else {
@@ -102,7 +106,8 @@ fn are_consecutive<A: Allocator>(layout: &Layout<A>, s: u32, first: u32, count: 
 /// the stream's list. A nil stream and an empty stream give an empty part. `layout` has to be the
 /// layout of `file`. This does not allocate. ("The MSF File Format", "The Stream Directory".)
 pub fn lent<'a, A: Allocator>(file: &'a [u8], layout: &Layout<A>, s: u32) -> Option<&'a [u8]>
-    requires { layout.now.superblock.num_blocks * layout.now.superblock.block_size ≤ length file.now }
+    requires { layout.now.superblock.num_blocks * layout.now.superblock.block_size
+        ≤ length file.now }
     ensures value { IfSome result (λ part. stream_contents file.now layout.now s ≡ Some part.now) }
     ensures some { IfSome result (λ _. IsOnePart layout.now s) }
     ensures none { IfNone result (IsOnePart layout.now s → ⊥) }
@@ -131,10 +136,13 @@ pub fn contents<'a, A: Allocator + Copy, L: Allocator>(
     s: u32,
     buffer: &'a mut Vec<u8, A>,
 ) -> Result<&'a [u8], StreamFault>
-    requires { layout.now.superblock.num_blocks * layout.now.superblock.block_size ≤ length file.now }
+    requires { layout.now.superblock.num_blocks * layout.now.superblock.block_size
+        ≤ length file.now }
     ensures value { IfOk result (λ bytes. stream_contents file.now layout.now s ≡ Some bytes.now) }
-    ensures found { s < length layout.now.streams → IfErr result (λ fault. fault ≡ StreamFault.Memory) }
-    ensures first { IfErr result (λ fault. ((fault ≡ StreamFault.NoStream s) × (length layout.now.streams ≤ s))
+    ensures found { s < length layout.now.streams →
+        IfErr result (λ fault. fault ≡ StreamFault.Memory) }
+    ensures first { IfErr result (λ fault.
+        ((fault ≡ StreamFault.NoStream s) × (length layout.now.streams ≤ s))
         ⊎ ((fault ≡ StreamFault.Memory) × (s < length layout.now.streams))) }
 {
     if let Some(part) = lent(file, layout, s) {
@@ -167,13 +175,16 @@ impl<'a, A: Allocator> Model for StreamPieces<'a, A> {
 
     ghost view = { λ p. pieces_from p.file.now p.layout.now p.stream p.position p.left };
 
-    ghost invariant = { λ p. p.layout.now.superblock.num_blocks * p.layout.now.superblock.block_size ≤ length p.file.now };
+    ghost invariant = { λ p.
+        p.layout.now.superblock.num_blocks * p.layout.now.superblock.block_size
+        ≤ length p.file.now };
 }
 
 impl<'a, A: Allocator> StreamPieces<'a, A> {
     /// All the pieces of the `s`-th stream.
     fn new(file: &'a [u8], layout: &'a Layout<A>, s: u32) -> Option<StreamPieces<'a, A>>
-        requires { layout.now.superblock.num_blocks * layout.now.superblock.block_size ≤ length file.now }
+        requires { layout.now.superblock.num_blocks * layout.now.superblock.block_size
+            ≤ length file.now }
         ensures value { result ≡ stream_pieces file.now layout.now s }
         ensures fits { IsLayout layout.now }
     {
@@ -221,9 +232,12 @@ fn piece<'a, A: Allocator>(
     position: u32,
     left: u32,
 ) -> Option<&'a [u8]>
-    requires { layout.now.superblock.num_blocks * layout.now.superblock.block_size ≤ length file.now }
-    ensures some { IfSome result (λ p. pieces_from file.now layout.now s position left
-        ≡ p.now ∷ pieces_from file.now layout.now s (position + 1) (left - layout.now.superblock.block_size)) }
+    requires { layout.now.superblock.num_blocks * layout.now.superblock.block_size
+        ≤ length file.now }
+    ensures some { IfSome result (λ p.
+        pieces_from file.now layout.now s position left
+        ≡ p.now ∷ pieces_from file.now layout.now s (position + 1)
+        (left - layout.now.superblock.block_size)) }
     ensures few { IfSome result (λ _. position < 2 ^ 23) }
     ensures none { IfNone result (pieces_from file.now layout.now s position left ≡ []) }
 {

@@ -23,7 +23,8 @@ fn size_of(bytes: &[u8]) -> Option<u32>
 
 /// The length of a stream that is lent in parts. `None` where it does not fit in a `u32`.
 fn joined_len(parts: &[&[u8]]) -> Option<u32>
-    ensures some { IfSome result (λ size. (size ≡ length (joined parts.now)) × (length (joined parts.now) < 2 ^ 32)) }
+    ensures some { IfSome result (λ size.
+        (size ≡ length (joined parts.now)) × (length (joined parts.now) < 2 ^ 32)) }
     ensures none { IfNone result (2 ^ 32 ≤ length (joined parts.now)) }
 {
     let mut len: u32 = 0;
@@ -36,8 +37,10 @@ fn joined_len(parts: &[&[u8]]) -> Option<u32>
 /// The sizes of streams that are lent in parts, in bytes. `None` where one does not fit in a `u32`.
 fn sizes_of(streams: &[&[&[u8]]; 5]) -> Option<[u32; 5]>
     ensures some { IfSome result (λ sizes. sizes ≡ map length (joined_of streams.now)) }
-    ensures short { IfSome result (λ _. All (λ bytes. length bytes < 2 ^ 32) (joined_of streams.now)) }
-    ensures none { IfNone result (All (λ bytes. length bytes < 2 ^ 32) (joined_of streams.now) → ⊥) }
+    ensures short { IfSome result (λ _.
+        All (λ bytes. length bytes < 2 ^ 32) (joined_of streams.now)) }
+    ensures none { IfNone result
+        (All (λ bytes. length bytes < 2 ^ 32) (joined_of streams.now) → ⊥) }
 {
     let mut sizes = [0; 5];
     for i in 0..5 {
@@ -56,10 +59,13 @@ fn put_image<W: Sink, A: Allocator>(
 ) -> Result<(), NotTaken>
     requires size { IsBlockSize block_size }
     requires page { length front.old.page.items ≡ block_size }
-    requires front { IsFront block_size num_blocks (map length (joined_of streams.now)) front.old.superblock front.old.block_map.items front.old.directory.items }
-    ensures ok { OnOk result (Appends (W.taken out.old) (W.taken out.new) (image block_size (joined_of streams.now))) }
+    requires front { IsFront block_size num_blocks (map length (joined_of streams.now))
+        front.old.superblock front.old.block_map.items front.old.directory.items }
+    ensures ok { OnOk result
+        (Appends (W.taken out.old) (W.taken out.new) (image block_size (joined_of streams.now))) }
     ensures broken { OnErr result (W.is_broken out.new ≡ true) }
-    ensures prefix { OnErr result (AppendsPart (W.taken out.old) (W.taken out.new) (image block_size (joined_of streams.now))) }
+    ensures prefix { OnErr result (AppendsPart (W.taken out.old) (W.taken out.new)
+        (image block_size (joined_of streams.now))) }
 {
     let page = &mut front.page;
     let end = put_part(block_size, num_blocks, 0, &front.superblock, page, out)?;
@@ -91,14 +97,21 @@ pub fn write_parts<W: Sink, A: Allocator + Copy>(
     out: &mut W,
 ) -> Result<(), WriteFault>
     requires { IsBlockSize block_size }
-    ensures value { OnOk result (Appends (W.taken out.old) (W.taken out.new) (image block_size (joined_of streams.now))) }
-    ensures image { IfErr result (λ fault. fault ≡ WriteFault.Image → Writable block_size (joined_of streams.now) → ⊥) }
+    ensures value { OnOk result
+        (Appends (W.taken out.old) (W.taken out.new) (image block_size (joined_of streams.now))) }
+    ensures image { IfErr result (λ fault.
+        fault ≡ WriteFault.Image → Writable block_size (joined_of streams.now) → ⊥) }
     // Streams that fit are refused only when out of memory, or when the sink breaks.
-    ensures found { Writable block_size (joined_of streams.now) → IfErr result (λ fault. (fault ≡ WriteFault.Memory) ⊎ (fault ≡ WriteFault.Write)) }
+    ensures found { Writable block_size (joined_of streams.now) →
+        IfErr result (λ fault. (fault ≡ WriteFault.Memory) ⊎ (fault ≡ WriteFault.Write)) }
     // The result is `Image`, or the streams fit.
-    ensures writable { (result ≡ Err WriteFault.Image) ⊎ Writable block_size (joined_of streams.now) }
-    ensures write { IfErr result (λ fault. fault ≡ WriteFault.Write → (W.is_broken out.new ≡ true)
-        × AppendsPart (W.taken out.old) (W.taken out.new) (image block_size (joined_of streams.now))) }
+    ensures writable { (result ≡ Err WriteFault.Image)
+        ⊎ Writable block_size (joined_of streams.now) }
+    ensures write { IfErr result (λ fault.
+        fault ≡ WriteFault.Write →
+        (W.is_broken out.new ≡ true)
+        × AppendsPart (W.taken out.old) (W.taken out.new)
+        (image block_size (joined_of streams.now))) }
     ensures untouched { IfErr result (λ fault. fault ≢ WriteFault.Write → out.new ≡ out.old) }
 {
     let Some(sizes) = sizes_of(streams) else {
@@ -124,12 +137,19 @@ pub fn write_image<W: Sink, A: Allocator + Copy>(
     out: &mut W,
 ) -> Result<(), WriteFault>
     requires { IsBlockSize block_size }
-    ensures value { OnOk result (Appends (W.taken out.old) (W.taken out.new) (image block_size (contents_of streams.now))) }
-    ensures image { IfErr result (λ fault. fault ≡ WriteFault.Image → Writable block_size (contents_of streams.now) → ⊥) }
-    ensures found { Writable block_size (contents_of streams.now) → IfErr result (λ fault. (fault ≡ WriteFault.Memory) ⊎ (fault ≡ WriteFault.Write)) }
-    ensures writable { (result ≡ Err WriteFault.Image) ⊎ Writable block_size (contents_of streams.now) }
-    ensures write { IfErr result (λ fault. fault ≡ WriteFault.Write → (W.is_broken out.new ≡ true)
-        × AppendsPart (W.taken out.old) (W.taken out.new) (image block_size (contents_of streams.now))) }
+    ensures value { OnOk result
+        (Appends (W.taken out.old) (W.taken out.new) (image block_size (contents_of streams.now))) }
+    ensures image { IfErr result (λ fault.
+        fault ≡ WriteFault.Image → Writable block_size (contents_of streams.now) → ⊥) }
+    ensures found { Writable block_size (contents_of streams.now) →
+        IfErr result (λ fault. (fault ≡ WriteFault.Memory) ⊎ (fault ≡ WriteFault.Write)) }
+    ensures writable { (result ≡ Err WriteFault.Image)
+        ⊎ Writable block_size (contents_of streams.now) }
+    ensures write { IfErr result (λ fault.
+        fault ≡ WriteFault.Write →
+        (W.is_broken out.new ≡ true)
+        × AppendsPart (W.taken out.old) (W.taken out.new)
+        (image block_size (contents_of streams.now))) }
     ensures untouched { IfErr result (λ fault. fault ≢ WriteFault.Write → out.new ≡ out.old) }
 {
     let [first, second, third, fourth, fifth] = *streams;

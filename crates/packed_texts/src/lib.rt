@@ -32,7 +32,9 @@ impl<A: Allocator> Model for PackedTexts<A> {
 
     ghost view = { λ p. texts_in p.bytes.items 0 (in_bytes p.ends.items) };
 
-    ghost invariant = { λ p. Rise 0 (in_bytes p.ends.items) (length p.bytes.items) × (length p.bytes.items < 2 ^ 34) × (length p.bytes.items % 4 ≡ 0) };
+    ghost invariant = { λ p.
+        Rise 0 (in_bytes p.ends.items) (length p.bytes.items) × (length p.bytes.items < 2 ^ 34)
+        × (length p.bytes.items % 4 ≡ 0) };
 }
 
 /// The offset at which a text begins, in bytes.

@@ -24,8 +24,10 @@ pub(crate) fn check_size<L: Allocator, A: Allocator>(
     stream: u32,
     limit: u32,
 ) -> Result<(), RunFault<A>>
-    ensures value { (file : List ℕ) → AreBytes file → HasLayout file layout.now → OnOk result (HasLongStream limit stream file → ⊥) }
-    ensures first { (file : List ℕ) → HasLayout file layout.now → IfErr result (λ fault. HasLongStream limit stream file) }
+    ensures value { (file : List ℕ) → AreBytes file → HasLayout file layout.now →
+        OnOk result (HasLongStream limit stream file → ⊥) }
+    ensures first { (file : List ℕ) → HasLayout file layout.now →
+        IfErr result (λ fault. HasLongStream limit stream file) }
     ensures short { OnOk result (ListsLongStream limit stream layout.now → ⊥) }
     ensures long { IfErr result (λ _. ListsLongStream limit stream layout.now) }
     ensures own { IfErr result (λ fault. fault ≡ RunFault.TooLong) }
@@ -50,7 +52,9 @@ pub(crate) fn check_stream<A: Allocator + Copy>(
     limit: u32,
 ) -> Result<(), RunFault<A>>
     ensures value { OnOk result (HasLongStream limit stream file.now → ⊥) }
-    ensures first { IfErr result (λ fault. ((fault ≡ RunFault.TooLong) × HasLongStream limit stream file.now) ⊎ (fault ≡ RunFault.Memory)) }
+    ensures first { IfErr result (λ fault.
+        ((fault ≡ RunFault.TooLong) × HasLongStream limit stream file.now)
+        ⊎ (fault ≡ RunFault.Memory)) }
     ensures memory { IfErr result (λ fault. fault ≡ RunFault.Memory → MayRunOut limit file.now) }
 {
     if limit == u32::MAX {
@@ -76,7 +80,8 @@ pub fn check_type_stream<A: Allocator + Copy>(
     limit: u32,
 ) -> Result<(), RunFault<A>>
     ensures value { OnOk result (HasLongStream limit 2 file.now → ⊥) }
-    ensures first { IfErr result (λ fault. ((fault ≡ RunFault.TooLong) × HasLongStream limit 2 file.now) ⊎ (fault ≡ RunFault.Memory)) }
+    ensures first { IfErr result (λ fault.
+        ((fault ≡ RunFault.TooLong) × HasLongStream limit 2 file.now) ⊎ (fault ≡ RunFault.Memory)) }
     ensures memory { IfErr result (λ fault. fault ≡ RunFault.Memory → MayRunOut limit file.now) }
 {
     check_stream(alloc, file, TPI_STREAM, limit)
@@ -93,10 +98,15 @@ pub fn check_type_stream_at<R: ReadAt, A: Allocator + Copy>(
     limit: u32,
 ) -> Result<(), AtFault<RunFault<A>>>
     ensures keeps { R.bytes input.new ≡ R.bytes input.old }
-    ensures value { OnOk result (IfKnown (R.bytes input.old) (λ file. HasLongStream limit 2 file → ⊥)) }
-    ensures first { IfErr result (IfOf (λ fault. ((fault ≡ RunFault.TooLong) × IfKnown (R.bytes input.old) (HasLongStream limit 2)) ⊎ (fault ≡ RunFault.Memory))) }
-    ensures memory { IfErr result (IfOf (λ fault. fault ≡ RunFault.Memory → IfKnown (R.bytes input.old) (MayRunOut limit))) }
-    ensures read { IfErr result (λ fault. fault ≡ AtFault.Read → Breaks (R.bytes input.old) (R.is_broken input.new)) }
+    ensures value { OnOk result
+        (IfKnown (R.bytes input.old) (λ file. HasLongStream limit 2 file → ⊥)) }
+    ensures first { IfErr result (IfOf (λ fault.
+        ((fault ≡ RunFault.TooLong) × IfKnown (R.bytes input.old) (HasLongStream limit 2))
+        ⊎ (fault ≡ RunFault.Memory))) }
+    ensures memory { IfErr result
+        (IfOf (λ fault. fault ≡ RunFault.Memory → IfKnown (R.bytes input.old) (MayRunOut limit))) }
+    ensures read { IfErr result (λ fault.
+        fault ≡ AtFault.Read → Breaks (R.bytes input.old) (R.is_broken input.new)) }
 {
     if limit == u32::MAX {
         return Ok(());

@@ -24,7 +24,8 @@ fn push_checked<A: Allocator>(
     bytes: u32,
     levels: u32,
 ) -> Result<(), AllocError>
-    ensures { OnOk result (string_bytes text.new ≡ string_bytes text.old ++ checked_lines records bytes levels) }
+    ensures { OnOk result
+        (string_bytes text.new ≡ string_bytes text.old ++ checked_lines records bytes levels) }
 {
     text.push_str("accepted\n")?;
     push_named(text, "records", records)?;
@@ -35,8 +36,11 @@ fn push_checked<A: Allocator>(
 
 /// The text of types.
 fn types_text<A: Allocator + Copy>(alloc: A, types: &Types<'_, A>) -> Result<String<A>, RunFault<A>>
-    ensures value { IfOk result (λ text. (file : List ℕ) → IsAccepted file types.now → ShowsChecked file (string_bytes text)) }
-    ensures texts { IfOk result (λ text. (bytes : Bytes) (layout : LayoutView) → TypesWereRead bytes layout types.now → ShowsCheckedRead bytes layout (string_bytes text)) }
+    ensures value { IfOk result (λ text.
+        (file : List ℕ) → IsAccepted file types.now → ShowsChecked file (string_bytes text)) }
+    ensures texts { IfOk result (λ text.
+        (bytes : Bytes) (layout : LayoutView) → TypesWereRead bytes layout types.now →
+        ShowsCheckedRead bytes layout (string_bytes text)) }
     ensures memory { IfErr result (λ fault. fault ≡ RunFault.Memory) }
 {
     let mut text = String::new(alloc);
@@ -106,7 +110,8 @@ pub fn run_check<R: Source, W: Sink, A: Allocator + Copy>(
     limit: u32,
     out: &mut W,
 ) -> Result<(), RunFault<A>>
-    ensures { Answers ShowsChecked RefusesCheck limit (R.left input.old) (R.left input.new) (R.is_broken input.new) W.taken W.is_broken out.old out.new result }
+    ensures { Answers ShowsChecked RefusesCheck limit (R.left input.old) (R.left input.new)
+        (R.is_broken input.new) W.taken W.is_broken out.old out.new result }
 {
     run(alloc, &Check, input, limit, out)
 }
@@ -122,7 +127,8 @@ pub fn run_check_at<R: ReadAt, W: Sink, A: Allocator + Copy>(
     limit: u32,
     out: &mut W,
 ) -> Result<(), RunFault<A>>
-    ensures { AnswersAt ShowsChecked RefusesCheck ShowsCheckedRead RefusesCheckRead limit (R.bytes input.old) (R.is_broken input.new) W.taken W.is_broken out.old out.new result }
+    ensures { AnswersAt ShowsChecked RefusesCheck ShowsCheckedRead RefusesCheckRead limit
+        (R.bytes input.old) (R.is_broken input.new) W.taken W.is_broken out.old out.new result }
 {
     run_at(alloc, &Check, input, limit, out)
 }

@@ -25,7 +25,8 @@ pub trait Show<A: Allocator + Copy> {
     /// Makes the whole text.
     fn text(&self, alloc: A, file: &[u8]) -> Result<String<A>, RunFault<A>>
         ensures value { IfOk result (λ text. shows self.now file.now (string_bytes text)) }
-        ensures first { IfErr result (λ fault. refuses self.now file.now fault ⊎ (fault ≡ RunFault.Memory)) }
+        ensures first { IfErr result (λ fault.
+            refuses self.now file.now fault ⊎ (fault ≡ RunFault.Memory)) }
         // This neither reads nor writes, so it has no fault of reading or of writing.
         ensures pure { IfErr result IsOfText };
 }
@@ -42,8 +43,11 @@ pub trait ShowAt<A: Allocator + Copy>: Show<A> {
 
     /// The fault of the command for a file whose container has this fault.
     fn refuse_layout(&self, fault: MsfFault) -> RunFault<A>
-        ensures first { (file : List ℕ) → AreBytes file → Refuses MsfFault.Memory (first_failing (layout_checks file)) fault → Self.refuses self.now file result ⊎ (result ≡ RunFault.Memory) }
-        ensures refused { (bytes : Bytes) → TextsRefuse bytes fault → RefusesLayout bytes result ⊎ (result ≡ RunFault.Memory) }
+        ensures first { (file : List ℕ) → AreBytes file →
+            Refuses MsfFault.Memory (first_failing (layout_checks file)) fault →
+            Self.refuses self.now file result ⊎ (result ≡ RunFault.Memory) }
+        ensures refused { (bytes : Bytes) → TextsRefuse bytes fault →
+            RefusesLayout bytes result ⊎ (result ≡ RunFault.Memory) }
         ensures pure { IsOfText result };
 
     /// Makes the whole text of a file with this layout.
@@ -55,12 +59,18 @@ pub trait ShowAt<A: Allocator + Copy>: Show<A> {
     ) -> Result<String<A>, AtFault<RunFault<A>>>
         requires bytes { IfKnown (R.bytes input.old) AreBytes }
         requires layout { IfKnown (R.bytes input.old) (λ file. HasLayout file layout.now) }
-        ensures value { IfOk result (λ text. IfKnown (R.bytes input.old) (λ file. Self.shows self.now file (string_bytes text))) }
-        ensures texts { IfOk result (λ text. shows_read self.now (R.bytes input.old) layout.now (string_bytes text)) }
-        ensures first { IfErr result (IfOf (λ fault. IfKnown (R.bytes input.old) (λ file. Self.refuses self.now file fault ⊎ (fault ≡ RunFault.Memory)))) }
-        ensures refused { IfErr result (IfOf (λ fault. refuses_read self.now (R.bytes input.old) layout.now fault ⊎ (fault ≡ RunFault.Memory))) }
+        ensures value { IfOk result (λ text.
+            IfKnown (R.bytes input.old) (λ file. Self.shows self.now file (string_bytes text))) }
+        ensures texts { IfOk result (λ text.
+            shows_read self.now (R.bytes input.old) layout.now (string_bytes text)) }
+        ensures first { IfErr result (IfOf (λ fault. IfKnown (R.bytes input.old) (λ file.
+            Self.refuses self.now file fault ⊎ (fault ≡ RunFault.Memory)))) }
+        ensures refused { IfErr result (IfOf (λ fault.
+            refuses_read self.now (R.bytes input.old) layout.now fault
+            ⊎ (fault ≡ RunFault.Memory))) }
         ensures pure { IfErr result (IfOf IsOfText) }
-        ensures read { IfErr result (λ fault. fault ≡ AtFault.Read → Breaks (R.bytes input.old) (R.is_broken input.new)) };
+        ensures read { IfErr result (λ fault.
+            fault ≡ AtFault.Read → Breaks (R.bytes input.old) (R.is_broken input.new)) };
 }
 
 /// Makes the whole text of a file that is read by position. Its layout is read once.
@@ -69,12 +79,18 @@ fn text_at<C: ShowAt<A>, R: ReadAt, A: Allocator + Copy>(
     command: &C,
     input: &mut R,
 ) -> Result<String<A>, AtFault<RunFault<A>>>
-    ensures value { IfOk result (λ text. IfKnown (R.bytes input.old) (λ file. C.shows command.now file (string_bytes text))) }
-    ensures texts { IfOk result (λ text. IsOfTexts (C.shows_read command.now) (R.bytes input.old) (string_bytes text)) }
-    ensures first { IfErr result (IfOf (λ fault. IfKnown (R.bytes input.old) (λ file. C.refuses command.now file fault ⊎ (fault ≡ RunFault.Memory)))) }
-    ensures refused { IfErr result (IfOf (λ fault. IsFaultOfTexts (C.refuses_read command.now) (R.bytes input.old) fault ⊎ (fault ≡ RunFault.Memory))) }
+    ensures value { IfOk result (λ text.
+        IfKnown (R.bytes input.old) (λ file. C.shows command.now file (string_bytes text))) }
+    ensures texts { IfOk result (λ text.
+        IsOfTexts (C.shows_read command.now) (R.bytes input.old) (string_bytes text)) }
+    ensures first { IfErr result (IfOf (λ fault. IfKnown (R.bytes input.old) (λ file.
+        C.refuses command.now file fault ⊎ (fault ≡ RunFault.Memory)))) }
+    ensures refused { IfErr result (IfOf (λ fault.
+        IsFaultOfTexts (C.refuses_read command.now) (R.bytes input.old) fault
+        ⊎ (fault ≡ RunFault.Memory))) }
     ensures pure { IfErr result (IfOf IsOfText) }
-    ensures read { IfErr result (λ fault. fault ≡ AtFault.Read → Breaks (R.bytes input.old) (R.is_broken input.new)) }
+    ensures read { IfErr result (λ fault.
+        fault ≡ AtFault.Read → Breaks (R.bytes input.old) (R.is_broken input.new)) }
 {
     let layout = match Layout::read_at(alloc, input) {
         Ok(layout) => layout,
@@ -99,7 +115,9 @@ pub fn run_at<C: ShowAt<A>, R: ReadAt, W: Sink, A: Allocator + Copy>(
     limit: u32,
     out: &mut W,
 ) -> Result<(), RunFault<A>>
-    ensures { AnswersAt (C.shows command.now) (C.refuses command.now) (C.shows_read command.now) (C.refuses_read command.now) limit (R.bytes input.old) (R.is_broken input.new) W.taken W.is_broken out.old out.new result }
+    ensures { AnswersAt (C.shows command.now) (C.refuses command.now) (C.shows_read command.now)
+        (C.refuses_read command.now) limit (R.bytes input.old) (R.is_broken input.new) W.taken
+        W.is_broken out.old out.new result }
 {
     if u64::from(limit) < input.len() {
         return Err(RunFault::Read(ReadFault::TooLong));
@@ -126,7 +144,8 @@ pub fn run<C: Show<A>, R: Source, W: Sink, A: Allocator + Copy>(
     limit: u32,
     out: &mut W,
 ) -> Result<(), RunFault<A>>
-    ensures { Answers (C.shows command.now) (C.refuses command.now) limit (R.left input.old) (R.left input.new) (R.is_broken input.new) W.taken W.is_broken out.old out.new result }
+    ensures { Answers (C.shows command.now) (C.refuses command.now) limit (R.left input.old)
+        (R.left input.new) (R.is_broken input.new) W.taken W.is_broken out.old out.new result }
 {
     let file = read_all(alloc, input, limit)?;
     let text = command.text(alloc, &file)?;

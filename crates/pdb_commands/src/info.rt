@@ -25,7 +25,8 @@ use uuid::Uuid;
 /// Appends the line of the signature.
 #[tactic(auto, unfolding(crate::specs::Info::signature_line))]
 fn push_signature<A: Allocator>(text: &mut String<A>, signature: u32) -> Result<(), AllocError>
-    ensures { OnOk result (string_bytes text.new ≡ string_bytes text.old ++ signature_line signature) }
+    ensures { OnOk result
+        (string_bytes text.new ≡ string_bytes text.old ++ signature_line signature) }
 {
     text.push_str("signature ")?;
     push_index(text, signature)?;
@@ -48,7 +49,8 @@ fn push_guid<A: Allocator>(text: &mut String<A>, guid: Uuid) -> Result<(), Alloc
 /// Appends the lines of the header.
 #[tactic(auto, unfolding(crate::specs::Info::header_lines))]
 fn push_header<A: Allocator>(text: &mut String<A>, header: &InfoHeader) -> Result<(), AllocError>
-    ensures { OnOk result (string_bytes text.new ≡ string_bytes text.old ++ header_lines header.now) }
+    ensures { OnOk result
+        (string_bytes text.new ≡ string_bytes text.old ++ header_lines header.now) }
 {
     push_named(text, "version", header.version())?;
     push_signature(text, header.signature())?;
@@ -60,7 +62,8 @@ fn push_header<A: Allocator>(text: &mut String<A>, header: &InfoHeader) -> Resul
 /// Appends the line of a named stream.
 #[tactic(auto, unfolding(crate::specs::Info::name_line))]
 fn push_name<A: Allocator>(text: &mut String<A>, name: &Name<'_>) -> Result<(), AllocError>
-    ensures { OnOk result (string_bytes text.new ≡ string_bytes text.old ++ name_line (named name.now)) }
+    ensures { OnOk result
+        (string_bytes text.new ≡ string_bytes text.old ++ name_line (named name.now)) }
 {
     let stream = name.stream;
     text.push_str("name ")?;
@@ -71,7 +74,9 @@ fn push_name<A: Allocator>(text: &mut String<A>, name: &Name<'_>) -> Result<(), 
 
 /// Appends the lines of all named streams.
 fn push_names<A: Allocator>(text: &mut String<A>, names: &[Name<'_>]) -> Result<(), AllocError>
-    ensures { OnOk result (string_bytes text.new ≡ string_bytes text.old ++ flat_map name_line (map named names.now)) }
+    ensures { OnOk result
+        (string_bytes text.new
+        ≡ string_bytes text.old ++ flat_map name_line (map named names.now)) }
 {
     for name in names {
         push_name(text, name)?;
@@ -90,7 +95,8 @@ fn names_length(names: &[Name<'_>]) -> usize {
 
 /// Appends the lines of all feature codes.
 fn push_features<A: Allocator>(text: &mut String<A>, features: &[u32]) -> Result<(), AllocError>
-    ensures { OnOk result (string_bytes text.new ≡ string_bytes text.old ++ flat_map feature_line features.now) }
+    ensures { OnOk result
+        (string_bytes text.new ≡ string_bytes text.old ++ flat_map feature_line features.now) }
 {
     for feature in features {
         push_named(text, "feature", *feature)?;
@@ -105,8 +111,11 @@ fn info_stream<'a, A: Allocator + Copy>(
     file: &'a [u8],
     buffer: &'a mut Vec<u8, A>,
 ) -> Result<&'a [u8], PdbFault<A>>
-    ensures value { IfOk result (λ stream. (layout : LayoutView) × HasLayout file.now layout × (stream_contents file.now layout 1 ≡ Some stream.now)) }
-    ensures first { IfErr result (λ fault. HasNoInfoStream file.now fault ⊎ (fault ≡ PdbFault.Memory)) }
+    ensures value { IfOk result (λ stream.
+        (layout : LayoutView) × HasLayout file.now layout
+        × (stream_contents file.now layout 1 ≡ Some stream.now)) }
+    ensures first { IfErr result (λ fault.
+        HasNoInfoStream file.now fault ⊎ (fault ≡ PdbFault.Memory)) }
 {
     let layout = read_layout(alloc, file)?;
     Ok(contents(alloc, file, &layout, INFO_STREAM, buffer)?)
@@ -119,11 +128,16 @@ fn info_stream_of<R: ReadAt, L: Allocator, A: Allocator>(
     buffer: &mut Vec<u8, A>,
 ) -> Result<(), AtFault<PdbFault<A>>>
     requires { IfKnown (R.bytes input.old) (λ file. HasLayout file layout.now) }
-    ensures value { OnOk result (IfKnown (R.bytes input.old) (λ file. (layout : LayoutView) × HasLayout file layout × (stream_contents file layout 1 ≡ Some buffer.new.items))) }
+    ensures value { OnOk result (IfKnown (R.bytes input.old) (λ file.
+        (layout : LayoutView) × HasLayout file layout
+        × (stream_contents file layout 1 ≡ Some buffer.new.items))) }
     ensures texts { OnOk result (WasRead (R.bytes input.old) layout.now 1 buffer.new.items) }
-    ensures first { IfErr result (IfOf (λ fault. IfKnown (R.bytes input.old) (λ file. HasNoInfoStream file fault ⊎ (fault ≡ PdbFault.Memory)))) }
-    ensures refused { IfErr result (IfOf (λ fault. HasNoInfoStreamRead layout.now fault ⊎ (fault ≡ PdbFault.Memory))) }
-    ensures read { IfErr result (λ fault. fault ≡ AtFault.Read → Breaks (R.bytes input.old) (R.is_broken input.new)) }
+    ensures first { IfErr result (IfOf (λ fault. IfKnown (R.bytes input.old) (λ file.
+        HasNoInfoStream file fault ⊎ (fault ≡ PdbFault.Memory)))) }
+    ensures refused { IfErr result
+        (IfOf (λ fault. HasNoInfoStreamRead layout.now fault ⊎ (fault ≡ PdbFault.Memory))) }
+    ensures read { IfErr result (λ fault.
+        fault ≡ AtFault.Read → Breaks (R.bytes input.old) (R.is_broken input.new)) }
 {
     match gather_at(input, layout, INFO_STREAM, buffer) {
         Ok(()) => Ok(()),
@@ -135,7 +149,8 @@ fn info_stream_of<R: ReadAt, L: Allocator, A: Allocator>(
 /// The text of the bytes of an info stream.
 fn stream_text<A: Allocator + Copy>(alloc: A, stream: &[u8]) -> Result<String<A>, RunFault<A>>
     ensures value { IfOk result (λ text. IsInfoText stream.now (string_bytes text)) }
-    ensures first { IfErr result (λ fault. IsInfoFault stream.now fault ⊎ (fault ≡ RunFault.Memory)) }
+    ensures first { IfErr result (λ fault.
+        IsInfoFault stream.now fault ⊎ (fault ≡ RunFault.Memory)) }
 {
     let info = pdb_info::Info::read(alloc, stream)?;
     let mut text = String::new(alloc);
@@ -206,7 +221,8 @@ pub fn run_info<R: Source, W: Sink, A: Allocator + Copy>(
     limit: u32,
     out: &mut W,
 ) -> Result<(), RunFault<A>>
-    ensures { Answers ShowsInfo RefusesInfo limit (R.left input.old) (R.left input.new) (R.is_broken input.new) W.taken W.is_broken out.old out.new result }
+    ensures { Answers ShowsInfo RefusesInfo limit (R.left input.old) (R.left input.new)
+        (R.is_broken input.new) W.taken W.is_broken out.old out.new result }
 {
     run(alloc, &Info, input, limit, out)
 }
@@ -222,7 +238,8 @@ pub fn run_info_at<R: ReadAt, W: Sink, A: Allocator + Copy>(
     limit: u32,
     out: &mut W,
 ) -> Result<(), RunFault<A>>
-    ensures { AnswersAt ShowsInfo RefusesInfo ShowsInfoRead RefusesInfoRead limit (R.bytes input.old) (R.is_broken input.new) W.taken W.is_broken out.old out.new result }
+    ensures { AnswersAt ShowsInfo RefusesInfo ShowsInfoRead RefusesInfoRead limit
+        (R.bytes input.old) (R.is_broken input.new) W.taken W.is_broken out.old out.new result }
 {
     run_at(alloc, &Info, input, limit, out)
 }

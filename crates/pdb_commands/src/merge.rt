@@ -21,7 +21,8 @@ use std::hash::BuildHasher;
 /// Appends the number of types, of their bytes and of the bytes of the file, one per line.
 #[tactic(auto, unfolding(crate::specs::Merge::summary_lines))]
 fn push_summary<A: Allocator>(text: &mut String<A>, summary: &Summary) -> Result<(), AllocError>
-    ensures { OnOk result (string_bytes text.new ≡ string_bytes text.old ++ summary_lines summary.now) }
+    ensures { OnOk result
+        (string_bytes text.new ≡ string_bytes text.old ++ summary_lines summary.now) }
 {
     push_named(text, "types", summary.types)?;
     push_named(text, "bytes", summary.bytes)?;
@@ -35,9 +36,12 @@ fn report_on<V: Sink, A: Allocator>(
     summary: &Summary,
     report: &mut V,
 ) -> Result<(), RunFault<A>>
-    ensures value { OnOk result (Appends (V.taken report.old) (V.taken report.new) (summary_lines summary.now)) }
+    ensures value { OnOk result
+        (Appends (V.taken report.old) (V.taken report.new) (summary_lines summary.now)) }
     ensures fault { IfErr result (λ fault. (fault ≡ RunFault.Memory) ⊎ (fault ≡ RunFault.Write)) }
-    ensures write { result ≡ Err RunFault.Write → (V.is_broken report.new ≡ true) × AppendsPart (V.taken report.old) (V.taken report.new) (summary_lines summary.now) }
+    ensures write { result ≡ Err RunFault.Write →
+        (V.is_broken report.new ≡ true)
+        × AppendsPart (V.taken report.old) (V.taken report.new) (summary_lines summary.now) }
     ensures untouched { result ≡ Err RunFault.Memory → report.new ≡ report.old }
 {
     let mut text = String::new(alloc);
@@ -65,32 +69,61 @@ pub fn run_merge<I: Inputs + Drop, W: Sink, V: Sink, S: BuildHasher + Drop, A: A
     report: &mut V,
     hasher: S,
 ) -> Result<(), RunFault<A>>
-    ensures value { (given : List (List ℕ)) → Give (I.known files) given → OnOk result (CanMerge given (record_limit settings.now) × WroteAndReported given settings.now (W.taken out.old) (W.taken out.new) (V.taken report.old) (V.taken report.new)) }
-    ensures can { (given : List (List ℕ)) → Give (I.known files) given → OnOk result (CanMerge given (record_limit settings.now)) }
+    ensures value { (given : List (List ℕ)) → Give (I.known files) given →
+        OnOk result
+        (CanMerge given (record_limit settings.now)
+        × WroteAndReported given settings.now (W.taken out.old) (W.taken out.new)
+        (V.taken report.old) (V.taken report.new)) }
+    ensures can { (given : List (List ℕ)) → Give (I.known files) given →
+        OnOk result (CanMerge given (record_limit settings.now)) }
     // Files that can be merged are refused only when out of memory, or by a sink.
-    ensures found { (given : List (List ℕ)) → Give (I.known files) given → CanMerge given (record_limit settings.now) → IfErr result (λ fault. (fault ≡ RunFault.Memory) ⊎ (fault ≡ RunFault.Write)) }
-    ensures first { (given : List (List ℕ)) → Give (I.known files) given → IfErr result (IsNotMerged given (record_limit settings.now)) }
+    ensures found { (given : List (List ℕ)) → Give (I.known files) given →
+        CanMerge given (record_limit settings.now) →
+        IfErr result (λ fault. (fault ≡ RunFault.Memory) ⊎ (fault ≡ RunFault.Write)) }
+    ensures first { (given : List (List ℕ)) → Give (I.known files) given →
+        IfErr result (IsNotMerged given (record_limit settings.now)) }
     // The command has no other fault, whatever is known of the inputs.
     ensures own { IfErr result IsOfMerging }
     // Reading comes first: every file was read, or the fault is that of the first unread file.
-    ensures reads { IfErr result (λ fault. (inner : MergeFault A) → fault ≡ RunFault.Merge inner → IfSome (I.known files) (λ each. ReadsFirst each inner)) }
+    ensures reads { IfErr result (λ fault.
+        (inner : MergeFault A) → fault ≡ RunFault.Merge inner →
+        IfSome (I.known files) (λ each. ReadsFirst each inner)) }
     // Files that are refused in one order are refused in any order.
-    ensures any_order { (given : List (List ℕ)) → Give (I.known files) given → IfErr result (λ fault. (inner : MergeFault A) → fault ≡ RunFault.Merge inner
-        → (others : List (List ℕ)) → SameFiles given others → CanMerge others (record_limit settings.now) → ⊥) }
-    ensures write { (given : List (List ℕ)) → Give (I.known files) given → result ≡ Err RunFault.Write → ((W.is_broken out.new ≡ true) × CanMerge given (record_limit settings.now) × WrotePart given settings.now (W.taken out.old) (W.taken out.new) × (report.new ≡ report.old))
-        ⊎ ((V.is_broken report.new ≡ true) × CanMerge given (record_limit settings.now) × WroteAndBrokeOff given settings.now (W.taken out.old) (W.taken out.new) (V.taken report.old) (V.taken report.new)) }
+    ensures any_order { (given : List (List ℕ)) → Give (I.known files) given →
+        IfErr result (λ fault.
+        (inner : MergeFault A) → fault ≡ RunFault.Merge inner → (others : List (List ℕ)) →
+        SameFiles given others → CanMerge others (record_limit settings.now) → ⊥) }
+    ensures write { (given : List (List ℕ)) → Give (I.known files) given →
+        result ≡ Err RunFault.Write →
+        ((W.is_broken out.new ≡ true) × CanMerge given (record_limit settings.now)
+        × WrotePart given settings.now (W.taken out.old) (W.taken out.new)
+        × (report.new ≡ report.old))
+        ⊎ ((V.is_broken report.new ≡ true) × CanMerge given (record_limit settings.now)
+        × WroteAndBrokeOff given settings.now (W.taken out.old) (W.taken out.new)
+        (V.taken report.old) (V.taken report.new)) }
     // After `Memory`, nothing was written, or the files can be merged, and `out` took the whole
     // file, and no report was written.
-    ensures memory { (given : List (List ℕ)) → Give (I.known files) given → result ≡ Err RunFault.Memory → (report.new ≡ report.old) × ((out.new ≡ out.old) ⊎ (CanMerge given (record_limit settings.now) × WroteWhole given settings.now (W.taken out.old) (W.taken out.new))) }
+    ensures memory { (given : List (List ℕ)) → Give (I.known files) given →
+        result ≡ Err RunFault.Memory →
+        (report.new ≡ report.old)
+        × ((out.new ≡ out.old)
+        ⊎ (CanMerge given (record_limit settings.now)
+        × WroteWhole given settings.now (W.taken out.old) (W.taken out.new))) }
     // Only after every file was read may something have been written, and only where all of them
     // can be merged.
     ensures read { OnOk result (IfSome (I.known files) (λ each. CanRead each (length each))) }
-    ensures late_read { result ≡ Err RunFault.Write → IfSome (I.known files) (λ each. CanRead each (length each)) }
-    ensures late_can { (given : List (List ℕ)) → Give (I.known files) given → result ≡ Err RunFault.Write → CanMerge given (record_limit settings.now) }
-    ensures kept { result ≡ Err RunFault.Memory → (out.new ≡ out.old) ⊎ IfSome (I.known files) (λ each. CanRead each (length each)) }
-    ensures broken { result ≡ Err RunFault.Write → (W.is_broken out.new ≡ true) ⊎ (V.is_broken report.new ≡ true) }
+    ensures late_read { result ≡ Err RunFault.Write →
+        IfSome (I.known files) (λ each. CanRead each (length each)) }
+    ensures late_can { (given : List (List ℕ)) → Give (I.known files) given →
+        result ≡ Err RunFault.Write → CanMerge given (record_limit settings.now) }
+    ensures kept { result ≡ Err RunFault.Memory →
+        (out.new ≡ out.old) ⊎ IfSome (I.known files) (λ each. CanRead each (length each)) }
+    ensures broken { result ≡ Err RunFault.Write →
+        (W.is_broken out.new ≡ true) ⊎ (V.is_broken report.new ≡ true) }
     ensures untold { result ≡ Err RunFault.Memory → report.new ≡ report.old }
-    ensures untouched { IfErr result (λ fault. (inner : MergeFault A) → fault ≡ RunFault.Merge inner → (out.new ≡ out.old) × (report.new ≡ report.old)) }
+    ensures untouched { IfErr result (λ fault.
+        (inner : MergeFault A) → fault ≡ RunFault.Merge inner →
+        (out.new ≡ out.old) × (report.new ≡ report.old)) }
 {
     let summary = merge_to(alloc, files, settings, out, hasher)?;
     report_on(alloc, &summary, report)

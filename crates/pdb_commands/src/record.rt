@@ -52,7 +52,8 @@ fn push_place<A: Allocator>(
     place: usize,
 ) -> Result<(), AllocError>
     requires { place + 8 ≤ length bytes.now }
-    ensures { OnOk result (string_bytes text.new ≡ string_bytes text.old ++ place_line bytes.now place) }
+    ensures { OnOk result
+        (string_bytes text.new ≡ string_bytes text.old ++ place_line bytes.now place) }
 {
     write!(text, "{place} ")?;
     push_index(text, ref_at(bytes, place))?;
@@ -64,7 +65,9 @@ fn push_place<A: Allocator>(
 fn push_places<A: Allocator>(text: &mut String<A>, bytes: &[u8]) -> Result<(), AllocError>
     requires long { (4 ≤ length bytes.now) × (length bytes.now ≤ 2 ^ 16) }
     requires checked { IsChecked bytes.now }
-    ensures { OnOk result ((at : List ℕ) × HasPlaces bytes.now at × (string_bytes text.new ≡ string_bytes text.old ++ flat_map (place_line bytes.now) at)) }
+    ensures { OnOk result
+        ((at : List ℕ) × HasPlaces bytes.now at
+        × (string_bytes text.new ≡ string_bytes text.old ++ flat_map (place_line bytes.now) at)) }
 {
     for place in places(bytes) {
         push_place(text, bytes, place)?;
@@ -76,7 +79,8 @@ fn push_places<A: Allocator>(text: &mut String<A>, bytes: &[u8]) -> Result<(), A
 #[tactic(auto, unfolding(crate::specs::Record::name_lines))]
 fn push_name<A: Allocator>(text: &mut String<A>, bytes: &[u8]) -> Result<(), AllocError>
     requires long { (4 ≤ length bytes.now) × (length bytes.now ≤ 2 ^ 16) }
-    ensures { OnOk result (string_bytes text.new ≡ string_bytes text.old ++ name_lines (name_of bytes.now)) }
+    ensures { OnOk result
+        (string_bytes text.new ≡ string_bytes text.old ++ name_lines (name_of bytes.now)) }
 {
     if let Some(name) = type_name(bytes) {
         text.push_str("name ")?;
@@ -90,7 +94,11 @@ fn push_name<A: Allocator>(text: &mut String<A>, bytes: &[u8]) -> Result<(), All
 fn record_text<A: Allocator + Copy>(alloc: A, bytes: &[u8]) -> Result<String<A>, AllocError>
     requires long { (4 ≤ length bytes.now) × (length bytes.now ≤ 2 ^ 16) }
     requires checked { IsChecked bytes.now }
-    ensures { IfOk result (λ text. (at : List ℕ) × HasPlaces bytes.now at × (string_bytes text ≡ bytes_line bytes.now ++ flat_map (place_line bytes.now) at ++ name_lines (name_of bytes.now))) }
+    ensures { IfOk result (λ text.
+        (at : List ℕ) × HasPlaces bytes.now at
+        × (string_bytes text
+        ≡ bytes_line bytes.now ++ flat_map (place_line bytes.now) at
+        ++ name_lines (name_of bytes.now))) }
 {
     let mut text = String::new(alloc);
     push_bytes(alloc, &mut text, bytes)?;
@@ -105,10 +113,18 @@ fn indexed_text<A: Allocator + Copy>(
     records: &Records<'_, A>,
     index: u32,
 ) -> Result<String<A>, RunFault<A>>
-    ensures value { IfOk result (λ text. (file : List ℕ) → HasTypeRecords file records.now → ShowsRecord index file (string_bytes text)) }
-    ensures texts { IfOk result (λ text. (bytes : Bytes) (layout : LayoutView) → RecordsWereRead bytes layout records.now → ShowsRecordRead index bytes layout (string_bytes text)) }
-    ensures first { IfErr result (λ fault. (file : List ℕ) → HasTypeRecords file records.now → RefusesRecord index file fault ⊎ (fault ≡ RunFault.Memory)) }
-    ensures refused { IfErr result (λ fault. (bytes : Bytes) (layout : LayoutView) → RecordsWereRead bytes layout records.now → RefusesRecordRead index bytes layout fault ⊎ (fault ≡ RunFault.Memory)) }
+    ensures value { IfOk result (λ text.
+        (file : List ℕ) → HasTypeRecords file records.now →
+        ShowsRecord index file (string_bytes text)) }
+    ensures texts { IfOk result (λ text.
+        (bytes : Bytes) (layout : LayoutView) → RecordsWereRead bytes layout records.now →
+        ShowsRecordRead index bytes layout (string_bytes text)) }
+    ensures first { IfErr result (λ fault.
+        (file : List ℕ) → HasTypeRecords file records.now →
+        RefusesRecord index file fault ⊎ (fault ≡ RunFault.Memory)) }
+    ensures refused { IfErr result (λ fault.
+        (bytes : Bytes) (layout : LayoutView) → RecordsWereRead bytes layout records.now →
+        RefusesRecordRead index bytes layout fault ⊎ (fault ≡ RunFault.Memory)) }
     ensures pure { IfErr result IsOfText }
 {
     let Some(bytes) = record_of(records, index) else {
@@ -183,7 +199,8 @@ pub fn run_record<R: Source, W: Sink, A: Allocator + Copy>(
     index: u32,
     out: &mut W,
 ) -> Result<(), RunFault<A>>
-    ensures { Answers (ShowsRecord index) (RefusesRecord index) limit (R.left input.old) (R.left input.new) (R.is_broken input.new) W.taken W.is_broken out.old out.new result }
+    ensures { Answers (ShowsRecord index) (RefusesRecord index) limit (R.left input.old)
+        (R.left input.new) (R.is_broken input.new) W.taken W.is_broken out.old out.new result }
 {
     run(alloc, &Record { index }, input, limit, out)
 }
@@ -200,7 +217,9 @@ pub fn run_record_at<R: ReadAt, W: Sink, A: Allocator + Copy>(
     index: u32,
     out: &mut W,
 ) -> Result<(), RunFault<A>>
-    ensures { AnswersAt (ShowsRecord index) (RefusesRecord index) (ShowsRecordRead index) (RefusesRecordRead index) limit (R.bytes input.old) (R.is_broken input.new) W.taken W.is_broken out.old out.new result }
+    ensures { AnswersAt (ShowsRecord index) (RefusesRecord index) (ShowsRecordRead index)
+        (RefusesRecordRead index) limit (R.bytes input.old) (R.is_broken input.new) W.taken
+        W.is_broken out.old out.new result }
 {
     run_at(alloc, &Record { index }, input, limit, out)
 }

@@ -23,7 +23,8 @@ fn push_record<A: Allocator>(
     bytes: &[u8],
 ) -> Result<(), AllocError>
     requires { IsRecord bytes.now }
-    ensures { OnOk result (string_bytes text.new ≡ string_bytes text.old ++ record_line index bytes.now) }
+    ensures { OnOk result
+        (string_bytes text.new ≡ string_bytes text.old ++ record_line index bytes.now) }
 {
     let kind = kind_of(bytes);
     let size = bytes.len();
@@ -107,7 +108,8 @@ pub fn run_records<R: Source, W: Sink, A: Allocator + Copy>(
     limit: u32,
     out: &mut W,
 ) -> Result<(), RunFault<A>>
-    ensures { Answers ShowsRecords RefusesRecords limit (R.left input.old) (R.left input.new) (R.is_broken input.new) W.taken W.is_broken out.old out.new result }
+    ensures { Answers ShowsRecords RefusesRecords limit (R.left input.old) (R.left input.new)
+        (R.is_broken input.new) W.taken W.is_broken out.old out.new result }
 {
     run(alloc, &Records, input, limit, out)
 }
@@ -123,7 +125,8 @@ pub fn run_records_at<R: ReadAt, W: Sink, A: Allocator + Copy>(
     limit: u32,
     out: &mut W,
 ) -> Result<(), RunFault<A>>
-    ensures { AnswersAt ShowsRecords RefusesRecords ShowsRecordsRead RefusesRecordsRead limit (R.bytes input.old) (R.is_broken input.new) W.taken W.is_broken out.old out.new result }
+    ensures { AnswersAt ShowsRecords RefusesRecords ShowsRecordsRead RefusesRecordsRead limit
+        (R.bytes input.old) (R.is_broken input.new) W.taken W.is_broken out.old out.new result }
 {
     run_at(alloc, &Records, input, limit, out)
 }

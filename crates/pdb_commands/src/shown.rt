@@ -62,7 +62,9 @@ impl Within {
     /// Checks the stream that the command reads.
     fn check<A: Allocator + Copy>(&self, alloc: A, file: &[u8]) -> Result<(), RunFault<A>>
         ensures value { OnOk result (ReadsTooLong self.now.command self.now.limit file.now → ⊥) }
-        ensures first { IfErr result (λ fault. ((fault ≡ RunFault.TooLong) × ReadsTooLong self.now.command self.now.limit file.now) ⊎ (fault ≡ RunFault.Memory)) }
+        ensures first { IfErr result (λ fault.
+            ((fault ≡ RunFault.TooLong) × ReadsTooLong self.now.command self.now.limit file.now)
+            ⊎ (fault ≡ RunFault.Memory)) }
     {
         match self.command.stream() {
             Some(stream) => check_stream(alloc, file, stream, self.limit),
@@ -77,8 +79,10 @@ impl Within {
         &self,
         layout: &Layout<L>,
     ) -> Result<(), RunFault<A>>
-        ensures value { (file : List ℕ) → AreBytes file → HasLayout file layout.now → OnOk result (ReadsTooLong self.now.command self.now.limit file → ⊥) }
-        ensures first { (file : List ℕ) → HasLayout file layout.now → IfErr result (λ fault. ReadsTooLong self.now.command self.now.limit file) }
+        ensures value { (file : List ℕ) → AreBytes file → HasLayout file layout.now →
+            OnOk result (ReadsTooLong self.now.command self.now.limit file → ⊥) }
+        ensures first { (file : List ℕ) → HasLayout file layout.now →
+            IfErr result (λ fault. ReadsTooLong self.now.command self.now.limit file) }
         ensures short { OnOk result (ListsTooLong self.now.command self.now.limit layout.now → ⊥) }
         ensures long { IfErr result (λ _. ListsTooLong self.now.command self.now.limit layout.now) }
         ensures own { IfErr result (λ fault. fault ≡ RunFault.TooLong) }
@@ -149,7 +153,9 @@ pub fn run_shown<R: Source, W: Sink, A: Allocator + Copy>(
     limit: u32,
     out: &mut W,
 ) -> Result<(), RunFault<A>>
-    ensures { Answers (ShowsWithin command limit) (RefusesWithin command limit) limit (R.left input.old) (R.left input.new) (R.is_broken input.new) W.taken W.is_broken out.old out.new result }
+    ensures { Answers (ShowsWithin command limit) (RefusesWithin command limit) limit
+        (R.left input.old) (R.left input.new) (R.is_broken input.new) W.taken W.is_broken
+        out.old out.new result }
 {
     run(alloc, &Within { command, limit }, input, limit, out)
 }
@@ -164,7 +170,9 @@ pub fn run_shown_at<R: ReadAt, W: Sink, A: Allocator + Copy>(
     limit: u32,
     out: &mut W,
 ) -> Result<(), RunFault<A>>
-    ensures { AnswersAt (ShowsWithin command limit) (RefusesWithin command limit) (ShowsWithinRead command limit) (RefusesWithinRead command limit) limit (R.bytes input.old) (R.is_broken input.new) W.taken W.is_broken out.old out.new result }
+    ensures { AnswersAt (ShowsWithin command limit) (RefusesWithin command limit)
+        (ShowsWithinRead command limit) (RefusesWithinRead command limit) limit
+        (R.bytes input.old) (R.is_broken input.new) W.taken W.is_broken out.old out.new result }
 {
     run_at(alloc, &Within { command, limit }, input, limit, out)
 }
@@ -190,8 +198,13 @@ pub fn run_shown_file<R: ReadAt, S: Source, W: Sink, A: Allocator + Copy>(
     limit: u32,
     out: &mut W,
 ) -> Result<(), RunFault<A>>
-    ensures { IsByPosition (ShowsWithin command limit) (RefusesWithin command limit) (ShowsWithinRead command limit) (RefusesWithinRead command limit) limit (R.bytes input.old) (R.is_broken input.new) whole.old whole.new W.taken W.is_broken out.old out.new result
-        ⊎ IsByWhole (ShowsWithin command limit) (RefusesWithin command limit) limit (R.bytes input.old) (R.is_broken input.new) S.left S.is_broken whole.old whole.new W.taken W.is_broken out.old out.new result }
+    ensures { IsByPosition (ShowsWithin command limit) (RefusesWithin command limit)
+        (ShowsWithinRead command limit) (RefusesWithinRead command limit) limit
+        (R.bytes input.old) (R.is_broken input.new) whole.old whole.new W.taken W.is_broken
+        out.old out.new result
+        ⊎ IsByWhole (ShowsWithin command limit) (RefusesWithin command limit) limit
+        (R.bytes input.old) (R.is_broken input.new) S.left S.is_broken whole.old whole.new
+        W.taken W.is_broken out.old out.new result }
 {
     let answer = run_shown_at(alloc, command, input, limit, out);
     if is_unread(&answer) {

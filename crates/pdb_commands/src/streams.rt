@@ -83,12 +83,15 @@ fn read_map<R: ReadAt>(
     block: u32,
     page: &mut [u8],
 ) -> Option<()>
-    requires whole { IfKnown (R.bytes input.old) (λ file. superblock.now.num_blocks * superblock.now.block_size ≤ length file) }
+    requires whole { IfKnown (R.bytes input.old) (λ file.
+        superblock.now.num_blocks * superblock.now.block_size ≤ length file) }
     requires room { length page.old ≡ superblock.now.block_size }
     ensures keeps { R.bytes input.new ≡ R.bytes input.old }
     ensures room { length page.new ≡ superblock.now.block_size }
-    ensures map { IfSome result (λ _. IfKnown (R.bytes input.old) (λ file. HasMap file superblock.now block page.new)) }
-    ensures given { IfSome result (λ _. IsMapGiven (R.bytes input.old) superblock.now block page.new) }
+    ensures map { IfSome result (λ _.
+        IfKnown (R.bytes input.old) (λ file. HasMap file superblock.now block page.new)) }
+    ensures given { IfSome result (λ _.
+        IsMapGiven (R.bytes input.old) superblock.now block page.new) }
     ensures read { IfNone result (Breaks (R.bytes input.old) (R.is_broken input.new)) }
 {
     let map_block = map_block_of(superblock, block);
@@ -107,14 +110,20 @@ fn turn_page<R: ReadAt>(
     block: u32,
     page: &mut [u8],
 ) -> Option<()>
-    requires whole { IfKnown (R.bytes input.old) (λ file. superblock.now.num_blocks * superblock.now.block_size ≤ length file) }
+    requires whole { IfKnown (R.bytes input.old) (λ file.
+        superblock.now.num_blocks * superblock.now.block_size ≤ length file) }
     requires room { length page.old ≡ superblock.now.block_size }
-    requires map { IfKnown (R.bytes input.old) (λ file. (block % blocks_per_map_block superblock.now ≡ 0 → ⊥) → HasMap file superblock.now block page.old) }
-    requires given { (block % blocks_per_map_block superblock.now ≡ 0 → ⊥) → IsMapGiven (R.bytes input.old) superblock.now block page.old }
+    requires map { IfKnown (R.bytes input.old) (λ file.
+        (block % blocks_per_map_block superblock.now ≡ 0 → ⊥) →
+        HasMap file superblock.now block page.old) }
+    requires given { (block % blocks_per_map_block superblock.now ≡ 0 → ⊥) →
+        IsMapGiven (R.bytes input.old) superblock.now block page.old }
     ensures keeps { R.bytes input.new ≡ R.bytes input.old }
     ensures room { length page.new ≡ superblock.now.block_size }
-    ensures map { IfSome result (λ _. IfKnown (R.bytes input.old) (λ file. HasMap file superblock.now block page.new)) }
-    ensures given { IfSome result (λ _. IsMapGiven (R.bytes input.old) superblock.now block page.new) }
+    ensures map { IfSome result (λ _.
+        IfKnown (R.bytes input.old) (λ file. HasMap file superblock.now block page.new)) }
+    ensures given { IfSome result (λ _.
+        IsMapGiven (R.bytes input.old) superblock.now block page.new) }
     ensures read { IfNone result (Breaks (R.bytes input.old) (R.is_broken input.new)) }
 {
     if block % (8 * superblock.block_size()) == 0 {
@@ -130,17 +139,24 @@ fn is_free_at<R: ReadAt>(
     block: u32,
     page: &mut [u8],
 ) -> Option<bool>
-    requires whole { IfKnown (R.bytes input.old) (λ file. superblock.now.num_blocks * superblock.now.block_size ≤ length file) }
+    requires whole { IfKnown (R.bytes input.old) (λ file.
+        superblock.now.num_blocks * superblock.now.block_size ≤ length file) }
     requires room { length page.old ≡ superblock.now.block_size }
-    requires map { IfKnown (R.bytes input.old) (λ file. (block % blocks_per_map_block superblock.now ≡ 0 → ⊥) → HasMap file superblock.now block page.old) }
-    requires given { (block % blocks_per_map_block superblock.now ≡ 0 → ⊥) → IsMapGiven (R.bytes input.old) superblock.now block page.old }
+    requires map { IfKnown (R.bytes input.old) (λ file.
+        (block % blocks_per_map_block superblock.now ≡ 0 → ⊥) →
+        HasMap file superblock.now block page.old) }
+    requires given { (block % blocks_per_map_block superblock.now ≡ 0 → ⊥) →
+        IsMapGiven (R.bytes input.old) superblock.now block page.old }
     ensures keeps { R.bytes input.new ≡ R.bytes input.old }
     ensures room { length page.new ≡ superblock.now.block_size }
-    ensures value { IfSome result (λ free. IfKnown (R.bytes input.old) (λ file. free ≡ is_free file superblock.now block)) }
+    ensures value { IfSome result (λ free.
+        IfKnown (R.bytes input.old) (λ file. free ≡ is_free file superblock.now block)) }
     ensures mark { IfSome result (IsMark (R.bytes input.old) superblock.now block) }
     ensures listed { IfSome result (λ _. IsBlockSize superblock.now.block_size) }
-    ensures map { IfSome result (λ _. IfKnown (R.bytes input.old) (λ file. HasMap file superblock.now block page.new)) }
-    ensures given { IfSome result (λ _. IsMapGiven (R.bytes input.old) superblock.now block page.new) }
+    ensures map { IfSome result (λ _.
+        IfKnown (R.bytes input.old) (λ file. HasMap file superblock.now block page.new)) }
+    ensures given { IfSome result (λ _.
+        IsMapGiven (R.bytes input.old) superblock.now block page.new) }
     ensures read { IfNone result (Breaks (R.bytes input.old) (R.is_broken input.new)) }
 {
     turn_page(input, superblock, block, page)?;
@@ -150,11 +166,14 @@ fn is_free_at<R: ReadAt>(
 /// How many blocks of a file that is read by position are free, by the map that the superblock
 /// names. Of the file only this map is read, a block at a time into the page.
 fn free_blocks_at<R: ReadAt>(input: &mut R, superblock: &Superblock, page: &mut [u8]) -> Option<u32>
-    requires whole { IfKnown (R.bytes input.old) (λ file. superblock.now.num_blocks * superblock.now.block_size ≤ length file) }
+    requires whole { IfKnown (R.bytes input.old) (λ file.
+        superblock.now.num_blocks * superblock.now.block_size ≤ length file) }
     requires room { length page.old ≡ superblock.now.block_size }
     ensures keeps { R.bytes input.new ≡ R.bytes input.old }
-    ensures value { IfSome result (λ free. IfKnown (R.bytes input.old) (λ file. free ≡ free_blocks file superblock.now)) }
-    ensures marks { IfSome result (IsFreeCount (R.bytes input.old) superblock.now superblock.now.num_blocks) }
+    ensures value { IfSome result (λ free.
+        IfKnown (R.bytes input.old) (λ file. free ≡ free_blocks file superblock.now)) }
+    ensures marks { IfSome result
+        (IsFreeCount (R.bytes input.old) superblock.now superblock.now.num_blocks) }
     ensures read { IfNone result (Breaks (R.bytes input.old) (R.is_broken input.new)) }
 {
     let mut free = 0;
@@ -180,7 +199,8 @@ fn push_container<A: Allocator, L: Allocator>(
     free: u32,
     layout: &Layout<L>,
 ) -> Result<(), AllocError>
-    ensures { OnOk result (string_bytes text.new ≡ string_bytes text.old ++ container_with free layout.now) }
+    ensures { OnOk result
+        (string_bytes text.new ≡ string_bytes text.old ++ container_with free layout.now) }
 {
     let superblock = layout.superblock();
     push_named(text, "block-size", superblock.block_size())?;
@@ -236,7 +256,8 @@ fn push_streams<A: Allocator, L: Allocator>(
     text: &mut String<A>,
     layout: &Layout<L>,
 ) -> Result<(), AllocError>
-    ensures { OnOk result (string_bytes text.new ≡ string_bytes text.old ++ stream_lines 0 layout.now.streams) }
+    ensures { OnOk result
+        (string_bytes text.new ≡ string_bytes text.old ++ stream_lines 0 layout.now.streams) }
 {
     for s in 0..layout.streams() {
         push_stream(text, layout, s)?;
@@ -250,7 +271,8 @@ fn layout_text<A: Allocator + Copy>(
     free: u32,
     layout: &Layout<A>,
 ) -> Result<String<A>, AllocError>
-    ensures { IfOk result (λ text. string_bytes text ≡ container_with free layout.now ++ stream_lines 0 layout.now.streams) }
+    ensures { IfOk result (λ text.
+        string_bytes text ≡ container_with free layout.now ++ stream_lines 0 layout.now.streams) }
 {
     let mut text = String::new(alloc);
     push_container(&mut text, free, layout)?;
@@ -261,7 +283,8 @@ fn layout_text<A: Allocator + Copy>(
 /// Reads the layout of a file. Its faults are those of a file.
 pub fn read_layout<A: Allocator + Copy>(alloc: A, file: &[u8]) -> Result<Layout<A>, PdbFault<A>>
     ensures value { IfOk result (HasLayout file.now) }
-    ensures first { IfErr result (λ fault. HasLayoutFault file.now fault ⊎ (fault ≡ PdbFault.Memory)) }
+    ensures first { IfErr result (λ fault.
+        HasLayoutFault file.now fault ⊎ (fault ≡ PdbFault.Memory)) }
 {
     Ok(Layout::read(alloc, file)?)
 }
@@ -327,7 +350,8 @@ pub fn run_streams<R: Source, W: Sink, A: Allocator + Copy>(
     limit: u32,
     out: &mut W,
 ) -> Result<(), RunFault<A>>
-    ensures { Answers ShowsStreams RefusesStreams limit (R.left input.old) (R.left input.new) (R.is_broken input.new) W.taken W.is_broken out.old out.new result }
+    ensures { Answers ShowsStreams RefusesStreams limit (R.left input.old) (R.left input.new)
+        (R.is_broken input.new) W.taken W.is_broken out.old out.new result }
 {
     run(alloc, &Streams, input, limit, out)
 }
@@ -343,7 +367,8 @@ pub fn run_streams_at<R: ReadAt, W: Sink, A: Allocator + Copy>(
     limit: u32,
     out: &mut W,
 ) -> Result<(), RunFault<A>>
-    ensures { AnswersAt ShowsStreams RefusesStreams ShowsStreamsRead RefusesStreamsRead limit (R.bytes input.old) (R.is_broken input.new) W.taken W.is_broken out.old out.new result }
+    ensures { AnswersAt ShowsStreams RefusesStreams ShowsStreamsRead RefusesStreamsRead limit
+        (R.bytes input.old) (R.is_broken input.new) W.taken W.is_broken out.old out.new result }
 {
     run_at(alloc, &Streams, input, limit, out)
 }

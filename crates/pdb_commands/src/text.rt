@@ -28,7 +28,8 @@ pub fn push_named<A: Allocator>(
     name: &str,
     number: u32,
 ) -> Result<(), AllocError>
-    ensures { OnOk result (string_bytes text.new ≡ string_bytes text.old ++ named_line name.now number) }
+    ensures { OnOk result
+        (string_bytes text.new ≡ string_bytes text.old ++ named_line name.now number) }
 {
     text.push_str(name)?;
     writeln!(text, " {number}")

@@ -38,7 +38,10 @@ fn push_leaf<A: Allocator>(text: &mut String<A>, bytes: &[u8]) -> Result<(), All
 /// Appends the type index of a record, the name of its leaf and its size in bytes.
 fn push_head<A: Allocator>(text: &mut String<A>, index: u32, bytes: &[u8]) -> Result<(), AllocError>
     requires { 4 ≤ length bytes.now }
-    ensures { OnOk result (string_bytes text.new ≡ string_bytes text.old ++ (index_text index ++ 32 ∷ leaf_name bytes.now ++ 32 ∷ decimal (length bytes.now))) }
+    ensures { OnOk result
+        (string_bytes text.new
+        ≡ string_bytes text.old
+        ++ (index_text index ++ 32 ∷ leaf_name bytes.now ++ 32 ∷ decimal (length bytes.now))) }
 {
     let size = bytes.len();
     push_index(text, index)?;
@@ -54,7 +57,8 @@ fn push_reference<A: Allocator>(
     place: usize,
 ) -> Result<(), AllocError>
     requires { place + 8 ≤ length bytes.now }
-    ensures { OnOk result (string_bytes text.new ≡ string_bytes text.old ++ reference bytes.now place) }
+    ensures { OnOk result
+        (string_bytes text.new ≡ string_bytes text.old ++ reference bytes.now place) }
 {
     text.push_str(" ")?;
     push_index(text, ref_at(bytes, place))
@@ -64,7 +68,9 @@ fn push_reference<A: Allocator>(
 fn push_references<A: Allocator>(text: &mut String<A>, bytes: &[u8]) -> Result<(), AllocError>
     requires long { (4 ≤ length bytes.now) × (length bytes.now ≤ 2 ^ 16) }
     requires checked { IsChecked bytes.now }
-    ensures { OnOk result ((at : List ℕ) × HasPlaces bytes.now at × (string_bytes text.new ≡ string_bytes text.old ++ flat_map (reference bytes.now) at)) }
+    ensures { OnOk result
+        ((at : List ℕ) × HasPlaces bytes.now at
+        × (string_bytes text.new ≡ string_bytes text.old ++ flat_map (reference bytes.now) at)) }
 {
     for place in places(bytes) {
         push_reference(text, bytes, place)?;
@@ -76,7 +82,8 @@ fn push_references<A: Allocator>(text: &mut String<A>, bytes: &[u8]) -> Result<(
 #[tactic(auto, unfolding(crate::specs::Types::quoted_name))]
 fn push_name<A: Allocator>(text: &mut String<A>, bytes: &[u8]) -> Result<(), AllocError>
     requires { (4 ≤ length bytes.now) × (length bytes.now ≤ 2 ^ 16) }
-    ensures { OnOk result (string_bytes text.new ≡ string_bytes text.old ++ quoted_name (name_of bytes.now)) }
+    ensures { OnOk result
+        (string_bytes text.new ≡ string_bytes text.old ++ quoted_name (name_of bytes.now)) }
 {
     if let Some(name) = type_name(bytes) {
         text.push_str(" ")?;
@@ -90,7 +97,9 @@ fn push_name<A: Allocator>(text: &mut String<A>, bytes: &[u8]) -> Result<(), All
 fn push_line<A: Allocator>(text: &mut String<A>, index: u32, bytes: &[u8]) -> Result<(), AllocError>
     requires long { (4 ≤ length bytes.now) × (length bytes.now ≤ 2 ^ 16) }
     requires checked { IsChecked bytes.now }
-    ensures { OnOk result ((at : List ℕ) × HasPlaces bytes.now at × (string_bytes text.new ≡ string_bytes text.old ++ type_line index bytes.now at)) }
+    ensures { OnOk result
+        ((at : List ℕ) × HasPlaces bytes.now at
+        × (string_bytes text.new ≡ string_bytes text.old ++ type_line index bytes.now at)) }
 {
     push_head(text, index, bytes)?;
     push_references(text, bytes)?;
@@ -106,8 +115,13 @@ fn push_type<A: Allocator>(
     bytes: &[u8],
 ) -> Result<(), RunFault<A>>
     requires { IsRecord bytes.now }
-    ensures value { OnOk result ((at : List ℕ) × HasPlaces bytes.now at × (string_bytes text.new ≡ string_bytes text.old ++ type_line index bytes.now at)) }
-    ensures first { IfErr result (λ fault. ((inner : LeafFault) × (fault ≡ RunFault.Leaf index inner) × (first_failing (record_checks bytes.now) ≡ Some inner)) ⊎ (fault ≡ RunFault.Memory)) }
+    ensures value { OnOk result
+        ((at : List ℕ) × HasPlaces bytes.now at
+        × (string_bytes text.new ≡ string_bytes text.old ++ type_line index bytes.now at)) }
+    ensures first { IfErr result (λ fault.
+        ((inner : LeafFault) × (fault ≡ RunFault.Leaf index inner)
+        × (first_failing (record_checks bytes.now) ≡ Some inner))
+        ⊎ (fault ≡ RunFault.Memory)) }
 {
     if let Err(fault) = check(bytes) {
         return Err(RunFault::Leaf { index, fault });
@@ -122,7 +136,10 @@ fn type_lines<A: Allocator + Copy>(
     records: &Records<'_, A>,
 ) -> Result<String<A>, RunFault<A>>
     ensures value { IfOk result (λ text. AreTypeLines FIRST_INDEX records.now (string_bytes text)) }
-    ensures first { IfErr result (λ fault. ((index : ℕ) × (inner : LeafFault) × (fault ≡ RunFault.Leaf index inner) × HasLeafFault records.now index inner) ⊎ (fault ≡ RunFault.Memory)) }
+    ensures first { IfErr result (λ fault.
+        ((index : ℕ) × (inner : LeafFault) × (fault ≡ RunFault.Leaf index inner)
+        × HasLeafFault records.now index inner)
+        ⊎ (fault ≡ RunFault.Memory)) }
 {
     let mut text = String::new(alloc);
     let mut index = FIRST_INDEX;
@@ -192,7 +209,8 @@ pub fn run_types<R: Source, W: Sink, A: Allocator + Copy>(
     limit: u32,
     out: &mut W,
 ) -> Result<(), RunFault<A>>
-    ensures { Answers ShowsTypes RefusesTypes limit (R.left input.old) (R.left input.new) (R.is_broken input.new) W.taken W.is_broken out.old out.new result }
+    ensures { Answers ShowsTypes RefusesTypes limit (R.left input.old) (R.left input.new)
+        (R.is_broken input.new) W.taken W.is_broken out.old out.new result }
 {
     run(alloc, &Types, input, limit, out)
 }
@@ -208,7 +226,8 @@ pub fn run_types_at<R: ReadAt, W: Sink, A: Allocator + Copy>(
     limit: u32,
     out: &mut W,
 ) -> Result<(), RunFault<A>>
-    ensures { AnswersAt ShowsTypes RefusesTypes ShowsTypesRead RefusesTypesRead limit (R.bytes input.old) (R.is_broken input.new) W.taken W.is_broken out.old out.new result }
+    ensures { AnswersAt ShowsTypes RefusesTypes ShowsTypesRead RefusesTypesRead limit
+        (R.bytes input.old) (R.is_broken input.new) W.taken W.is_broken out.old out.new result }
 {
     run_at(alloc, &Types, input, limit, out)
 }

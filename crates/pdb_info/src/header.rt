@@ -43,9 +43,11 @@ impl Model for InfoHeader {
 
     ghost Value = { HeaderFields };
 
-    ghost view = { λ h. record { version = h.version; signature = h.signature; age = h.age; guid = h.guid } };
+    ghost view = { λ h.
+        record { version = h.version; signature = h.signature; age = h.age; guid = h.guid } };
 
-    ghost inverse = { λ h. record { version = h.version; signature = h.signature; age = h.age; guid = h.guid } };
+    ghost inverse = { λ h.
+        record { version = h.version; signature = h.signature; age = h.age; guid = h.guid } };
 }
 
 /// The GUID in the last 16 bytes of the header.

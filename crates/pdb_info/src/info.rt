@@ -31,7 +31,9 @@ impl<'a, A: Allocator> Model for Info<'a, A> {
 
     ghost Value = { InfoView };
 
-    ghost view = { λ i. record { header = i.header; names = map named i.names.items; features = i.features.items } };
+    ghost view = { λ i.
+        record
+        { header = i.header; names = map named i.names.items; features = i.features.items } };
 }
 
 /// Checks an info stream, and returns its header and where its names are. This does not allocate.
@@ -39,8 +41,10 @@ impl<'a, A: Allocator> Model for Info<'a, A> {
 fn check(stream: &[u8]) -> Result<(InfoHeader, NameMap), InfoFault>
     ensures header { IfOk result (λ found. HasInfoHeader stream.now found.0) }
     ensures map { IfOk result (λ found. IsMap stream.now found.1) }
-    ensures inside { IfOk result (λ _. pairs_offset stream.now + 8 * size_of stream.now ≤ length stream.now) }
-    ensures held { IfOk result (λ _. first_failing (checks_below (size_of stream.now) (pair_checks stream.now)) ≡ None) }
+    ensures inside { IfOk result (λ _.
+        pairs_offset stream.now + 8 * size_of stream.now ≤ length stream.now) }
+    ensures held { IfOk result (λ _.
+        first_failing (checks_below (size_of stream.now) (pair_checks stream.now)) ≡ None) }
     ensures first { Makes result (info_checks stream.now) }
 {
     let header = InfoHeader::read(stream)?;
@@ -70,8 +74,10 @@ impl<'a, A: Allocator + Copy> Info<'a, A> {
     pub fn read(alloc: A, stream: &'a [u8]) -> Result<Info<'a, A>, InfoFault>
         ensures value { IfOk result (HasInfo stream.now) }
         // A stream that has these parts is refused only when out of memory.
-        ensures found { (info : InfoView) → HasInfo stream.now info → IfErr result (λ fault. fault ≡ InfoFault.Memory) }
-        ensures first { IfErr result (Refuses InfoFault.Memory (first_failing (info_checks stream.now))) }
+        ensures found { (info : InfoView) → HasInfo stream.now info →
+            IfErr result (λ fault. fault ≡ InfoFault.Memory) }
+        ensures first { IfErr result
+            (Refuses InfoFault.Memory (first_failing (info_checks stream.now))) }
     {
         let (header, map) = check(stream)?;
         let names = map.names(alloc, stream)?;

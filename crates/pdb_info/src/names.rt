@@ -31,7 +31,9 @@ impl NameMap {
         requires map { IsMap stream.now self.now }
         requires ends { AreEnds (buffer_of stream.now) ends.now }
         requires inside { pair_offset stream.now k + 8 ≤ length stream.now }
-        requires named { is_named (buffer_of stream.now) (number_at 4 stream.now (pair_offset stream.now k)) ≡ true }
+        requires named { is_named (buffer_of stream.now)
+            (number_at 4 stream.now (pair_offset stream.now k))
+            ≡ true }
         ensures { named result ≡ named_in (buffer_of stream.now) (pair_at stream.now k) }
     {
         let offset = self.pairs_offset + 8 * k as usize;
@@ -53,8 +55,10 @@ impl NameMap {
     ) -> Result<Vec<Name<'a>, A>, InfoFault>
         requires map { IsMap stream.now self.now }
         requires inside { pairs_offset stream.now + 8 * size_of stream.now ≤ length stream.now }
-        requires held { first_failing (checks_below (size_of stream.now) (pair_checks stream.now)) ≡ None }
-        ensures value { IfOk result (λ names. map named names.items ≡ names_below stream.now (size_of stream.now)) }
+        requires held { first_failing (checks_below (size_of stream.now) (pair_checks stream.now))
+            ≡ None }
+        ensures value { IfOk result (λ names.
+            map named names.items ≡ names_below stream.now (size_of stream.now)) }
         ensures memory { IfErr result (λ fault. fault ≡ InfoFault.Memory) }
     {
         let ends = ends_of(alloc, self.buffer(stream))?;

@@ -39,7 +39,8 @@ impl NameMap {
     #[tactic(auto, unfolding(crate::specs::Names::pair_checks))]
     fn check_pair(&self, stream: &[u8], ended: usize, k: u32, bucket: u64) -> Result<(), InfoFault>
         requires map { IsMap stream.now self.now }
-        requires ended { (offset : ℕ) → is_named (buffer_of stream.now) offset ≡ nat_lt offset ended }
+        requires ended { (offset : ℕ) →
+            is_named (buffer_of stream.now) offset ≡ nat_lt offset ended }
         requires bucket { get_or (present_buckets (present_of stream.now)) k 0 ≡ bucket }
         ensures inside { IfOk result (λ _. pair_offset stream.now k + 8 ≤ length stream.now) }
         ensures first { Makes result (pair_checks stream.now k) }
@@ -55,7 +56,8 @@ impl NameMap {
     /// Checks the pairs, in the order of their buckets.
     pub(crate) fn check_pairs(&self, stream: &[u8]) -> Result<(), InfoFault>
         requires map { IsMap stream.now self.now }
-        ensures inside { IfOk result (λ _. pairs_offset stream.now + 8 * size_of stream.now ≤ length stream.now) }
+        ensures inside { IfOk result (λ _.
+            pairs_offset stream.now + 8 * size_of stream.now ≤ length stream.now) }
         ensures first { Makes result (checks_below (size_of stream.now) (pair_checks stream.now)) }
     {
         let ended = ended_length(self.buffer(stream));

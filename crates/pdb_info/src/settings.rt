@@ -27,11 +27,15 @@ impl Model for Settings {
 
     ghost Value = { SettingsView };
 
-    ghost view = { λ s. record { guid = s.guid; age = s.age; limit = s.limit; block_size = s.block_size } };
+    ghost view = { λ s.
+        record { guid = s.guid; age = s.age; limit = s.limit; block_size = s.block_size } };
 
-    ghost invariant = { λ s. AreSettings (record { guid = s.guid; age = s.age; limit = s.limit; block_size = s.block_size }) };
+    ghost invariant = { λ s.
+        AreSettings
+        (record { guid = s.guid; age = s.age; limit = s.limit; block_size = s.block_size }) };
 
-    ghost inverse = { λ s. record { guid = s.guid; age = s.age; limit = s.limit; block_size = s.block_size } };
+    ghost inverse = { λ s.
+        record { guid = s.guid; age = s.age; limit = s.limit; block_size = s.block_size } };
 }
 
 /// The numbers of a byte slice are below 256.
@@ -58,7 +62,8 @@ impl Settings {
     /// `limit` and `block_size` are in bytes. This does not allocate.
     #[tactic(auto, using(msf_blocks::proofs::SizeLaws::size_decides))]
     pub fn new(guid: Uuid, age: u32, limit: u32, block_size: u32) -> Option<Settings>
-        ensures value { IfSome result (λ s. s ≡ record { guid = guid; age = age; limit = limit; block_size = block_size }) }
+        ensures value { IfSome result (λ s.
+            s ≡ record { guid = guid; age = age; limit = limit; block_size = block_size }) }
         ensures some { IsSome result ↔ ((limit ≤ 1073741824) × IsBlockSize block_size) }
     {
         if limit > MOST_BYTES || !is_block_size(block_size) {

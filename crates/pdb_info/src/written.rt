@@ -18,7 +18,8 @@ const BUCKETS: u32 = 8;
 
 /// Makes the stream: the header, and a map without names.
 fn stream_of(age: u32, stored: [u8; 16]) -> [u8; 52]
-    ensures value { result ≡ u32s (20000404 ∷ 0 ∷ age ∷ []) ++ (stored ++ u32s (0 ∷ 0 ∷ 8 ∷ 0 ∷ 0 ∷ 0 ∷ [])) }
+    ensures value { result
+        ≡ u32s (20000404 ∷ 0 ∷ age ∷ []) ++ (stored ++ u32s (0 ∷ 0 ∷ 8 ∷ 0 ∷ 0 ∷ 0 ∷ [])) }
     ensures long { length stored ≡ 16 }
 {
     let mut stream = [0; 52];

@@ -77,12 +77,18 @@ fn layout_at<R: ReadAt, A: Allocator + Copy>(
 ) -> Result<Layout<A>, AtFault<PdbFault<A>>>
     ensures keeps { R.bytes input.new ≡ R.bytes input.old }
     ensures small { IfKnown (R.bytes input.old) AreBytes }
-    ensures value { IfOk result (λ layout. IfKnown (R.bytes input.old) (λ file. HasLayout file layout)) }
+    ensures value { IfOk result (λ layout.
+        IfKnown (R.bytes input.old) (λ file. HasLayout file layout)) }
     ensures texts { IfOk result (HasTexts (R.bytes input.old)) }
-    ensures first { IfErr result (IfOf (λ fault. IfKnown (R.bytes input.old) (λ file. IsLayoutFault file fault ⊎ (fault ≡ PdbFault.Memory)))) }
-    ensures refused { IfErr result (IfOf (λ fault. IsLayoutFaultRead (R.bytes input.old) fault ⊎ (fault ≡ PdbFault.Memory))) }
-    ensures memory { IfErr result (IfOf (λ fault. fault ≡ PdbFault.Memory → IfKnown (R.bytes input.old) (λ file. first_failing (layout_checks file) ≡ None))) }
-    ensures read { IfErr result (λ fault. fault ≡ AtFault.Read → Breaks (R.bytes input.old) (R.is_broken input.new)) }
+    ensures first { IfErr result (IfOf (λ fault. IfKnown (R.bytes input.old) (λ file.
+        IsLayoutFault file fault ⊎ (fault ≡ PdbFault.Memory)))) }
+    ensures refused { IfErr result
+        (IfOf (λ fault. IsLayoutFaultRead (R.bytes input.old) fault ⊎ (fault ≡ PdbFault.Memory))) }
+    ensures memory { IfErr result (IfOf (λ fault.
+        fault ≡ PdbFault.Memory →
+        IfKnown (R.bytes input.old) (λ file. first_failing (layout_checks file) ≡ None))) }
+    ensures read { IfErr result (λ fault.
+        fault ≡ AtFault.Read → Breaks (R.bytes input.old) (R.is_broken input.new)) }
 {
     match Layout::read_at(alloc, input) {
         Ok(layout) => Ok(layout),
@@ -105,9 +111,11 @@ impl<A: Allocator + Copy> Buffer<A> {
         file: &'a [u8],
         layout: &Layout<A>,
     ) -> Result<Records<'a, A>, PdbFault<A>>
-        requires { layout.now.superblock.num_blocks * layout.now.superblock.block_size ≤ length file.now }
+        requires { layout.now.superblock.num_blocks * layout.now.superblock.block_size
+            ≤ length file.now }
         ensures value { IfOk result (ListsRecords file.now layout.now) }
-        ensures first { IfErr result (λ fault. HasStreamFault file.now layout.now fault ⊎ (fault ≡ PdbFault.Memory)) }
+        ensures first { IfErr result (λ fault.
+            HasStreamFault file.now layout.now fault ⊎ (fault ≡ PdbFault.Memory)) }
     {
         let stream = contents(self.alloc, file, layout, TPI_STREAM, &mut self.bytes)?;
         Ok(Records::read(alloc, stream)?)
@@ -120,8 +128,10 @@ impl<A: Allocator + Copy> Buffer<A> {
         file: &'a [u8],
     ) -> Result<Records<'a, A>, PdbFault<A>>
         ensures value { IfOk result (HasTypeRecords file.now) }
-        ensures first { IfErr result (λ fault. HasRecordsFault file.now fault ⊎ (fault ≡ PdbFault.Memory)) }
-        ensures memory { IfErr result (λ fault. fault ≡ PdbFault.Memory → first_failing (layout_checks file.now) ≡ None) }
+        ensures first { IfErr result (λ fault.
+            HasRecordsFault file.now fault ⊎ (fault ≡ PdbFault.Memory)) }
+        ensures memory { IfErr result (λ fault.
+            fault ≡ PdbFault.Memory → first_failing (layout_checks file.now) ≡ None) }
     {
         self.clear();
         let layout = Layout::read(alloc, file)?;
@@ -136,8 +146,10 @@ impl<A: Allocator + Copy> Buffer<A> {
         file: &'a [u8],
     ) -> Result<Records<'a, A>, PdbFault<A>>
         ensures value { IfOk result (ListsTypes file.now) }
-        ensures first { IfErr result (λ fault. HasPdbFault file.now fault ⊎ (fault ≡ PdbFault.Memory)) }
-        ensures memory { IfErr result (λ fault. fault ≡ PdbFault.Memory → first_failing (layout_checks file.now) ≡ None) }
+        ensures first { IfErr result (λ fault.
+            HasPdbFault file.now fault ⊎ (fault ≡ PdbFault.Memory)) }
+        ensures memory { IfErr result (λ fault.
+            fault ≡ PdbFault.Memory → first_failing (layout_checks file.now) ≡ None) }
     {
         self.clear();
         let layout = Layout::read(alloc, file)?;
@@ -156,13 +168,18 @@ impl<A: Allocator + Copy> Buffer<A> {
         input: &mut R,
         layout: &Layout<A>,
     ) -> Result<Records<'a, A>, AtFault<PdbFault<A>>>
-        requires { IfKnown (R.bytes input.old) (λ file. layout.now.superblock.num_blocks * layout.now.superblock.block_size ≤ length file) }
+        requires { IfKnown (R.bytes input.old) (λ file.
+            layout.now.superblock.num_blocks * layout.now.superblock.block_size ≤ length file) }
         ensures keeps { R.bytes input.new ≡ R.bytes input.old }
-        ensures value { IfOk result (λ records. IfKnown (R.bytes input.old) (λ file. ListsRecords file layout.now records)) }
+        ensures value { IfOk result (λ records.
+            IfKnown (R.bytes input.old) (λ file. ListsRecords file layout.now records)) }
         ensures texts { IfOk result (RecordsWereRead (R.bytes input.old) layout.now) }
-        ensures first { IfErr result (IfOf (λ fault. IfKnown (R.bytes input.old) (λ file. HasStreamFault file layout.now fault ⊎ (fault ≡ PdbFault.Memory)))) }
-        ensures refused { IfErr result (IfOf (λ fault. HasStreamFaultRead (R.bytes input.old) layout.now fault ⊎ (fault ≡ PdbFault.Memory))) }
-        ensures read { IfErr result (λ fault. fault ≡ AtFault.Read → Breaks (R.bytes input.old) (R.is_broken input.new)) }
+        ensures first { IfErr result (IfOf (λ fault. IfKnown (R.bytes input.old) (λ file.
+            HasStreamFault file layout.now fault ⊎ (fault ≡ PdbFault.Memory)))) }
+        ensures refused { IfErr result (IfOf (λ fault.
+            HasStreamFaultRead (R.bytes input.old) layout.now fault ⊎ (fault ≡ PdbFault.Memory))) }
+        ensures read { IfErr result (λ fault.
+            fault ≡ AtFault.Read → Breaks (R.bytes input.old) (R.is_broken input.new)) }
     {
         match gather_at(input, layout, TPI_STREAM, &mut self.bytes) {
             Ok(()) => {}
@@ -184,11 +201,15 @@ impl<A: Allocator + Copy> Buffer<A> {
     ) -> Result<Records<'a, A>, AtFault<PdbFault<A>>>
         requires { IfKnown (R.bytes input.old) (λ file. HasLayout file layout.now) }
         ensures keeps { R.bytes input.new ≡ R.bytes input.old }
-        ensures value { IfOk result (λ records. IfKnown (R.bytes input.old) (λ file. HasTypeRecords file records)) }
+        ensures value { IfOk result (λ records.
+            IfKnown (R.bytes input.old) (λ file. HasTypeRecords file records)) }
         ensures texts { IfOk result (RecordsWereRead (R.bytes input.old) layout.now) }
-        ensures first { IfErr result (IfOf (λ fault. IfKnown (R.bytes input.old) (λ file. HasRecordsFault file fault ⊎ (fault ≡ PdbFault.Memory)))) }
-        ensures refused { IfErr result (IfOf (λ fault. HasStreamFaultRead (R.bytes input.old) layout.now fault ⊎ (fault ≡ PdbFault.Memory))) }
-        ensures read { IfErr result (λ fault. fault ≡ AtFault.Read → Breaks (R.bytes input.old) (R.is_broken input.new)) }
+        ensures first { IfErr result (IfOf (λ fault. IfKnown (R.bytes input.old) (λ file.
+            HasRecordsFault file fault ⊎ (fault ≡ PdbFault.Memory)))) }
+        ensures refused { IfErr result (IfOf (λ fault.
+            HasStreamFaultRead (R.bytes input.old) layout.now fault ⊎ (fault ≡ PdbFault.Memory))) }
+        ensures read { IfErr result (λ fault.
+            fault ≡ AtFault.Read → Breaks (R.bytes input.old) (R.is_broken input.new)) }
     {
         let records = self.stream_records_at(alloc, input, layout)?;
         Ok(records)
@@ -202,12 +223,21 @@ impl<A: Allocator + Copy> Buffer<A> {
     ) -> Result<Records<'a, A>, AtFault<PdbFault<A>>>
         ensures keeps { R.bytes input.new ≡ R.bytes input.old }
         ensures small { IfKnown (R.bytes input.old) AreBytes }
-        ensures value { IfOk result (λ records. IfKnown (R.bytes input.old) (λ file. HasTypeRecords file records)) }
-        ensures texts { IfOk result (λ records. (layout : LayoutView) × HasTexts (R.bytes input.old) layout × RecordsWereRead (R.bytes input.old) layout records) }
-        ensures first { IfErr result (IfOf (λ fault. IfKnown (R.bytes input.old) (λ file. HasRecordsFault file fault ⊎ (fault ≡ PdbFault.Memory)))) }
-        ensures refused { IfErr result (IfOf (λ fault. HasFaultOfTexts HasStreamFaultRead (R.bytes input.old) fault ⊎ (fault ≡ PdbFault.Memory))) }
-        ensures memory { IfErr result (IfOf (λ fault. fault ≡ PdbFault.Memory → IfKnown (R.bytes input.old) (λ file. first_failing (layout_checks file) ≡ None))) }
-        ensures read { IfErr result (λ fault. fault ≡ AtFault.Read → Breaks (R.bytes input.old) (R.is_broken input.new)) }
+        ensures value { IfOk result (λ records.
+            IfKnown (R.bytes input.old) (λ file. HasTypeRecords file records)) }
+        ensures texts { IfOk result (λ records.
+            (layout : LayoutView) × HasTexts (R.bytes input.old) layout
+            × RecordsWereRead (R.bytes input.old) layout records) }
+        ensures first { IfErr result (IfOf (λ fault. IfKnown (R.bytes input.old) (λ file.
+            HasRecordsFault file fault ⊎ (fault ≡ PdbFault.Memory)))) }
+        ensures refused { IfErr result (IfOf (λ fault.
+            HasFaultOfTexts HasStreamFaultRead (R.bytes input.old) fault
+            ⊎ (fault ≡ PdbFault.Memory))) }
+        ensures memory { IfErr result (IfOf (λ fault.
+            fault ≡ PdbFault.Memory →
+            IfKnown (R.bytes input.old) (λ file. first_failing (layout_checks file) ≡ None))) }
+        ensures read { IfErr result (λ fault.
+            fault ≡ AtFault.Read → Breaks (R.bytes input.old) (R.is_broken input.new)) }
     {
         let layout = layout_at(alloc, input)?;
         self.records_of(alloc, input, &layout)
@@ -224,11 +254,16 @@ impl<A: Allocator + Copy> Buffer<A> {
         requires bytes { IfKnown (R.bytes input.old) AreBytes }
         requires layout { IfKnown (R.bytes input.old) (λ file. HasLayout file layout.now) }
         ensures keeps { R.bytes input.new ≡ R.bytes input.old }
-        ensures value { IfOk result (λ records. IfKnown (R.bytes input.old) (λ file. ListsTypes file records)) }
-        ensures texts { IfOk result (λ records. RecordsWereRead (R.bytes input.old) layout.now records × ListsLongInfo layout.now) }
-        ensures first { IfErr result (IfOf (λ fault. IfKnown (R.bytes input.old) (λ file. HasPdbFault file fault ⊎ (fault ≡ PdbFault.Memory)))) }
-        ensures refused { IfErr result (IfOf (λ fault. HasPdbFaultRead (R.bytes input.old) layout.now fault ⊎ (fault ≡ PdbFault.Memory))) }
-        ensures read { IfErr result (λ fault. fault ≡ AtFault.Read → Breaks (R.bytes input.old) (R.is_broken input.new)) }
+        ensures value { IfOk result (λ records.
+            IfKnown (R.bytes input.old) (λ file. ListsTypes file records)) }
+        ensures texts { IfOk result (λ records.
+            RecordsWereRead (R.bytes input.old) layout.now records × ListsLongInfo layout.now) }
+        ensures first { IfErr result (IfOf (λ fault. IfKnown (R.bytes input.old) (λ file.
+            HasPdbFault file fault ⊎ (fault ≡ PdbFault.Memory)))) }
+        ensures refused { IfErr result (IfOf (λ fault.
+            HasPdbFaultRead (R.bytes input.old) layout.now fault ⊎ (fault ≡ PdbFault.Memory))) }
+        ensures read { IfErr result (λ fault.
+            fault ≡ AtFault.Read → Breaks (R.bytes input.old) (R.is_broken input.new)) }
     {
         if let Err(fault) = check_info(layout) {
             return Err(AtFault::Of(fault));
@@ -245,12 +280,21 @@ impl<A: Allocator + Copy> Buffer<A> {
         input: &mut R,
     ) -> Result<Records<'a, A>, AtFault<PdbFault<A>>>
         ensures keeps { R.bytes input.new ≡ R.bytes input.old }
-        ensures value { IfOk result (λ records. IfKnown (R.bytes input.old) (λ file. ListsTypes file records)) }
-        ensures texts { IfOk result (λ records. (layout : LayoutView) × HasTexts (R.bytes input.old) layout × RecordsWereRead (R.bytes input.old) layout records × ListsLongInfo layout) }
-        ensures first { IfErr result (IfOf (λ fault. IfKnown (R.bytes input.old) (λ file. HasPdbFault file fault ⊎ (fault ≡ PdbFault.Memory)))) }
-        ensures refused { IfErr result (IfOf (λ fault. HasFaultOfTexts HasPdbFaultRead (R.bytes input.old) fault ⊎ (fault ≡ PdbFault.Memory))) }
-        ensures memory { IfErr result (IfOf (λ fault. fault ≡ PdbFault.Memory → IfKnown (R.bytes input.old) (λ file. first_failing (layout_checks file) ≡ None))) }
-        ensures read { IfErr result (λ fault. fault ≡ AtFault.Read → Breaks (R.bytes input.old) (R.is_broken input.new)) }
+        ensures value { IfOk result (λ records.
+            IfKnown (R.bytes input.old) (λ file. ListsTypes file records)) }
+        ensures texts { IfOk result (λ records.
+            (layout : LayoutView) × HasTexts (R.bytes input.old) layout
+            × RecordsWereRead (R.bytes input.old) layout records × ListsLongInfo layout) }
+        ensures first { IfErr result (IfOf (λ fault. IfKnown (R.bytes input.old) (λ file.
+            HasPdbFault file fault ⊎ (fault ≡ PdbFault.Memory)))) }
+        ensures refused { IfErr result (IfOf (λ fault.
+            HasFaultOfTexts HasPdbFaultRead (R.bytes input.old) fault
+            ⊎ (fault ≡ PdbFault.Memory))) }
+        ensures memory { IfErr result (IfOf (λ fault.
+            fault ≡ PdbFault.Memory →
+            IfKnown (R.bytes input.old) (λ file. first_failing (layout_checks file) ≡ None))) }
+        ensures read { IfErr result (λ fault.
+            fault ≡ AtFault.Read → Breaks (R.bytes input.old) (R.is_broken input.new)) }
     {
         let layout = layout_at(alloc, input)?;
         self.listed_of(alloc, input, &layout)

@@ -45,9 +45,11 @@ fn unread<A: Allocator>(file: usize, fault: InputFault) -> MergeFault<A>
 fn check_rest<I: Inputs, A: Allocator>(inputs: &I, first: usize) -> Result<(), MergeFault<A>>
     requires { IfSome (I.known inputs.now) (λ each. CanRead each first) }
     ensures value { OnOk result (IfSome (I.known inputs.now) (λ each. CanRead each (length each))) }
-    ensures fault { IfErr result (λ fault. IfSome (I.known inputs.now) (λ each. ReadsFirst each fault)) }
+    ensures fault { IfErr result (λ fault.
+        IfSome (I.known inputs.now) (λ each. ReadsFirst each fault)) }
     ensures named { IfErr result NamesFault }
-    ensures unread { (files : List (List ℕ)) → Give (I.known inputs.now) files → IfErr result (λ fault. fault ≡ MergeFault.Memory) }
+    ensures unread { (files : List (List ℕ)) → Give (I.known inputs.now) files →
+        IfErr result (λ fault. fault ≡ MergeFault.Memory) }
 {
     for input in first..inputs.count() {
         if let Err(fault) = inputs.check(input) {
@@ -64,12 +66,20 @@ fn add_opened<F: ReadAt + Drop, S: BuildHasher, A: Allocator + Copy>(
     buffer: &mut Buffer<A>,
     merge: &mut Merge<S, A>,
 ) -> Result<(), AtFault<AddFault<A>>>
-    ensures taken { OnOk result ((file : List ℕ) → HasBytes F.bytes opened.entry file → (files : List (List ℕ)) → HasTaken merge.old files → HasTaken merge.new (files ++ file ∷ [])) }
+    ensures taken { OnOk result
+        ((file : List ℕ) → HasBytes F.bytes opened.entry file → (files : List (List ℕ)) →
+        HasTaken merge.old files → HasTaken merge.new (files ++ file ∷ [])) }
     ensures within { OnOk result (Within (IsType merge.new.types) merge.new.limit) }
     ensures limit { merge.new.limit ≡ merge.old.limit }
     ensures kept { IfErr result (λ _. merge.new ≡ merge.old) }
-    ensures stops { IfErr result (IfOf (λ fault. (file : List ℕ) → HasBytes F.bytes opened.entry file → (files : List (List ℕ)) → HasTaken merge.old files → IsMergeFault (files ++ file ∷ []) merge.old.limit (of_add (length files) fault))) }
-    ensures found { IfErr result (IfOf (λ fault. (file : List ℕ) → HasBytes F.bytes opened.entry file → (files more : List (List ℕ)) → HasTaken merge.old files → CanMerge ((files ++ file ∷ []) ++ more) merge.old.limit → fault ≡ AddFault.Memory)) }
+    ensures stops { IfErr result (IfOf (λ fault.
+        (file : List ℕ) → HasBytes F.bytes opened.entry file → (files : List (List ℕ)) →
+        HasTaken merge.old files →
+        IsMergeFault (files ++ file ∷ []) merge.old.limit (of_add (length files) fault))) }
+    ensures found { IfErr result (IfOf (λ fault.
+        (file : List ℕ) → HasBytes F.bytes opened.entry file → (files more : List (List ℕ)) →
+        HasTaken merge.old files → CanMerge ((files ++ file ∷ []) ++ more) merge.old.limit →
+        fault ≡ AddFault.Memory)) }
     ensures named { IfErr result (IfOf AddNamesFault) }
 {
     match opened {
@@ -97,13 +107,20 @@ fn add_read<I: Inputs, S: BuildHasher, A: Allocator + Copy>(
     requires few { input + 1 < 2 ^ 64 }
     requires inside { IfSome (I.known inputs.now) (λ each. input < length each) }
     requires before { IfSome (I.known inputs.now) (λ each. CanRead each input) }
-    ensures value { (files : List (List ℕ)) → Give (I.known inputs.now) files → HasTaken merge.old (take input files) → OnOk result (HasTaken merge.new (take (input + 1) files)) }
+    ensures value { (files : List (List ℕ)) → Give (I.known inputs.now) files →
+        HasTaken merge.old (take input files) →
+        OnOk result (HasTaken merge.new (take (input + 1) files)) }
     ensures within { OnOk result (Within (IsType merge.new.types) merge.new.limit) }
     ensures read { OnOk result (IfSome (I.known inputs.now) (λ each. CanRead each (input + 1))) }
     ensures limit { merge.new.limit ≡ merge.old.limit }
-    ensures found { (files : List (List ℕ)) → Give (I.known inputs.now) files → HasTaken merge.old (take input files) → CanMerge files merge.old.limit → IfErr result (λ fault. fault ≡ MergeFault.Memory) }
-    ensures first { (files : List (List ℕ)) → Give (I.known inputs.now) files → HasTaken merge.old (take input files) → IfErr result (IsMergeFault files merge.old.limit) }
-    ensures reads { IfErr result (λ fault. IfSome (I.known inputs.now) (λ each. ReadsFirst each fault)) }
+    ensures found { (files : List (List ℕ)) → Give (I.known inputs.now) files →
+        HasTaken merge.old (take input files) → CanMerge files merge.old.limit →
+        IfErr result (λ fault. fault ≡ MergeFault.Memory) }
+    ensures first { (files : List (List ℕ)) → Give (I.known inputs.now) files →
+        HasTaken merge.old (take input files) →
+        IfErr result (IsMergeFault files merge.old.limit) }
+    ensures reads { IfErr result (λ fault.
+        IfSome (I.known inputs.now) (λ each. ReadsFirst each fault)) }
     ensures named { IfErr result NamesFault }
 {
     let file = match inputs.read(input, bytes) {
@@ -130,13 +147,20 @@ fn add_input<I: Inputs, S: BuildHasher, A: Allocator + Copy>(
     requires few { input + 1 < 2 ^ 64 }
     requires inside { IfSome (I.known inputs.now) (λ each. input < length each) }
     requires before { IfSome (I.known inputs.now) (λ each. CanRead each input) }
-    ensures value { (files : List (List ℕ)) → Give (I.known inputs.now) files → HasTaken merge.old (take input files) → OnOk result (HasTaken merge.new (take (input + 1) files)) }
+    ensures value { (files : List (List ℕ)) → Give (I.known inputs.now) files →
+        HasTaken merge.old (take input files) →
+        OnOk result (HasTaken merge.new (take (input + 1) files)) }
     ensures within { OnOk result (Within (IsType merge.new.types) merge.new.limit) }
     ensures read { OnOk result (IfSome (I.known inputs.now) (λ each. CanRead each (input + 1))) }
     ensures limit { merge.new.limit ≡ merge.old.limit }
-    ensures found { (files : List (List ℕ)) → Give (I.known inputs.now) files → HasTaken merge.old (take input files) → CanMerge files merge.old.limit → IfErr result (λ fault. fault ≡ MergeFault.Memory) }
-    ensures first { (files : List (List ℕ)) → Give (I.known inputs.now) files → HasTaken merge.old (take input files) → IfErr result (IsMergeFault files merge.old.limit) }
-    ensures reads { IfErr result (λ fault. IfSome (I.known inputs.now) (λ each. ReadsFirst each fault)) }
+    ensures found { (files : List (List ℕ)) → Give (I.known inputs.now) files →
+        HasTaken merge.old (take input files) → CanMerge files merge.old.limit →
+        IfErr result (λ fault. fault ≡ MergeFault.Memory) }
+    ensures first { (files : List (List ℕ)) → Give (I.known inputs.now) files →
+        HasTaken merge.old (take input files) →
+        IfErr result (IsMergeFault files merge.old.limit) }
+    ensures reads { IfErr result (λ fault.
+        IfSome (I.known inputs.now) (λ each. ReadsFirst each fault)) }
     ensures named { IfErr result NamesFault }
 {
     let opened = match inputs.open(input, bytes) {
@@ -160,13 +184,17 @@ fn add_all<I: Inputs, S: BuildHasher, A: Allocator + Copy>(
     merge: &mut Merge<S, A>,
 ) -> Result<(), MergeFault<A>>
     requires { HasTaken merge.old [] }
-    ensures value { (files : List (List ℕ)) → Give (I.known inputs.now) files → OnOk result (HasTaken merge.new files) }
+    ensures value { (files : List (List ℕ)) → Give (I.known inputs.now) files →
+        OnOk result (HasTaken merge.new files) }
     ensures within { OnOk result (Within (IsType merge.new.types) merge.new.limit) }
     ensures read { OnOk result (IfSome (I.known inputs.now) (λ each. CanRead each (length each))) }
     ensures limit { merge.new.limit ≡ merge.old.limit }
-    ensures found { (files : List (List ℕ)) → Give (I.known inputs.now) files → CanMerge files merge.old.limit → IfErr result (λ fault. fault ≡ MergeFault.Memory) }
-    ensures first { (files : List (List ℕ)) → Give (I.known inputs.now) files → IfErr result (IsMergeFault files merge.old.limit) }
-    ensures reads { IfErr result (λ fault. IfSome (I.known inputs.now) (λ each. ReadsFirst each fault)) }
+    ensures found { (files : List (List ℕ)) → Give (I.known inputs.now) files →
+        CanMerge files merge.old.limit → IfErr result (λ fault. fault ≡ MergeFault.Memory) }
+    ensures first { (files : List (List ℕ)) → Give (I.known inputs.now) files →
+        IfErr result (IsMergeFault files merge.old.limit) }
+    ensures reads { IfErr result (λ fault.
+        IfSome (I.known inputs.now) (λ each. ReadsFirst each fault)) }
     ensures named { IfErr result NamesFault }
 {
     let mut bytes = Vec::new(alloc);
@@ -184,13 +212,18 @@ fn list_all<I: Inputs, S: BuildHasher + Drop, A: Allocator + Copy>(
     limit: u32,
     hasher: S,
 ) -> Result<Canon<A>, MergeFault<A>>
-    ensures value { (files : List (List ℕ)) → Give (I.known inputs.now) files → IfOk result (λ canon. IsCanonOf canon (HasType files)) }
+    ensures value { (files : List (List ℕ)) → Give (I.known inputs.now) files →
+        IfOk result (λ canon. IsCanonOf canon (HasType files)) }
     ensures within { IfOk result (λ canon. length (concat canon) ≤ limit) }
-    ensures can { (files : List (List ℕ)) → Give (I.known inputs.now) files → OnOk result (CanMerge files limit) }
+    ensures can { (files : List (List ℕ)) → Give (I.known inputs.now) files →
+        OnOk result (CanMerge files limit) }
     ensures read { OnOk result (IfSome (I.known inputs.now) (λ each. CanRead each (length each))) }
-    ensures found { (files : List (List ℕ)) → Give (I.known inputs.now) files → CanMerge files limit → IfErr result (λ fault. fault ≡ MergeFault.Memory) }
-    ensures first { (files : List (List ℕ)) → Give (I.known inputs.now) files → IfErr result (IsMergeFault files limit) }
-    ensures reads { IfErr result (λ fault. IfSome (I.known inputs.now) (λ each. ReadsFirst each fault)) }
+    ensures found { (files : List (List ℕ)) → Give (I.known inputs.now) files →
+        CanMerge files limit → IfErr result (λ fault. fault ≡ MergeFault.Memory) }
+    ensures first { (files : List (List ℕ)) → Give (I.known inputs.now) files →
+        IfErr result (IsMergeFault files limit) }
+    ensures reads { IfErr result (λ fault.
+        IfSome (I.known inputs.now) (λ each. ReadsFirst each fault)) }
     ensures named { IfErr result NamesFault }
 {
     let mut merge = Merge::new(alloc, limit, hasher);
@@ -217,19 +250,27 @@ pub fn merge_files<I: Inputs + Drop, S: BuildHasher + Drop, A: Allocator + Copy>
     settings: &Settings,
     hasher: S,
 ) -> Result<Canon<A>, MergeFault<A>>
-    ensures value { (given : List (List ℕ)) → Give (I.known files) given → IfOk result (λ canon. IsCanonOf canon (HasType given)) }
+    ensures value { (given : List (List ℕ)) → Give (I.known files) given →
+        IfOk result (λ canon. IsCanonOf canon (HasType given)) }
     ensures within { IfOk result (λ canon. length (concat canon) ≤ record_limit settings.now) }
-    ensures can { (given : List (List ℕ)) → Give (I.known files) given → OnOk result (CanMerge given (record_limit settings.now)) }
+    ensures can { (given : List (List ℕ)) → Give (I.known files) given →
+        OnOk result (CanMerge given (record_limit settings.now)) }
     // Files that can be merged are refused only when out of memory.
-    ensures found { (given : List (List ℕ)) → Give (I.known files) given → CanMerge given (record_limit settings.now) → IfErr result (λ fault. fault ≡ MergeFault.Memory) }
-    ensures first { (given : List (List ℕ)) → Give (I.known files) given → IfErr result (IsMergeFault given (record_limit settings.now)) }
+    ensures found { (given : List (List ℕ)) → Give (I.known files) given →
+        CanMerge given (record_limit settings.now) →
+        IfErr result (λ fault. fault ≡ MergeFault.Memory) }
+    ensures first { (given : List (List ℕ)) → Give (I.known files) given →
+        IfErr result (IsMergeFault given (record_limit settings.now)) }
     // Reading comes first: every file was read, or the fault is that of the first unread file.
     ensures read { OnOk result (IfSome (I.known files) (λ each. CanRead each (length each))) }
     ensures reads { IfErr result (λ fault. IfSome (I.known files) (λ each. ReadsFirst each fault)) }
     // Out of memory is always `Memory`, whatever is known of the inputs.
     ensures named { IfErr result NamesFault }
     // Files that are refused in one order are refused in any order.
-    ensures any_order { (given : List (List ℕ)) → Give (I.known files) given → IfErr result (λ fault. fault ≢ MergeFault.Memory → (others : List (List ℕ)) → SameFiles given others → CanMerge others (record_limit settings.now) → ⊥) }
+    ensures any_order { (given : List (List ℕ)) → Give (I.known files) given →
+        IfErr result (λ fault.
+        fault ≢ MergeFault.Memory → (others : List (List ℕ)) → SameFiles given others →
+        CanMerge others (record_limit settings.now) → ⊥) }
 {
     list_all(alloc, &files, settings.record_limit(), hasher)
 }

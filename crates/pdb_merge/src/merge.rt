@@ -57,13 +57,20 @@ impl<S: BuildHasher, A: Allocator + Copy> Merge<S, A> {
     /// Adds the types of a file that lists these records to the table. Where the records can't be
     /// added as they stand, they are checked for a fault and for an order first.
     fn add_listed(&mut self, alloc: A, records: Records<'_, A>) -> Result<(), AddFault<A>>
-        ensures value { (file : List ℕ) → ListsTypes file records.entry → IfOk result (λ _. AddsFile self.old.types self.new.types file) }
-        ensures union { IfOk result (λ _. AreTypes records.entry × ((t : Tree) → IsType self.new.types t ↔ (IsType self.old.types t ⊎ IsType records.entry t))) }
+        ensures value { (file : List ℕ) → ListsTypes file records.entry →
+            IfOk result (λ _. AddsFile self.old.types self.new.types file) }
+        ensures union { IfOk result (λ _.
+            AreTypes records.entry
+            × ((t : Tree) →
+            IsType self.new.types t ↔ (IsType self.old.types t ⊎ IsType records.entry t))) }
         ensures within { IfOk result (λ _. Within (IsType self.new.types) self.new.limit) }
         ensures limit { self.new.limit ≡ self.old.limit }
         ensures kept { IfErr result (λ _. self.new ≡ self.old) }
-        ensures first { (file : List ℕ) → ListsTypes file records.entry → IfErr result (IsAddFault self.old.types self.old.limit file) }
-        ensures refused { (bytes : Bytes) (layout : LayoutView) → RecordsWereRead bytes layout records.entry → ListsLongInfo layout → IfErr result (IsAddFaultRead self.old.types self.old.limit bytes layout) }
+        ensures first { (file : List ℕ) → ListsTypes file records.entry →
+            IfErr result (IsAddFault self.old.types self.old.limit file) }
+        ensures refused { (bytes : Bytes) (layout : LayoutView) →
+            RecordsWereRead bytes layout records.entry → ListsLongInfo layout →
+            IfErr result (IsAddFaultRead self.old.types self.old.limit bytes layout) }
         ensures named { IfErr result AddNamesFault }
     {
         if self.table.add_records(alloc, &records, self.limit) {
@@ -86,7 +93,8 @@ impl<S: BuildHasher, A: Allocator + Copy> Merge<S, A> {
         ensures limit { self.new.limit ≡ self.old.limit }
         ensures kept { IfErr result (λ _. self.new ≡ self.old) }
         ensures first { IfErr result (IsAddFault self.old.types self.old.limit file.now) }
-        ensures memory { IfErr result (λ fault. fault ≡ AddFault.Memory → first_failing (layout_checks file.now) ≡ None) }
+        ensures memory { IfErr result (λ fault.
+            fault ≡ AddFault.Memory → first_failing (layout_checks file.now) ≡ None) }
     {
         let records = buffer.listed(alloc, file)?;
         self.add_listed(alloc, records)
@@ -100,16 +108,23 @@ impl<S: BuildHasher, A: Allocator + Copy> Merge<S, A> {
         buffer: &mut Buffer<A>,
     ) -> Result<(), AtFault<AddFault<A>>>
         ensures keeps { R.bytes input.new ≡ R.bytes input.old }
-        ensures value { IfOk result (λ _. IfKnown (R.bytes input.old) (λ file. AddsFile self.old.types self.new.types file)) }
-        ensures texts { IfOk result (λ _. AddsTexts self.old.types self.new.types (R.bytes input.old)) }
+        ensures value { IfOk result (λ _.
+            IfKnown (R.bytes input.old) (λ file. AddsFile self.old.types self.new.types file)) }
+        ensures texts { IfOk result (λ _.
+            AddsTexts self.old.types self.new.types (R.bytes input.old)) }
         ensures within { IfOk result (λ _. Within (IsType self.new.types) self.new.limit) }
         ensures limit { self.new.limit ≡ self.old.limit }
         ensures kept { IfErr result (λ _. self.new ≡ self.old) }
-        ensures first { IfErr result (IfOf (λ fault. IfKnown (R.bytes input.old) (λ file. IsAddFault self.old.types self.old.limit file fault))) }
-        ensures refused { IfErr result (IfOf (IsAddFaultOfTexts self.old.types self.old.limit (R.bytes input.old))) }
+        ensures first { IfErr result (IfOf (λ fault. IfKnown (R.bytes input.old) (λ file.
+            IsAddFault self.old.types self.old.limit file fault))) }
+        ensures refused { IfErr result
+            (IfOf (IsAddFaultOfTexts self.old.types self.old.limit (R.bytes input.old))) }
         ensures named { IfErr result (IfOf AddNamesFault) }
-        ensures memory { IfErr result (IfOf (λ fault. fault ≡ AddFault.Memory → IfKnown (R.bytes input.old) (λ file. first_failing (layout_checks file) ≡ None))) }
-        ensures read { IfErr result (λ fault. fault ≡ AtFault.Read → Breaks (R.bytes input.old) (R.is_broken input.new)) }
+        ensures memory { IfErr result (IfOf (λ fault.
+            fault ≡ AddFault.Memory →
+            IfKnown (R.bytes input.old) (λ file. first_failing (layout_checks file) ≡ None))) }
+        ensures read { IfErr result (λ fault.
+            fault ≡ AtFault.Read → Breaks (R.bytes input.old) (R.is_broken input.new)) }
     {
         let records = match buffer.listed_at(alloc, input) {
             Ok(records) => records,
@@ -135,15 +150,23 @@ impl<S: BuildHasher, A: Allocator + Copy> Merge<S, A> {
         ensures first { IfErr result (IsAddFault self.old.types self.old.limit file.now) }
         ensures named { IfErr result AddNamesFault }
         // Out of memory comes only where the container has no fault.
-        ensures memory { IfErr result (λ fault. fault ≡ AddFault.Memory → first_failing (layout_checks file.now) ≡ None) }
+        ensures memory { IfErr result (λ fault.
+            fault ≡ AddFault.Memory → first_failing (layout_checks file.now) ≡ None) }
 
         // The merge has taken the files so far, and this one.
-        ensures taken { IfOk result (λ _. (files : List (List ℕ)) → HasTaken self.old files → HasTaken self.new (files ++ file.now ∷ [])) }
+        ensures taken { IfOk result (λ _.
+            (files : List (List ℕ)) → HasTaken self.old files →
+            HasTaken self.new (files ++ file.now ∷ [])) }
         // The fault is the first fault of the list of all these files.
-        ensures stops { IfErr result (λ fault. (files : List (List ℕ)) → HasTaken self.old files → IsMergeFault (files ++ file.now ∷ []) self.old.limit (of_add (length files) fault)) }
+        ensures stops { IfErr result (λ fault.
+            (files : List (List ℕ)) → HasTaken self.old files →
+            IsMergeFault (files ++ file.now ∷ []) self.old.limit (of_add (length files) fault)) }
         // A file that can be merged with them, and with others after it, is refused only when out
         // of memory.
-        ensures found { IfErr result (λ fault. (files more : List (List ℕ)) → HasTaken self.old files → CanMerge ((files ++ file.now ∷ []) ++ more) self.old.limit → fault ≡ AddFault.Memory) }
+        ensures found { IfErr result (λ fault.
+            (files more : List (List ℕ)) → HasTaken self.old files →
+            CanMerge ((files ++ file.now ∷ []) ++ more) self.old.limit →
+            fault ≡ AddFault.Memory) }
     {
         self.add_types(alloc, file, buffer)
     }
@@ -162,27 +185,40 @@ impl<S: BuildHasher, A: Allocator + Copy> Merge<S, A> {
         buffer: &mut Buffer<A>,
     ) -> Result<(), AtFault<AddFault<A>>>
         ensures keeps { R.bytes input.new ≡ R.bytes input.old }
-        ensures value { IfOk result (λ _. IfKnown (R.bytes input.old) (λ file. AddsFile self.old.types self.new.types file)) }
+        ensures value { IfOk result (λ _.
+            IfKnown (R.bytes input.old) (λ file. AddsFile self.old.types self.new.types file)) }
         // Whatever is known of the file, the merge has taken the types of texts that reads gave.
-        ensures texts { IfOk result (λ _. AddsTexts self.old.types self.new.types (R.bytes input.old)) }
+        ensures texts { IfOk result (λ _.
+            AddsTexts self.old.types self.new.types (R.bytes input.old)) }
         ensures within { IfOk result (λ _. Within (IsType self.new.types) self.new.limit) }
         ensures limit { self.new.limit ≡ self.old.limit }
         ensures kept { IfErr result (λ _. self.new ≡ self.old) }
-        ensures first { IfErr result (IfOf (λ fault. IfKnown (R.bytes input.old) (λ file. IsAddFault self.old.types self.old.limit file fault))) }
+        ensures first { IfErr result (IfOf (λ fault. IfKnown (R.bytes input.old) (λ file.
+            IsAddFault self.old.types self.old.limit file fault))) }
         // Whatever is known of the file, a fault is that of texts that reads gave.
-        ensures refused { IfErr result (IfOf (IsAddFaultOfTexts self.old.types self.old.limit (R.bytes input.old))) }
+        ensures refused { IfErr result
+            (IfOf (IsAddFaultOfTexts self.old.types self.old.limit (R.bytes input.old))) }
         ensures named { IfErr result (IfOf AddNamesFault) }
         // Out of memory comes only where the container has no fault.
-        ensures memory { IfErr result (IfOf (λ fault. fault ≡ AddFault.Memory → IfKnown (R.bytes input.old) (λ file. first_failing (layout_checks file) ≡ None))) }
-        ensures read { IfErr result (λ fault. fault ≡ AtFault.Read → Breaks (R.bytes input.old) (R.is_broken input.new)) }
+        ensures memory { IfErr result (IfOf (λ fault.
+            fault ≡ AddFault.Memory →
+            IfKnown (R.bytes input.old) (λ file. first_failing (layout_checks file) ≡ None))) }
+        ensures read { IfErr result (λ fault.
+            fault ≡ AtFault.Read → Breaks (R.bytes input.old) (R.is_broken input.new)) }
 
         // The merge has taken the files so far, and this one.
-        ensures taken { IfOk result (λ _. IfKnown (R.bytes input.old) (λ file. (files : List (List ℕ)) → HasTaken self.old files → HasTaken self.new (files ++ file ∷ []))) }
+        ensures taken { IfOk result (λ _. IfKnown (R.bytes input.old) (λ file.
+            (files : List (List ℕ)) → HasTaken self.old files →
+            HasTaken self.new (files ++ file ∷ []))) }
         // The fault is the first fault of the list of all these files.
-        ensures stops { IfErr result (IfOf (λ fault. IfKnown (R.bytes input.old) (λ file. (files : List (List ℕ)) → HasTaken self.old files → IsMergeFault (files ++ file ∷ []) self.old.limit (of_add (length files) fault)))) }
+        ensures stops { IfErr result (IfOf (λ fault. IfKnown (R.bytes input.old) (λ file.
+            (files : List (List ℕ)) → HasTaken self.old files →
+            IsMergeFault (files ++ file ∷ []) self.old.limit (of_add (length files) fault)))) }
         // A file that can be merged with them, and with others after it, is refused only when out
         // of memory.
-        ensures found { IfErr result (IfOf (λ fault. IfKnown (R.bytes input.old) (λ file. (files more : List (List ℕ)) → HasTaken self.old files → CanMerge ((files ++ file ∷ []) ++ more) self.old.limit → fault ≡ AddFault.Memory))) }
+        ensures found { IfErr result (IfOf (λ fault. IfKnown (R.bytes input.old) (λ file.
+            (files more : List (List ℕ)) → HasTaken self.old files →
+            CanMerge ((files ++ file ∷ []) ++ more) self.old.limit → fault ≡ AddFault.Memory))) }
     {
         self.add_types_at(alloc, input, buffer)
     }
@@ -190,7 +226,8 @@ impl<S: BuildHasher, A: Allocator + Copy> Merge<S, A> {
     /// The canonical list of the types so far. The merge is unchanged. The only fault is `Memory`.
     pub fn finish(&self, alloc: A) -> Result<Canon<A>, JoinFault>
         ensures value { IfOk result (λ canon. IsCanonOf canon (IsType self.now.types)) }
-        ensures taken { IfOk result (λ canon. (files : List (List ℕ)) → HasTaken self.now files → IsCanonOf canon (HasType files)) }
+        ensures taken { IfOk result (λ canon.
+            (files : List (List ℕ)) → HasTaken self.now files → IsCanonOf canon (HasType files)) }
         ensures memory { IfErr result (λ fault. fault ≡ JoinFault.Memory) }
     {
         self.table.finish(alloc)

@@ -42,7 +42,8 @@ fn write_canon<W: Sink, A: Allocator + Copy>(
 ) -> Result<Summary, OutFault<A>>
     requires { length (concat canon.now) ≤ record_limit settings.now }
     ensures settings { AreSettings settings.now }
-    ensures value { IfOk result (WroteFile canon.now settings.now (W.taken out.old) (W.taken out.new)) }
+    ensures value { IfOk result
+        (WroteFile canon.now settings.now (W.taken out.old) (W.taken out.new)) }
     ensures fault { IfErr result (λ fault. (fault ≡ OutFault.Memory) ⊎ (fault ≡ OutFault.Write)) }
     ensures write { IfErr result (λ fault. fault ≡ OutFault.Write → (W.is_broken out.new ≡ true)
         × AppendsPart (W.taken out.old) (W.taken out.new) (merged_file settings.now canon.now)) }
@@ -74,24 +75,47 @@ pub fn merge_to<I: Inputs + Drop, W: Sink, S: BuildHasher + Drop, A: Allocator +
     out: &mut W,
     hasher: S,
 ) -> Result<Summary, OutFault<A>>
-    ensures value { (given : List (List ℕ)) → Give (I.known files) given → IfOk result (Wrote given settings.now (W.taken out.old) (W.taken out.new)) }
-    ensures can { (given : List (List ℕ)) → Give (I.known files) given → OnOk result (CanMerge given (record_limit settings.now)) }
+    ensures value { (given : List (List ℕ)) → Give (I.known files) given →
+        IfOk result (Wrote given settings.now (W.taken out.old) (W.taken out.new)) }
+    ensures can { (given : List (List ℕ)) → Give (I.known files) given →
+        OnOk result (CanMerge given (record_limit settings.now)) }
     // Files that can be merged are refused only when out of memory, or by the sink.
-    ensures found { (given : List (List ℕ)) → Give (I.known files) given → CanMerge given (record_limit settings.now) → IfErr result (λ fault. (fault ≡ OutFault.Merge MergeFault.Memory) ⊎ (fault ≡ OutFault.Memory) ⊎ (fault ≡ OutFault.Write)) }
-    ensures first { (given : List (List ℕ)) → Give (I.known files) given → IfErr result (λ fault. (inner : MergeFault A) → fault ≡ OutFault.Merge inner → IsMergeFault given (record_limit settings.now) inner) }
+    ensures found { (given : List (List ℕ)) → Give (I.known files) given →
+        CanMerge given (record_limit settings.now) →
+        IfErr result (λ fault.
+        (fault ≡ OutFault.Merge MergeFault.Memory) ⊎ (fault ≡ OutFault.Memory)
+        ⊎ (fault ≡ OutFault.Write)) }
+    ensures first { (given : List (List ℕ)) → Give (I.known files) given →
+        IfErr result (λ fault.
+        (inner : MergeFault A) → fault ≡ OutFault.Merge inner →
+        IsMergeFault given (record_limit settings.now) inner) }
     // Reading comes first: every file was read, or the fault is that of the first unread file.
-    ensures reads { IfErr result (λ fault. (inner : MergeFault A) → fault ≡ OutFault.Merge inner → IfSome (I.known files) (λ each. ReadsFirst each inner)) }
-    ensures named { IfErr result (λ fault. (inner : MergeFault A) → fault ≡ OutFault.Merge inner → NamesFault inner) }
+    ensures reads { IfErr result (λ fault.
+        (inner : MergeFault A) → fault ≡ OutFault.Merge inner →
+        IfSome (I.known files) (λ each. ReadsFirst each inner)) }
+    ensures named { IfErr result (λ fault.
+        (inner : MergeFault A) → fault ≡ OutFault.Merge inner → NamesFault inner) }
     ensures read { OnOk result (IfSome (I.known files) (λ each. CanRead each (length each))) }
     // A fault of writing comes only after every file was read, and where all of them can be merged.
-    ensures late_read { IfErr result (λ fault. ((inner : MergeFault A) → fault ≢ OutFault.Merge inner) → IfSome (I.known files) (λ each. CanRead each (length each))) }
-    ensures late_can { (given : List (List ℕ)) → Give (I.known files) given → IfErr result (λ fault. ((inner : MergeFault A) → fault ≢ OutFault.Merge inner) → CanMerge given (record_limit settings.now)) }
+    ensures late_read { IfErr result (λ fault.
+        ((inner : MergeFault A) → fault ≢ OutFault.Merge inner) →
+        IfSome (I.known files) (λ each. CanRead each (length each))) }
+    ensures late_can { (given : List (List ℕ)) → Give (I.known files) given →
+        IfErr result (λ fault.
+        ((inner : MergeFault A) → fault ≢ OutFault.Merge inner) →
+        CanMerge given (record_limit settings.now)) }
     // Files that are refused in one order are refused in any order.
-    ensures any_order { (given : List (List ℕ)) → Give (I.known files) given → IfErr result (λ fault. (inner : MergeFault A) → fault ≡ OutFault.Merge inner → inner ≢ MergeFault.Memory
-        → (others : List (List ℕ)) → SameFiles given others → CanMerge others (record_limit settings.now) → ⊥) }
+    ensures any_order { (given : List (List ℕ)) → Give (I.known files) given →
+        IfErr result (λ fault.
+        (inner : MergeFault A) → fault ≡ OutFault.Merge inner → inner ≢ MergeFault.Memory →
+        (others : List (List ℕ)) → SameFiles given others →
+        CanMerge others (record_limit settings.now) → ⊥) }
     ensures broken { IfErr result (λ fault. fault ≡ OutFault.Write → W.is_broken out.new ≡ true) }
-    ensures write { (given : List (List ℕ)) → Give (I.known files) given → IfErr result (λ fault. fault ≡ OutFault.Write → (W.is_broken out.new ≡ true)
-        × CanMerge given (record_limit settings.now) × WrotePart given settings.now (W.taken out.old) (W.taken out.new)) }
+    ensures write { (given : List (List ℕ)) → Give (I.known files) given →
+        IfErr result (λ fault.
+        fault ≡ OutFault.Write →
+        (W.is_broken out.new ≡ true) × CanMerge given (record_limit settings.now)
+        × WrotePart given settings.now (W.taken out.old) (W.taken out.new)) }
     ensures untouched { IfErr result (λ fault. fault ≢ OutFault.Write → out.new ≡ out.old) }
 {
     let canon = merge_files(alloc, files, settings, hasher)?;

@@ -18,10 +18,14 @@ pub(crate) fn check_types<'a, A: Allocator + Copy>(
     alloc: A,
     records: Records<'a, A>,
 ) -> Result<Types<'a, A>, PdbFault<A>>
-    ensures value { (file : List ℕ) → ListsTypes file records.entry → IfOk result (IsAccepted file) }
+    ensures value { (file : List ℕ) → ListsTypes file records.entry →
+        IfOk result (IsAccepted file) }
     ensures types { IfOk result (λ types. (types ≡ records.entry) × AreTypes types) }
-    ensures first { (file : List ℕ) → ListsTypes file records.entry → IfErr result (λ fault. HasPdbFault file fault ⊎ (fault ≡ PdbFault.Memory)) }
-    ensures refused { (bytes : Bytes) (layout : LayoutView) → RecordsWereRead bytes layout records.entry → IfErr result (λ fault. HasTypeFaultRead bytes layout fault ⊎ (fault ≡ PdbFault.Memory)) }
+    ensures first { (file : List ℕ) → ListsTypes file records.entry →
+        IfErr result (λ fault. HasPdbFault file fault ⊎ (fault ≡ PdbFault.Memory)) }
+    ensures refused { (bytes : Bytes) (layout : LayoutView) →
+        RecordsWereRead bytes layout records.entry →
+        IfErr result (λ fault. HasTypeFaultRead bytes layout fault ⊎ (fault ≡ PdbFault.Memory)) }
 {
     Ok(Types::check(alloc, records)?)
 }
@@ -41,10 +45,13 @@ pub fn read_records<'a, A: Allocator + Copy>(
 ) -> Result<Records<'a, A>, PdbFault<A>>
     ensures value { IfOk result (HasTypeRecords file.now) }
     // A file that has type records is refused only when out of memory.
-    ensures found { (records : List (List ℕ)) → HasTypeRecords file.now records → IfErr result (λ fault. fault ≡ PdbFault.Memory) }
-    ensures first { IfErr result (λ fault. HasRecordsFault file.now fault ⊎ (fault ≡ PdbFault.Memory)) }
+    ensures found { (records : List (List ℕ)) → HasTypeRecords file.now records →
+        IfErr result (λ fault. fault ≡ PdbFault.Memory) }
+    ensures first { IfErr result (λ fault.
+        HasRecordsFault file.now fault ⊎ (fault ≡ PdbFault.Memory)) }
     // Out of memory comes only where the container has no fault.
-    ensures memory { IfErr result (λ fault. fault ≡ PdbFault.Memory → first_failing (layout_checks file.now) ≡ None) }
+    ensures memory { IfErr result (λ fault.
+        fault ≡ PdbFault.Memory → first_failing (layout_checks file.now) ≡ None) }
 {
     buffer.records(alloc, file)
 }
@@ -68,10 +75,12 @@ pub fn read_types<'a, A: Allocator + Copy>(
 ) -> Result<Types<'a, A>, PdbFault<A>>
     ensures value { IfOk result (IsAccepted file.now) }
     // A file that is accepted is refused only when out of memory.
-    ensures found { (records : List (List ℕ)) → IsAccepted file.now records → IfErr result (λ fault. fault ≡ PdbFault.Memory) }
+    ensures found { (records : List (List ℕ)) → IsAccepted file.now records →
+        IfErr result (λ fault. fault ≡ PdbFault.Memory) }
     ensures first { IfErr result (λ fault. HasPdbFault file.now fault ⊎ (fault ≡ PdbFault.Memory)) }
     // Out of memory comes only where the container has no fault.
-    ensures memory { IfErr result (λ fault. fault ≡ PdbFault.Memory → first_failing (layout_checks file.now) ≡ None) }
+    ensures memory { IfErr result (λ fault.
+        fault ≡ PdbFault.Memory → first_failing (layout_checks file.now) ≡ None) }
 {
     let records = buffer.listed(alloc, file)?;
     check_types(alloc, records)

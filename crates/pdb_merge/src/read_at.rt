@@ -30,13 +30,17 @@ pub fn read_records_of<'a, R: ReadAt, A: Allocator + Copy>(
 ) -> Result<Records<'a, A>, AtFault<PdbFault<A>>>
     requires { IfKnown (R.bytes input.old) (λ file. HasLayout file layout.now) }
     ensures keeps { R.bytes input.new ≡ R.bytes input.old }
-    ensures value { IfOk result (λ records. IfKnown (R.bytes input.old) (λ file. HasTypeRecords file records)) }
+    ensures value { IfOk result (λ records.
+        IfKnown (R.bytes input.old) (λ file. HasTypeRecords file records)) }
     // Whatever is known of the file, these are the records of bytes that reads gave.
     ensures texts { IfOk result (RecordsWereRead (R.bytes input.old) layout.now) }
-    ensures first { IfErr result (IfOf (λ fault. IfKnown (R.bytes input.old) (λ file. HasRecordsFault file fault ⊎ (fault ≡ PdbFault.Memory)))) }
+    ensures first { IfErr result (IfOf (λ fault. IfKnown (R.bytes input.old) (λ file.
+        HasRecordsFault file fault ⊎ (fault ≡ PdbFault.Memory)))) }
     // Whatever is known of the file, a fault is that of texts that reads gave.
-    ensures refused { IfErr result (IfOf (λ fault. HasStreamFaultRead (R.bytes input.old) layout.now fault ⊎ (fault ≡ PdbFault.Memory))) }
-    ensures read { IfErr result (λ fault. fault ≡ AtFault.Read → Breaks (R.bytes input.old) (R.is_broken input.new)) }
+    ensures refused { IfErr result (IfOf (λ fault.
+        HasStreamFaultRead (R.bytes input.old) layout.now fault ⊎ (fault ≡ PdbFault.Memory))) }
+    ensures read { IfErr result (λ fault.
+        fault ≡ AtFault.Read → Breaks (R.bytes input.old) (R.is_broken input.new)) }
 {
     buffer.records_of(alloc, input, layout)
 }
@@ -56,13 +60,17 @@ pub fn read_types_of<'a, R: ReadAt, A: Allocator + Copy>(
     requires bytes { IfKnown (R.bytes input.old) AreBytes }
     requires layout { IfKnown (R.bytes input.old) (λ file. HasLayout file layout.now) }
     ensures keeps { R.bytes input.new ≡ R.bytes input.old }
-    ensures value { IfOk result (λ types. IfKnown (R.bytes input.old) (λ file. IsAccepted file types)) }
+    ensures value { IfOk result (λ types.
+        IfKnown (R.bytes input.old) (λ file. IsAccepted file types)) }
     // Whatever is known of the file, these are the types of bytes that reads gave.
     ensures texts { IfOk result (TypesWereRead (R.bytes input.old) layout.now) }
-    ensures first { IfErr result (IfOf (λ fault. IfKnown (R.bytes input.old) (λ file. HasPdbFault file fault ⊎ (fault ≡ PdbFault.Memory)))) }
+    ensures first { IfErr result (IfOf (λ fault.
+        IfKnown (R.bytes input.old) (λ file. HasPdbFault file fault ⊎ (fault ≡ PdbFault.Memory)))) }
     // Whatever is known of the file, a fault is that of texts that reads gave.
-    ensures refused { IfErr result (IfOf (λ fault. HasPdbFaultRead (R.bytes input.old) layout.now fault ⊎ (fault ≡ PdbFault.Memory))) }
-    ensures read { IfErr result (λ fault. fault ≡ AtFault.Read → Breaks (R.bytes input.old) (R.is_broken input.new)) }
+    ensures refused { IfErr result (IfOf (λ fault.
+        HasPdbFaultRead (R.bytes input.old) layout.now fault ⊎ (fault ≡ PdbFault.Memory))) }
+    ensures read { IfErr result (λ fault.
+        fault ≡ AtFault.Read → Breaks (R.bytes input.old) (R.is_broken input.new)) }
 {
     let records = buffer.listed_of(alloc, input, layout)?;
     match check_types(alloc, records) {
@@ -84,16 +92,26 @@ pub fn read_records_at<'a, R: ReadAt, A: Allocator + Copy>(
     buffer: &'a mut Buffer<A>,
 ) -> Result<Records<'a, A>, AtFault<PdbFault<A>>>
     ensures keeps { R.bytes input.new ≡ R.bytes input.old }
-    ensures value { IfOk result (λ records. IfKnown (R.bytes input.old) (λ file. HasTypeRecords file records)) }
+    ensures value { IfOk result (λ records.
+        IfKnown (R.bytes input.old) (λ file. HasTypeRecords file records)) }
     // Whatever is known of the file, these are the records of texts that reads gave.
-    ensures texts { IfOk result (λ records. (layout : LayoutView) × HasTexts (R.bytes input.old) layout × RecordsWereRead (R.bytes input.old) layout records) }
-    ensures found { IfErr result (λ fault. IfKnown (R.bytes input.old) (λ file. (records : List (List ℕ)) → HasTypeRecords file records → fault ≡ AtFault.Of PdbFault.Memory)) }
-    ensures first { IfErr result (IfOf (λ fault. IfKnown (R.bytes input.old) (λ file. HasRecordsFault file fault ⊎ (fault ≡ PdbFault.Memory)))) }
+    ensures texts { IfOk result (λ records.
+        (layout : LayoutView) × HasTexts (R.bytes input.old) layout
+        × RecordsWereRead (R.bytes input.old) layout records) }
+    ensures found { IfErr result (λ fault. IfKnown (R.bytes input.old) (λ file.
+        (records : List (List ℕ)) → HasTypeRecords file records →
+        fault ≡ AtFault.Of PdbFault.Memory)) }
+    ensures first { IfErr result (IfOf (λ fault. IfKnown (R.bytes input.old) (λ file.
+        HasRecordsFault file fault ⊎ (fault ≡ PdbFault.Memory)))) }
     // Whatever is known of the file, a fault is that of texts that reads gave.
-    ensures refused { IfErr result (IfOf (λ fault. HasFaultOfTexts HasStreamFaultRead (R.bytes input.old) fault ⊎ (fault ≡ PdbFault.Memory))) }
+    ensures refused { IfErr result (IfOf (λ fault.
+        HasFaultOfTexts HasStreamFaultRead (R.bytes input.old) fault ⊎ (fault ≡ PdbFault.Memory))) }
     // Out of memory comes only where the container has no fault.
-    ensures memory { IfErr result (IfOf (λ fault. fault ≡ PdbFault.Memory → IfKnown (R.bytes input.old) (λ file. first_failing (layout_checks file) ≡ None))) }
-    ensures read { IfErr result (λ fault. fault ≡ AtFault.Read → Breaks (R.bytes input.old) (R.is_broken input.new)) }
+    ensures memory { IfErr result (IfOf (λ fault.
+        fault ≡ PdbFault.Memory →
+        IfKnown (R.bytes input.old) (λ file. first_failing (layout_checks file) ≡ None))) }
+    ensures read { IfErr result (λ fault.
+        fault ≡ AtFault.Read → Breaks (R.bytes input.old) (R.is_broken input.new)) }
 {
     buffer.records_at(alloc, input)
 }
@@ -105,12 +123,20 @@ fn types_at<'a, R: ReadAt, A: Allocator + Copy>(
     buffer: &'a mut Buffer<A>,
 ) -> Result<Types<'a, A>, AtFault<PdbFault<A>>>
     ensures keeps { R.bytes input.new ≡ R.bytes input.old }
-    ensures value { IfOk result (λ types. IfKnown (R.bytes input.old) (λ file. IsAccepted file types)) }
-    ensures texts { IfOk result (λ types. (layout : LayoutView) × HasTexts (R.bytes input.old) layout × TypesWereRead (R.bytes input.old) layout types) }
-    ensures first { IfErr result (IfOf (λ fault. IfKnown (R.bytes input.old) (λ file. HasPdbFault file fault ⊎ (fault ≡ PdbFault.Memory)))) }
-    ensures refused { IfErr result (IfOf (λ fault. HasFaultOfTexts HasPdbFaultRead (R.bytes input.old) fault ⊎ (fault ≡ PdbFault.Memory))) }
-    ensures memory { IfErr result (IfOf (λ fault. fault ≡ PdbFault.Memory → IfKnown (R.bytes input.old) (λ file. first_failing (layout_checks file) ≡ None))) }
-    ensures read { IfErr result (λ fault. fault ≡ AtFault.Read → Breaks (R.bytes input.old) (R.is_broken input.new)) }
+    ensures value { IfOk result (λ types.
+        IfKnown (R.bytes input.old) (λ file. IsAccepted file types)) }
+    ensures texts { IfOk result (λ types.
+        (layout : LayoutView) × HasTexts (R.bytes input.old) layout
+        × TypesWereRead (R.bytes input.old) layout types) }
+    ensures first { IfErr result (IfOf (λ fault.
+        IfKnown (R.bytes input.old) (λ file. HasPdbFault file fault ⊎ (fault ≡ PdbFault.Memory)))) }
+    ensures refused { IfErr result (IfOf (λ fault.
+        HasFaultOfTexts HasPdbFaultRead (R.bytes input.old) fault ⊎ (fault ≡ PdbFault.Memory))) }
+    ensures memory { IfErr result (IfOf (λ fault.
+        fault ≡ PdbFault.Memory →
+        IfKnown (R.bytes input.old) (λ file. first_failing (layout_checks file) ≡ None))) }
+    ensures read { IfErr result (λ fault.
+        fault ≡ AtFault.Read → Breaks (R.bytes input.old) (R.is_broken input.new)) }
 {
     let records = buffer.listed_at(alloc, input)?;
     match check_types(alloc, records) {
@@ -132,17 +158,26 @@ pub fn read_types_at<'a, R: ReadAt, A: Allocator + Copy>(
     buffer: &'a mut Buffer<A>,
 ) -> Result<Types<'a, A>, AtFault<PdbFault<A>>>
     ensures keeps { R.bytes input.new ≡ R.bytes input.old }
-    ensures value { IfOk result (λ types. IfKnown (R.bytes input.old) (λ file. IsAccepted file types)) }
+    ensures value { IfOk result (λ types.
+        IfKnown (R.bytes input.old) (λ file. IsAccepted file types)) }
     // Whatever is known of the file, these are the types of texts that reads gave.
-    ensures texts { IfOk result (λ types. (layout : LayoutView) × HasTexts (R.bytes input.old) layout × TypesWereRead (R.bytes input.old) layout types) }
+    ensures texts { IfOk result (λ types.
+        (layout : LayoutView) × HasTexts (R.bytes input.old) layout
+        × TypesWereRead (R.bytes input.old) layout types) }
     // A file that is accepted is refused only when out of memory.
-    ensures found { IfErr result (λ fault. IfKnown (R.bytes input.old) (λ file. (records : List (List ℕ)) → IsAccepted file records → fault ≡ AtFault.Of PdbFault.Memory)) }
-    ensures first { IfErr result (IfOf (λ fault. IfKnown (R.bytes input.old) (λ file. HasPdbFault file fault ⊎ (fault ≡ PdbFault.Memory)))) }
+    ensures found { IfErr result (λ fault. IfKnown (R.bytes input.old) (λ file.
+        (records : List (List ℕ)) → IsAccepted file records → fault ≡ AtFault.Of PdbFault.Memory)) }
+    ensures first { IfErr result (IfOf (λ fault.
+        IfKnown (R.bytes input.old) (λ file. HasPdbFault file fault ⊎ (fault ≡ PdbFault.Memory)))) }
     // Whatever is known of the file, a fault is that of texts that reads gave.
-    ensures refused { IfErr result (IfOf (λ fault. HasFaultOfTexts HasPdbFaultRead (R.bytes input.old) fault ⊎ (fault ≡ PdbFault.Memory))) }
+    ensures refused { IfErr result (IfOf (λ fault.
+        HasFaultOfTexts HasPdbFaultRead (R.bytes input.old) fault ⊎ (fault ≡ PdbFault.Memory))) }
     // Out of memory comes only where the container has no fault.
-    ensures memory { IfErr result (IfOf (λ fault. fault ≡ PdbFault.Memory → IfKnown (R.bytes input.old) (λ file. first_failing (layout_checks file) ≡ None))) }
-    ensures read { IfErr result (λ fault. fault ≡ AtFault.Read → Breaks (R.bytes input.old) (R.is_broken input.new)) }
+    ensures memory { IfErr result (IfOf (λ fault.
+        fault ≡ PdbFault.Memory →
+        IfKnown (R.bytes input.old) (λ file. first_failing (layout_checks file) ≡ None))) }
+    ensures read { IfErr result (λ fault.
+        fault ≡ AtFault.Read → Breaks (R.bytes input.old) (R.is_broken input.new)) }
 {
     types_at(alloc, input, buffer)
 }

@@ -36,11 +36,18 @@ fn write_streams<'a, W: Sink, A: Allocator + Copy>(
     out: &mut W,
 ) -> Result<(), WriteFault>
     requires { IsBlockSize block_size }
-    ensures value { OnOk result (Appends (W.taken out.old) (W.taken out.new) (image block_size (parts_contents info.now header.now records.now))) }
-    ensures found { Writable block_size (parts_contents info.now header.now records.now) → IfErr result (λ fault. (fault ≡ WriteFault.Memory) ⊎ (fault ≡ WriteFault.Write)) }
-    ensures image { IfErr result (λ fault. fault ≡ WriteFault.Image → Writable block_size (parts_contents info.now header.now records.now) → ⊥) }
-    ensures write { IfErr result (λ fault. fault ≡ WriteFault.Write → (W.is_broken out.new ≡ true)
-        × AppendsPart (W.taken out.old) (W.taken out.new) (image block_size (parts_contents info.now header.now records.now))) }
+    ensures value { OnOk result (Appends (W.taken out.old) (W.taken out.new)
+        (image block_size (parts_contents info.now header.now records.now))) }
+    ensures found { Writable block_size (parts_contents info.now header.now records.now) →
+        IfErr result (λ fault. (fault ≡ WriteFault.Memory) ⊎ (fault ≡ WriteFault.Write)) }
+    ensures image { IfErr result (λ fault.
+        fault ≡ WriteFault.Image →
+        Writable block_size (parts_contents info.now header.now records.now) → ⊥) }
+    ensures write { IfErr result (λ fault.
+        fault ≡ WriteFault.Write →
+        (W.is_broken out.new ≡ true)
+        × AppendsPart (W.taken out.old) (W.taken out.new)
+        (image block_size (parts_contents info.now header.now records.now))) }
     ensures untouched { IfErr result (λ fault. fault ≢ WriteFault.Write → out.new ≡ out.old) }
 {
     write_parts(
@@ -55,7 +62,9 @@ fn write_streams<'a, W: Sink, A: Allocator + Copy>(
 /// no such file.
 fn file_len(block_size: u32, bytes: u32) -> Option<u32>
     requires { IsBlockSize block_size }
-    ensures some { IfSome result (λ n. Fits block_size (merged_sizes bytes) × (56 + bytes < 2 ^ 32) × (n ≡ image_length block_size (merged_sizes bytes))) }
+    ensures some { IfSome result (λ n.
+        Fits block_size (merged_sizes bytes) × (56 + bytes < 2 ^ 32)
+        × (n ≡ image_length block_size (merged_sizes bytes))) }
     ensures none { IfNone result (Fits block_size (merged_sizes bytes) → 56 + bytes < 2 ^ 32 → ⊥) }
 {
     image_len(&[0, 52, bytes.checked_add(56)?, 0, 0], block_size)
@@ -79,11 +88,16 @@ pub fn write_merged<W: Sink, A: Allocator + Copy>(
     settings: &Settings,
     out: &mut W,
 ) -> Result<(), WriteFault>
-    ensures value { OnOk result (Appends (W.taken out.old) (W.taken out.new) (merged_file settings.now canon.now)) }
-    ensures image { IfErr result (λ fault. fault ≡ WriteFault.Image → Writable settings.now.block_size (merged_contents settings.now canon.now) → ⊥) }
-    ensures found { length (concat canon.now) ≤ record_limit settings.now → IfErr result (λ fault. (fault ≡ WriteFault.Memory) ⊎ (fault ≡ WriteFault.Write)) }
+    ensures value { OnOk result
+        (Appends (W.taken out.old) (W.taken out.new) (merged_file settings.now canon.now)) }
+    ensures image { IfErr result (λ fault.
+        fault ≡ WriteFault.Image →
+        Writable settings.now.block_size (merged_contents settings.now canon.now) → ⊥) }
+    ensures found { length (concat canon.now) ≤ record_limit settings.now →
+        IfErr result (λ fault. (fault ≡ WriteFault.Memory) ⊎ (fault ≡ WriteFault.Write)) }
     // Every answer except `Image` comes only where there is such a file.
-    ensures writable { (result ≡ Err WriteFault.Image) ⊎ Writable settings.now.block_size (merged_contents settings.now canon.now) }
+    ensures writable { (result ≡ Err WriteFault.Image)
+        ⊎ Writable settings.now.block_size (merged_contents settings.now canon.now) }
     ensures write { IfErr result (λ fault. fault ≡ WriteFault.Write → (W.is_broken out.new ≡ true)
         × AppendsPart (W.taken out.old) (W.taken out.new) (merged_file settings.now canon.now)) }
     ensures untouched { IfErr result (λ fault. fault ≢ WriteFault.Write → out.new ≡ out.old) }

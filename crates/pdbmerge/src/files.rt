@@ -89,7 +89,8 @@ impl<'a, R: Files> WholeFile<'a, R> {
 
     /// Opens the file, unless that was tried before.
     fn open(&mut self)
-        ensures { ⟦<WholeFile<'a, R> as Source>⟧.is_broken self.new ≡ ⟦<WholeFile<'a, R> as Source>⟧.is_broken self.old }
+        ensures { ⟦<WholeFile<'a, R> as Source>⟧.is_broken self.new
+            ≡ ⟦<WholeFile<'a, R> as Source>⟧.is_broken self.old }
     {
         if let State::Closed = &self.state {
             self.state = match fs::open(self.rt, self.path) {

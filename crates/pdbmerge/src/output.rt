@@ -66,8 +66,10 @@ impl<'a, R: Files> NewFile<'a, R> {
 
     /// Creates the file, unless that was tried before. What a created file took stays.
     fn create(&mut self)
-        ensures same { ⟦<NewFile<'a, R> as Sink>⟧.is_broken self.new ≡ ⟦<NewFile<'a, R> as Sink>⟧.is_broken self.old }
-        ensures keeps { Keeps (⟦<NewFile<'a, R> as Sink>⟧.taken self.old) (⟦<NewFile<'a, R> as Sink>⟧.taken self.new) }
+        ensures same { ⟦<NewFile<'a, R> as Sink>⟧.is_broken self.new
+            ≡ ⟦<NewFile<'a, R> as Sink>⟧.is_broken self.old }
+        ensures keeps { Keeps (⟦<NewFile<'a, R> as Sink>⟧.taken self.old)
+            (⟦<NewFile<'a, R> as Sink>⟧.taken self.new) }
     {
         if let State::Absent = &self.state {
             self.state = match fs::create(self.rt, self.path) {

@@ -10,7 +10,8 @@ use std::hash::{BuildHasher, Hasher};
 
 /// The hash of a text: the high half of the number that the hasher returns.
 pub(crate) fn hash_of<S: BuildHasher>(hasher: &S, text: &[u8]) -> u32
-    ensures { result ≡ S.Hasher.finish (S.Hasher.write (S.build_hasher hasher.now) text.now) / 2 ^ 32 }
+    ensures { result
+        ≡ S.Hasher.finish (S.Hasher.write (S.build_hasher hasher.now) text.now) / 2 ^ 32 }
 {
     let mut state = hasher.build_hasher();
     state.write(text);
@@ -25,8 +26,10 @@ pub(crate) fn find<A: Allocator>(
     hash: u32,
 ) -> Option<usize>
     requires many { length hashes.now ≡ length texts.now }
-    requires same { (k : ℕ) → k < length texts.now → get_or texts.now k [] ≡ text.now → get_or hashes.now k 0 ≡ hash }
-    ensures found { IfSome result (λ k. (k < length texts.now) × (get_or texts.now k [] ≡ text.now)) }
+    requires same { (k : ℕ) → k < length texts.now → get_or texts.now k [] ≡ text.now →
+        get_or hashes.now k 0 ≡ hash }
+    ensures found { IfSome result (λ k.
+        (k < length texts.now) × (get_or texts.now k [] ≡ text.now)) }
     ensures none { IfNone result (Contains texts.now text.now → ⊥) }
 {
     let mut candidate = hashes.newest(hash);

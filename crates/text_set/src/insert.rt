@@ -47,10 +47,12 @@ pub(crate) fn insert<A: Allocator>(
     requires short { length (concat texts.old) + length text.now < 2 ^ 34 }
     requires few { length texts.old + 1 < 2 ^ 31 }
     requires many { length hashes.old ≡ length texts.old }
-    requires same { (k : ℕ) → k < length texts.old → get_or texts.old k [] ≡ text.now → get_or hashes.old k 0 ≡ hash }
+    requires same { (k : ℕ) → k < length texts.old → get_or texts.old k [] ≡ text.now →
+        get_or hashes.old k 0 ≡ hash }
     ensures at { IfOk result (λ k. (k < length texts.new) × (get_or texts.new k [] ≡ text.now)) }
     ensures small { IfOk result (λ k. k < 2 ^ 31) }
-    ensures placed { IfOk result (λ _. Placed texts.old texts.new hashes.old hashes.new text.now hash) }
+    ensures placed { IfOk result (λ _.
+        Placed texts.old texts.new hashes.old hashes.new text.now hash) }
     ensures texts_kept { IfErr result (λ _. texts.new ≡ texts.old) }
     ensures hashes_kept { IfErr result (λ _. hashes.new ≡ hashes.old) }
 {

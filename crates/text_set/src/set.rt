@@ -31,7 +31,11 @@ impl<S: BuildHasher, A: Allocator> Model for TextSet<S, A> {
 
     ghost view = { λ t. t.texts };
 
-    ghost invariant = { λ t. AreDistinct t.texts × (t.hashes ≡ map (λ x. S.Hasher.finish (S.Hasher.write (S.build_hasher t.hasher) x) / 2 ^ 32) t.texts) };
+    ghost invariant = { λ t.
+        AreDistinct t.texts
+        × (t.hashes
+        ≡ map (λ x. S.Hasher.finish (S.Hasher.write (S.build_hasher t.hasher) x) / 2 ^ 32)
+        t.texts) };
 }
 
 impl<S: BuildHasher, A: Allocator + Copy> TextSet<S, A> {

@@ -26,7 +26,9 @@ impl<A: Allocator> Model for Graph<A> {
 
     ghost view = { λ g. texts_in g.named.items 0 g.ends.items };
 
-    ghost invariant = { λ g. Rise 0 g.ends.items (length g.named.items) × (length g.named.items < 2 ^ 32) × (length g.ends.items < 2 ^ 32) };
+    ghost invariant = { λ g.
+        Rise 0 g.ends.items (length g.named.items) × (length g.named.items < 2 ^ 32)
+        × (length g.ends.items < 2 ^ 32) };
 }
 
 /// Where the part of a node begins in the list of named nodes.

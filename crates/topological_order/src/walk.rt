@@ -38,7 +38,8 @@ fn first_unplaced(row: &[u32], from: usize, marks: &[Mark]) -> usize
     requires inside { (n : ℕ) → Contains row.now n → n < length marks.now }
     requires passed { IsPassed marks.now row.now from }
     ensures passed { IsPassed marks.now row.now result }
-    ensures unplaced { result < length row.now → mark_at marks.now (get_or row.now result 0) ≢ Placed }
+    ensures unplaced { result < length row.now →
+        mark_at marks.now (get_or row.now result 0) ≢ Placed }
 {
     let mut at = from;
     while at < row.len() {
@@ -82,10 +83,15 @@ impl<A: Allocator> Walk<A> {
     /// that leads into a cycle, the path is cleared.
     fn step(&mut self, graph: &Graph<A>, top: u32) -> Result<(), AllocError>
         requires nodes { NamesNodes graph.now }
-        requires walk { IsWalk graph.now self.old.passed.items self.old.marks.items (self.old.path.items ++ top ∷ []) self.old.order.items }
-        ensures walk { OnOk result (IsWalk graph.now self.new.passed.items self.new.marks.items self.new.path.items self.new.order.items) }
+        requires walk { IsWalk graph.now self.old.passed.items self.old.marks.items
+            (self.old.path.items ++ top ∷ []) self.old.order.items }
+        ensures walk { OnOk result
+            (IsWalk graph.now self.new.passed.items self.new.marks.items self.new.path.items
+            self.new.order.items) }
         ensures marked { OnOk result (StayMarked self.old.marks.items self.new.marks.items) }
-        ensures less { OnOk result (2 * new_count self.new.marks.items + length self.new.path.items ≤ 2 * new_count self.old.marks.items + length self.old.path.items) }
+        ensures less { OnOk result
+            (2 * new_count self.new.marks.items + length self.new.path.items
+            ≤ 2 * new_count self.old.marks.items + length self.old.path.items) }
     {
         let named = graph.get(top as usize);
         let passed = self.passed[top as usize] as usize;
@@ -110,8 +116,10 @@ impl<A: Allocator> Walk<A> {
     /// Walks on until the path is empty.
     fn follow(&mut self, graph: &Graph<A>) -> Result<(), AllocError>
         requires nodes { NamesNodes graph.now }
-        requires walk { IsWalk graph.now self.old.passed.items self.old.marks.items self.old.path.items self.old.order.items }
-        ensures walk { OnOk result (IsWalk graph.now self.new.passed.items self.new.marks.items [] self.new.order.items) }
+        requires walk { IsWalk graph.now self.old.passed.items self.old.marks.items
+            self.old.path.items self.old.order.items }
+        ensures walk { OnOk result
+            (IsWalk graph.now self.new.passed.items self.new.marks.items [] self.new.order.items) }
         ensures path { OnOk result (self.new.path.items ≡ []) }
         ensures marked { OnOk result (StayMarked self.old.marks.items self.new.marks.items) }
     {
@@ -126,8 +134,10 @@ impl<A: Allocator> Walk<A> {
         requires nodes { NamesNodes graph.now }
         requires inside { root < length self.old.marks.items }
         requires path { self.old.path.items ≡ [] }
-        requires walk { IsWalk graph.now self.old.passed.items self.old.marks.items [] self.old.order.items }
-        ensures walk { OnOk result (IsWalk graph.now self.new.passed.items self.new.marks.items [] self.new.order.items) }
+        requires walk { IsWalk graph.now self.old.passed.items self.old.marks.items []
+            self.old.order.items }
+        ensures walk { OnOk result
+            (IsWalk graph.now self.new.passed.items self.new.marks.items [] self.new.order.items) }
         ensures path { OnOk result (self.new.path.items ≡ []) }
         ensures marked { OnOk result (StayMarked self.old.marks.items self.new.marks.items) }
         ensures root { OnOk result (mark_at self.new.marks.items root ≢ New) }
@@ -143,9 +153,11 @@ impl<A: Allocator> Walk<A> {
 /// Walks from each node.
 pub fn walk_all<A: Allocator + Copy>(alloc: A, graph: &Graph<A>) -> Result<Walk<A>, AllocError>
     requires { NamesNodes graph.now }
-    ensures walk { IfOk result (λ walk. IsWalk graph.now walk.passed.items walk.marks.items [] walk.order.items) }
+    ensures walk { IfOk result (λ walk.
+        IsWalk graph.now walk.passed.items walk.marks.items [] walk.order.items) }
     ensures few { IfOk result (λ walk. length walk.marks.items < 2 ^ 32) }
-    ensures marked { IfOk result (λ walk. (i : ℕ) → i < length graph.now → mark_at walk.marks.items i ≢ New) }
+    ensures marked { IfOk result (λ walk.
+        (i : ℕ) → i < length graph.now → mark_at walk.marks.items i ≢ New) }
 {
     let len = graph.len();
     let mut walk = Walk {

@@ -28,7 +28,8 @@ impl<'r, 'a, A: Allocator> Model for Cursor<'r, 'a, A> {
 
     ghost view = { λ c. c.records.now };
 
-    ghost invariant = { λ c. IsFramed c.left.now × (records_in c.left.now ≡ drop c.next c.records.now) };
+    ghost invariant = { λ c.
+        IsFramed c.left.now × (records_in c.left.now ≡ drop c.next c.records.now) };
 }
 
 /// The bytes of the records from `position` on. Those from `next` on are `left`.

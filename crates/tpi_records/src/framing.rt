@@ -52,7 +52,9 @@ pub fn framed(stream: &[u8], header: TpiHeader) -> &[u8]
 /// Returns whether there was memory for it.
 fn keep_start<A: Allocator>(starts: &mut Vec<u32, A>, position: u32, start: usize) -> bool
     requires { start < 2 ^ 32 }
-    ensures { IsTrue result → starts.new.items ≡ (if position % 64 == 0 then starts.old.items ++ start ∷ [] else starts.old.items) }
+    ensures { IsTrue result →
+        starts.new.items
+        ≡ (if position % 64 == 0 then starts.old.items ++ start ∷ [] else starts.old.items) }
 {
     if position as usize % STRIDE == 0 {
         starts.push(start as u32).is_ok()
@@ -74,8 +76,10 @@ pub fn check_records<A: Allocator>(
     requires empty { starts.old.items ≡ [] }
     ensures framed { IfOk result (λ _. IsFramed bytes.now) }
     ensures counted { IfOk result (λ _. said ≡ length (records_in bytes.now)) }
-    ensures starts { IfOk result (λ kept. IsTrue kept → starts.new.items ≡ starts_below (records_in bytes.now) (starts_for said)) }
-    ensures first { IfErr result (λ fault. HasFlaw bytes.now fault ⊎ IsMiscounted bytes.now said fault) }
+    ensures starts { IfOk result (λ kept.
+        IsTrue kept → starts.new.items ≡ starts_below (records_in bytes.now) (starts_for said)) }
+    ensures first { IfErr result (λ fault.
+        HasFlaw bytes.now fault ⊎ IsMiscounted bytes.now said fault) }
 {
     let mut start = 0;
     let mut found = 0;

@@ -39,7 +39,9 @@ impl<'a, A: Allocator> Model for Records<'a, A> {
 
     ghost view = { λ r. records_in r.bytes.now };
 
-    ghost invariant = { λ r. IsFramed r.bytes.now × (r.count ≡ length (records_in r.bytes.now)) × (r.starts.items ≡ starts_below (records_in r.bytes.now) (starts_for r.count)) };
+    ghost invariant = { λ r.
+        IsFramed r.bytes.now × (r.count ≡ length (records_in r.bytes.now))
+        × (r.starts.items ≡ starts_below (records_in r.bytes.now) (starts_for r.count)) };
 }
 
 impl<'a, A: Allocator + Copy> Records<'a, A> {
@@ -60,10 +62,13 @@ impl<'a, A: Allocator + Copy> Records<'a, A> {
     pub fn read(alloc: A, stream: &'a [u8]) -> Result<Records<'a, A>, TpiFault>
         ensures value { IfOk result (HasRecords stream.now) }
         // A stream that has records is refused only when out of memory.
-        ensures found { (records : List (List ℕ)) → HasRecords stream.now records → IfErr result (λ fault. fault ≡ TpiFault.Memory) }
+        ensures found { (records : List (List ℕ)) → HasRecords stream.now records →
+            IfErr result (λ fault. fault ≡ TpiFault.Memory) }
         // The fault is `Memory` only where the stream has no fault.
-        ensures first { IfErr result (λ fault. IsFirstFault stream.now fault
-            ⊎ ((fault ≡ TpiFault.Memory) × ((records : List (List ℕ)) × HasRecords stream.now records))) }
+        ensures first { IfErr result (λ fault.
+            IsFirstFault stream.now fault
+            ⊎ ((fault ≡ TpiFault.Memory)
+            × ((records : List (List ℕ)) × HasRecords stream.now records))) }
         ensures few { IfOk result (λ records. 4 * length records ≤ length stream.now) }
     {
         let header = TpiHeader::read(stream)?;

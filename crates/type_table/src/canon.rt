@@ -63,10 +63,14 @@ impl<A: Allocator + Copy> Canon<A> {
     /// This list stays as it is in any case. The new list is allocated. While it is made, a table
     /// of the union is allocated too.
     pub fn join(&self, alloc: A, types: &Types<'_, A>, limit: u32) -> Result<Canon<A>, JoinFault>
-        ensures value { IfOk result (λ canon. IsCanonOf canon (λ t. IsType self.now t ⊎ IsType types.now t)) }
+        ensures value { IfOk result (λ canon.
+            IsCanonOf canon (λ t. IsType self.now t ⊎ IsType types.now t)) }
         ensures within { IfOk result (λ canon. length (concat canon) ≤ limit) }
         // The union is larger than the limit, and has this many bytes.
-        ensures large { IfErr result (λ fault. (bytes : ℕ) → fault ≡ JoinFault.TooLarge bytes → (limit < bytes) × ((l : List Tree) × IsUnion l self.now types.now × (weight l ≡ bytes))) }
+        ensures large { IfErr result (λ fault.
+            (bytes : ℕ) → fault ≡ JoinFault.TooLarge bytes →
+            (limit < bytes)
+            × ((l : List Tree) × IsUnion l self.now types.now × (weight l ≡ bytes))) }
     {
         let hasher: BuildHasherDefault<FoldHasher> = BuildHasherDefault::new();
         let mut table = Table::from_canon(alloc, hasher, self)?;

@@ -22,7 +22,8 @@ fn same_part(one: &[u8], other: &[u8], from: usize, to: usize) -> bool
     requires order { from ≤ to }
     requires inside { to ≤ length one.now }
     requires both { length one.now ≡ length other.now }
-    ensures { IsTrue result → take (to - from) (drop from one.now) ≡ take (to - from) (drop from other.now) }
+    ensures { IsTrue result →
+        take (to - from) (drop from one.now) ≡ take (to - from) (drop from other.now) }
 {
     one[from..to] == other[from..to]
 }
@@ -65,7 +66,9 @@ pub fn is_at<S: BuildHasher, A: Allocator>(
     numbers: &[u32],
 ) -> bool
     requires table { IsTable texts.now }
-    ensures at { IsTrue result → (position < length texts.now) × (get_or texts.now position [] ≡ renumbered (λ k. get_or numbers.now k 0) bytes.now) }
+    ensures at { IsTrue result →
+        (position < length texts.now)
+        × (get_or texts.now position [] ≡ renumbered (λ k. get_or numbers.now k 0) bytes.now) }
     ensures small { IsTrue result → position < 2 ^ 31 }
     ensures bytes { IsTrue result → AreBytes (renumbered (λ k. get_or numbers.now k 0) bytes.now) }
     ensures checked { IsTrue result → IsChecked bytes.now }

@@ -43,9 +43,13 @@ fn put_record<S: BuildHasher, A: Allocator>(
     requires few { length (concat texts.old) + length bytes.now < 2 ^ 33 }
     ensures checked { IfSome result (λ _. IsChecked bytes.now) }
     ensures earlier { IfSome result (λ _. NamesThere (length numbers.now) (references bytes.now)) }
-    ensures at { IfSome result (λ k. (k < length texts.new) × (get_or texts.new k [] ≡ renumbered (λ p. get_or numbers.now p 0) bytes.now)) }
-    ensures holds { IfSome result (λ _. Holds texts.old texts.new (renumbered (λ p. get_or numbers.now p 0) bytes.now)) }
-    ensures bytes { IfSome result (λ _. AreBytes (renumbered (λ p. get_or numbers.now p 0) bytes.now)) }
+    ensures at { IfSome result (λ k.
+        (k < length texts.new)
+        × (get_or texts.new k [] ≡ renumbered (λ p. get_or numbers.now p 0) bytes.now)) }
+    ensures holds { IfSome result (λ _.
+        Holds texts.old texts.new (renumbered (λ p. get_or numbers.now p 0) bytes.now)) }
+    ensures bytes { IfSome result (λ _.
+        AreBytes (renumbered (λ p. get_or numbers.now p 0) bytes.now)) }
     ensures small { IfSome result (λ k. k < 2 ^ 31) }
     ensures none { IfNone result (texts.new ≡ texts.old) }
 {
@@ -70,7 +74,8 @@ pub fn add_ordered<S: BuildHasher, A: Allocator + Copy>(
     requires short { length (concat texts.old) < 2 ^ 32 }
     ensures types { IfSome result (λ _. AreTypes records.now) }
     ensures table { IfSome result (λ _. IsTable texts.new) }
-    ensures value { IfSome result (λ _. (t : Tree) → IsType texts.new t ↔ (IsType texts.old t ⊎ IsType records.now t)) }
+    ensures value { IfSome result (λ _.
+        (t : Tree) → IsType texts.new t ↔ (IsType texts.old t ⊎ IsType records.now t)) }
     ensures few { IfSome result (λ _. length texts.new < 2 ^ 31) }
     ensures front { StartsWith texts.new texts.old }
 {

@@ -51,9 +51,13 @@ fn add_record<S: BuildHasher, A: Allocator>(
     requires checked { IsChecked bytes.now }
     requires named { AreNumbered numbers.now (references bytes.now) }
     requires few { length (concat texts.old) + length bytes.now < 2 ^ 33 }
-    ensures at { IfOk result (λ k. (k < length texts.new) × (get_or texts.new k [] ≡ renumbered (λ p. get_or numbers.now p 0) bytes.now)) }
-    ensures holds { IfOk result (λ _. Holds texts.old texts.new (renumbered (λ p. get_or numbers.now p 0) bytes.now)) }
-    ensures bytes { IfOk result (λ _. AreBytes (renumbered (λ p. get_or numbers.now p 0) bytes.now)) }
+    ensures at { IfOk result (λ k.
+        (k < length texts.new)
+        × (get_or texts.new k [] ≡ renumbered (λ p. get_or numbers.now p 0) bytes.now)) }
+    ensures holds { IfOk result (λ _.
+        Holds texts.old texts.new (renumbered (λ p. get_or numbers.now p 0) bytes.now)) }
+    ensures bytes { IfOk result (λ _.
+        AreBytes (renumbered (λ p. get_or numbers.now p 0) bytes.now)) }
     ensures small { IfOk result (λ k. k < 2 ^ 31) }
     ensures err { IfErr result (λ _. texts.new ≡ texts.old) }
 {
@@ -73,7 +77,9 @@ fn add_all<S: BuildHasher, A: Allocator + Copy>(
 ) -> Result<(), AllocError>
     requires table { IsTable texts.old }
     requires short { length (concat texts.old) < 2 ^ 32 }
-    ensures ok { IfOk result (λ _. IsTable texts.new × ((t : Tree) → IsType texts.new t ↔ (IsType texts.old t ⊎ IsType types.now t))) }
+    ensures ok { IfOk result (λ _.
+        IsTable texts.new
+        × ((t : Tree) → IsType texts.new t ↔ (IsType texts.old t ⊎ IsType types.now t))) }
     ensures few { IfOk result (λ _. length texts.new < 2 ^ 31) }
     ensures front { StartsWith texts.new texts.old }
 {
@@ -101,7 +107,9 @@ fn add_measured<S: BuildHasher, A: Allocator + Copy>(
     requires table { IsTable texts.old }
     requires short { length (concat texts.old) < 2 ^ 32 }
     requires depths { HasDepths texts.old depths.old.items }
-    ensures ok { IfOk result (λ _. IsTable texts.new × ((t : Tree) → IsType texts.new t ↔ (IsType texts.old t ⊎ IsType types.now t))) }
+    ensures ok { IfOk result (λ _.
+        IsTable texts.new
+        × ((t : Tree) → IsType texts.new t ↔ (IsType texts.old t ⊎ IsType types.now t))) }
     ensures depths { IfOk result (λ _. HasDepths texts.new depths.new.items) }
     ensures front { StartsWith texts.new texts.old }
     ensures measured { StartsWith depths.new.items depths.old.items }
@@ -123,7 +131,8 @@ fn order_measured<S: BuildHasher, A: Allocator + Copy>(
     requires depths { HasDepths texts.old depths.old.items }
     ensures types { IfSome result (λ _. AreTypes records.now) }
     ensures table { IfSome result (λ _. IsTable texts.new) }
-    ensures value { IfSome result (λ _. (t : Tree) → IsType texts.new t ↔ (IsType texts.old t ⊎ IsType records.now t)) }
+    ensures value { IfSome result (λ _.
+        (t : Tree) → IsType texts.new t ↔ (IsType texts.old t ⊎ IsType records.now t)) }
     ensures depths { IfSome result (λ _. HasDepths texts.new depths.new.items) }
     ensures front { StartsWith texts.new texts.old }
     ensures measured { StartsWith depths.new.items depths.old.items }
@@ -167,7 +176,8 @@ impl<S: BuildHasher, A: Allocator> Model for Table<S, A> {
 
     ghost view = { λ t. t.texts };
 
-    ghost invariant = { λ t. IsTable t.texts × (length (concat t.texts) < 2 ^ 32) × HasDepths t.texts t.depths.items };
+    ghost invariant = { λ t.
+        IsTable t.texts × (length (concat t.texts) < 2 ^ 32) × HasDepths t.texts t.depths.items };
 }
 
 impl<S: BuildHasher, A: Allocator + Copy> Table<S, A> {
@@ -193,12 +203,17 @@ impl<S: BuildHasher, A: Allocator + Copy> Table<S, A> {
     /// After either fault the table holds the types that it held before. The table allocates space
     /// for the new records, and keeps it after a fault too.
     pub fn add(&mut self, alloc: A, types: &Types<'_, A>, limit: u32) -> Result<(), JoinFault>
-        ensures value { IfOk result (λ _. (t : Tree) → IsType self.new t ↔ (IsType self.old t ⊎ IsType types.now t)) }
-        ensures within { IfOk result (λ _. (l : List Tree) × IsUnion l self.old types.now × (weight l ≤ limit)) }
+        ensures value { IfOk result (λ _.
+            (t : Tree) → IsType self.new t ↔ (IsType self.old t ⊎ IsType types.now t)) }
+        ensures within { IfOk result (λ _.
+            (l : List Tree) × IsUnion l self.old types.now × (weight l ≤ limit)) }
         ensures bytes { IfOk result (λ _. length (concat self.new) ≤ limit) }
         ensures kept { IfErr result (λ _. self.new ≡ self.old) }
         // The union is larger than the limit, and has this many bytes.
-        ensures large { IfErr result (λ fault. (bytes : ℕ) → fault ≡ JoinFault.TooLarge bytes → (limit < bytes) × ((l : List Tree) × IsUnion l self.old types.now × (weight l ≡ bytes))) }
+        ensures large { IfErr result (λ fault.
+            (bytes : ℕ) → fault ≡ JoinFault.TooLarge bytes →
+            (limit < bytes)
+            × ((l : List Tree) × IsUnion l self.old types.now × (weight l ≡ bytes))) }
     {
         let held = self.texts.len();
         let added = add_measured(alloc, &mut self.texts, &mut self.depths, types);
@@ -223,8 +238,10 @@ impl<S: BuildHasher, A: Allocator + Copy> Table<S, A> {
     /// holds the types that it held before, and [`Types::check`] and [`Table::add`] tell the fault.
     pub fn add_records(&mut self, alloc: A, records: &Records<'_, A>, limit: u32) -> bool
         ensures types { IsTrue result → AreTypes records.now }
-        ensures value { IsTrue result → (t : Tree) → IsType self.new t ↔ (IsType self.old t ⊎ IsType records.now t) }
-        ensures within { IsTrue result → (l : List Tree) × IsUnion l self.old records.now × (weight l ≤ limit) }
+        ensures value { IsTrue result → (t : Tree) →
+            IsType self.new t ↔ (IsType self.old t ⊎ IsType records.now t) }
+        ensures within { IsTrue result →
+            (l : List Tree) × IsUnion l self.old records.now × (weight l ≤ limit) }
         ensures bytes { IsTrue result → length (concat self.new) ≤ limit }
         ensures kept { IsTrue result ⊎ (self.new ≡ self.old) }
     {
