@@ -191,7 +191,7 @@ pub(super) fn zeros(alloc: Global) -> Result<Vec<u8>, Fail> {
 /// A file with these records, or zeros.
 fn file_of(alloc: Global, records: Option<&[&[u8]]>) -> Result<Vec<u8>, Fail> {
     match records {
-        Some(records) => pdb_with(alloc, records),
+        Some(records) => Ok(pdb_with(alloc, records)?),
         None => zeros(alloc),
     }
 }

@@ -2,7 +2,7 @@
 
 ghost use Rattle.std.specs.Prelude.{None};
 
-use msf_blocks::Source;
+use byte_io::Source;
 
 /// Gives at most `step` bytes a call, and counts the calls. After its last byte it ends, or it fails
 /// where `fails` is true.

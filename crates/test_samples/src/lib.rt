@@ -12,6 +12,7 @@
 //! Shipped crates use this one only in their tests.
 #![tactic(auto)]
 
+mod container;
 mod dripping;
 mod file;
 mod growth;

@@ -2,7 +2,7 @@
 
 ghost use Rattle.std.specs.Prelude.{None};
 
-use msf_blocks::Sink;
+use byte_io::Sink;
 use std::alloc::Global;
 
 /// Takes at most `step` bytes a call and `room` bytes in all. A call that takes nothing breaks it.
