@@ -13,9 +13,9 @@
 //! fails, and for a cycle exactly the records that lead into one (`IsCycle`). Each record that is
 //! lent is whole and has places. Each depth is that of the tree at that position.
 //!
-//! The [`laws`] say that records have at most one list of those that lead into a cycle, and that records
-//! with a cycle have no rank. Nothing recurses along references: a record is read after those that
-//! it names.
+//! The [`laws`] say that records have at most one list of those that lead into a cycle, and that
+//! records with a cycle have no rank. Nothing recurses along references: a record is read after
+//! those that it names.
 //!
 //! The file `src/examples.rt` of the crate `test_examples` shows how records are checked, in a few
 //! lines.

@@ -16,10 +16,9 @@
 //!
 //! What is proved: a renumbered record is the record with the new type index at each place. It is
 //! made only where each reference is simple or has a number, and always where these numbers are
-//! below 2^31, unless this runs out of memory. The [`laws`] say that there is exactly one
-//! tree at each position of records that make types, and that it is closed; that each tree branch
-//! of a type is a type; and that a set of types has one canonical list, which reads back as that
-//! set.
+//! below 2^31, unless this runs out of memory. The [`laws`] say that there is exactly one tree at
+//! each position of records that make types, and that it is closed; that each tree branch of a type
+//! is a type; and that a set of types has one canonical list, which reads back as that set.
 //!
 //! The file `src/examples.rt` of the crate `test_examples` shows how a record is renumbered, in a
 //! few lines.
