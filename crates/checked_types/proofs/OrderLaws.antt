@@ -1,7 +1,7 @@
 -- The positions of records in an order.
-use Rattle.std.proofs.Common.{◌≡◌, ◌≤◌, ◌<◌, ◌⊎◌, ◌+◌, ◌-◌, ℕ, suc, List, [], ◌∷◌, ◌++◌, Option, Some, None, length, take, drop, get_or, refl, sym, ap, ◌∙◌, subst, arith, length-append}
+use Rattle.std.proofs.Common.{◌≡◌, ◌≢◌, ◌≤◌, ◌<◌, ◌⊎◌, ◌+◌, ◌-◌, ℕ, suc, List, [], ◌∷◌, ◌++◌, Option, Some, None, length, take, drop, get_or, refl, sym, ap, ◌∙◌, subst, arith, length-append}
 use Rattle.std.specs.Borrow.{Bor}
-use Rattle.std.specs.List.{AllByRecursion, Contains, concat, range_with_len, sum_by}
+use Rattle.std.specs.List.{All, AllByRecursion, AllPairs, Contains, concat, range_with_len, sum_by}
 use Rattle.std.proofs.lemmas.Bool.{eqb-true}
 use Rattle.std.proofs.lemmas.List.{drop_more, drop_all, length-take-le, get_or-take, get_or_at, take_at}
 use Rattle.std.proofs.lemmas.List.Elements.{All-contains}
@@ -39,7 +39,7 @@ left_none (Some list) next end ends le = drop_all next list.now (omega (arith, e
 -- ---- Records that are already in an order
 
 -- the number at place i is i
-number_at : (n i d : ℕ) → i < n → get_or (range_with_len 0 n) i d ≡ i
+pub number_at : (n i d : ℕ) → i < n → get_or (range_with_len 0 n) i d ≡ i
 number_at n i d lt = omega (arith, get_or-range_with_len 0 n i d lt)
 
 -- each number below n is in the list of them
@@ -47,16 +47,41 @@ counted_in : (n i : ℕ) → i < n → Contains (range_with_len 0 n) i
 counted_in n i lt = (i, omega (arith, lt, length-range_with_len 0 n), number_at n i i lt)
 
 -- each number below k comes before the place k
-front_counted : (n k i : ℕ) → k ≤ n → i < k → Contains (take k (range_with_len 0 n)) i
+pub front_counted : (n k i : ℕ) → k ≤ n → i < k → Contains (take k (range_with_len 0 n)) i
 front_counted n k i le lt =
     (i, omega (arith, lt, length-take-le k (range_with_len 0 n) (omega (arith, le, length-range_with_len 0 n))), get_or-take k (range_with_len 0 n) i i lt ∙ number_at n i i (omega (arith, lt, le)))
+
+-- the list has each number below `many` once
+pub record IsListing (many : ℕ) (order : List ℕ) : Type 0 where
+  pub inside : All (λ i. i < many) order
+  pub whole : (i : ℕ) → i < many → Contains order i
+  pub once : AllPairs (λ i j. i ≢ j) order
+
+-- the numbers below n, as they stand, are such a list
+pub listing_counted : (n : ℕ) → IsListing n (range_with_len 0 n)
+listing_counted n = record {
+  inside = λ k d lt. omega (arith, number_at n k d (omega (arith, lt, many)), lt, many);
+  whole = λ i lt. counted_in n i lt;
+  once = λ i j d lt below same. omega (arith, lt, below, many, same, number_at n i d (omega (arith, lt, below, many)), number_at n j d (omega (arith, below, many)));
+}
+  where
+    many : length (range_with_len 0 n) ≡ n
+    many = length-range_with_len 0 n
+
+-- an order of records is such a list of their positions
+pub order_lists : (records : List (List ℕ)) (order : List ℕ) → IsOrder (graph_of records) order → IsListing (length records) order
+order_lists records order o = record {
+  inside = subst (λ (n : ℕ). All (λ i. i < n) order) (many_nodes records) o.inside;
+  whole = λ i lt. o.whole i (omega (arith, lt, many_nodes records));
+  once = o.once;
+}
 
 -- records that name only earlier records are already in an order
 pub stand_in_order : (records : List (List ℕ)) → IsRanked records (λ i. i) → IsOrder (graph_of records) (range_with_len 0 (length records))
 stand_in_order records ranked = record {
-  inside = λ k d lt. let at = number_at n k d (omega (arith, lt, many)) in omega (arith, at, lt, many, many_nodes records);
+  inside = subst (λ (m : ℕ). All (λ i. i < m) (range_with_len 0 n)) (sym (many_nodes records)) (listing_counted n).inside;
   whole = λ i lt. counted_in n i (omega (arith, lt, many_nodes records));
-  once = λ i j d lt below same. omega (arith, lt, below, many, same, number_at n i d (omega (arith, lt, below, many)), number_at n j d (omega (arith, below, many)));
+  once = (listing_counted n).once;
   after = λ k lt m names.
       let inside : k < n = omega (arith, lt, many) in
       let at : get_or (range_with_len 0 n) k 0 ≡ k = number_at n k 0 inside in
@@ -108,8 +133,8 @@ range_weighs (r ∷ rs) f a same =
     omega (arith, sum_by-cons f a (range_with_len (a + 1) (length rs)), first, rest, length-append r (concat rs))
 
 -- the records in an order have no more bytes than all records
-pub order_weighs : (records : List (List ℕ)) (order : List ℕ) → IsOrder (graph_of records) order → sum_by (λ p. length (get_or records p [])) order ≤ length (concat records)
+pub order_weighs : (records : List (List ℕ)) (order : List ℕ) → IsListing (length records) order → sum_by (λ p. length (get_or records p [])) order ≤ length (concat records)
 order_weighs records order o =
     let n = length records in
-    let most = sum_grows (λ p. length (get_or records p [])) 0 order (range_with_len 0 n) o.once (λ p on. counted_in n p (omega (arith, many_nodes records, All-contains (λ i. i < length (graph_of records)) order p o.inside on))) in
+    let most = sum_grows (λ p. length (get_or records p [])) 0 order (range_with_len 0 n) o.once (λ p on. counted_in n p (All-contains (λ i. i < n) order p o.inside on)) in
     omega (arith, most, range_weighs records (λ p. length (get_or records p [])) 0 (λ k lt. let same : 0 + k ≡ k = omega arith in ap (λ (x : ℕ). length (get_or records x [])) same))

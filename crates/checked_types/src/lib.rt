@@ -31,5 +31,5 @@ mod types;
 
 pub use depth::depth_of;
 pub use fault::TypeFault;
-pub use order::{InOrder, record_at};
+pub use order::{InOrder, in_file_order, record_at};
 pub use types::Types;

@@ -1,7 +1,7 @@
 //! An order of records in which each comes after those that it names.
 
 ghost use Rattle.std.specs.Prelude.{◌≡◌, ◌+◌, ◌-◌, ◌≤◌, ◌<◌, ◌^◌, [], ℕ, List, length, get_or, map, drop, IfOk, IfErr};
-ghost use Rattle.std.specs.List.{All, AllByRecursion};
+ghost use Rattle.std.specs.List.{All, AllByRecursion, range_with_len};
 ghost use Rattle.std.specs.Iterator.{YieldsFirst, item_count};
 ghost use Rattle.tpi_records.specs.Records.{IsRecord};
 ghost use Rattle.cv_leaves.specs.Place.{IsChecked};
@@ -45,17 +45,24 @@ impl<A: Allocator> Order<A> {
         ensures { result ≡ order_list len self.now }
     {
         match self {
-            Order::InFileOrder => InOrder {
-                listed: None,
-                next: 0,
-                end: len,
-            },
+            Order::InFileOrder => in_file_order(len),
             Order::Listed(list) => InOrder {
                 listed: Some(list),
                 next: 0,
                 end: list.len(),
             },
         }
+    }
+}
+
+/// The positions of `len` records as they stand.
+pub fn in_file_order<'t>(len: usize) -> InOrder<'t>
+    ensures { result ≡ range_with_len 0 len }
+{
+    InOrder {
+        listed: None,
+        next: 0,
+        end: len,
     }
 }
 

@@ -1,37 +1,30 @@
 -- How a table grows by a record.
-use Rattle.std.proofs.Common.{◌≡◌, ◌≤◌, ◌<◌, ◌⊎◌, ◌^◌, ◌+◌, ◌-◌, ◌↔◌, ℕ, List, [], ◌∷◌, ◌++◌, length, take, drop, set, replicate, get_or, refl, sym, ap, ◌∙◌, subst, arith, inl, inr, length-append}
+use Rattle.std.proofs.Common.{◌≡◌, ◌≤◌, ◌<◌, ◌⊎◌, ◌^◌, ◌+◌, ◌-◌, ◌↔◌, ℕ, List, [], ◌∷◌, ◌++◌, length, take, drop, get_or, refl, sym, ap, ◌∙◌, subst, arith, inl, inr, length-append}
 use Rattle.std.proofs.lemmas.Bool.{cases_lt}
-use Rattle.std.proofs.lemmas.List.{append_assoc, append-nil, length-replicate, length-set, take-append-le, take-append-drop, get_or_default, get_or_append_left, get_or_at, get_or-set_same, get_or-set_other}
-use Rattle.std.proofs.lemmas.List.Elements.{All-contains, Contains-get_or, Contains-push_cases, Contains-append_left}
-use Rattle.std.proofs.lemmas.List.Sums.{sum_by-cons}
+use Rattle.std.proofs.lemmas.List.{take-append-le, take-append-drop, get_or_default}
+use Rattle.std.proofs.lemmas.List.Elements.{Contains-get_or}
 use Rattle.std.proofs.Math.ListN.{get_or-append}
 use Rattle.std.proofs.Math.Seq.{get_or-append_seam}
-use Rattle.std.specs.List.{AllByRecursion, Contains, concat, sum_by}
-use Rattle.topological_order.specs.Order.{IsOrder}
-use Rattle.topological_order.proofs.WalkLaws.{none_in}
+use Rattle.std.specs.List.{AllByRecursion, Contains, concat}
 use Rattle.tpi_records.specs.Records.{IsRecord}
 use Rattle.cv_leaves.specs.Place.{IsChecked}
 use Rattle.text_set.specs.TextSet.{Holds}
 use Rattle.cv_leaves.specs.References.{references, blanked, filled}
 use Rattle.closed_trees.specs.Tree.{Tree, Branches, tree, no_branch, simple, branch, nothing, IsTreeAt, AreBranches, IsType, IsRanked, NamesLower}
-use Rattle.checked_types.specs.Graph.{graph_of}
 use Rattle.closed_trees.specs.Canon.{weight}
 use Rattle.byte_fields.specs.Bytes.{AreBytes}
-use Rattle.closed_trees.specs.Table.{IsTable, IsUnion, AreNumbered, renumber, renumbered}
-use Rattle.closed_trees.specs.Types.{AreTypes}
+use Rattle.closed_trees.specs.Table.{IsTable, IsUnion, renumber, renumbered}
 use Rattle.type_table.specs.Merge.{StartsWith}
 use Rattle.type_table.specs.declared.fault.JoinFault.TheVariants as JoinFault
 use Rattle.text_set.proofs.TextSetLaws.{four_each}
 use Rattle.cv_leaves.proofs.FilledLaws.{filled_checked, filled_framed, filled_read}
-use Rattle.closed_trees.proofs.TreeLaws.{one, at_position, tree_there}
-use Rattle.checked_types.proofs.GraphLaws.{many_nodes}
+use Rattle.closed_trees.proofs.TreeLaws.{one}
 use Rattle.closed_trees.proofs.WeightLaws.{concat_push}
-use Rattle.checked_types.proofs.OrderLaws.{NamesDone, next_in_order, order_weighs}
+use Rattle.checked_types.proofs.OrderLaws.{NamesDone}
 use Rattle.closed_trees.proofs.TableLaws.{stands_still, renumbered_stands, renumber-each, renumber-none, renumber-simple, renumber-named, EachNamed}
 use Rattle.type_table.proofs.PushLaws.{table_grows}
 use Rattle.closed_trees.proofs.NextLaws.{in_range, trees_of_table, table_weight, apart_of_table}
 use Rattle.tpi_records.specs.Header.{first_index}
-use Rattle.closed_trees.proofs.RenumberLaws.{renumbered_long}
 
 -- `after` is a table that begins with `before` and also has the types of the records that are done, and f gives the position of each of these in it
 pub record Adds (records before after : List (List ℕ)) (f : ℕ → ℕ) (done : ℕ → Type 0) : Type 0 where
@@ -69,7 +62,7 @@ numbers_in after f (n ∷ ns) h = elim (cases_lt n first_index) [
   | inr large ↦ rw (renumber-named f n ns large) (inr (elim h.0 [ inl small ↦ absurd (omega (arith, small, large)) | inr low ↦ omega (arith, low) ]), numbers_in after f ns h.1)
 ]
 
-renumbered-is : (f : ℕ → ℕ) (r : List ℕ) → renumbered f r ≡ filled r (renumber f (references r))
+pub renumbered-is : (f : ℕ → ℕ) (r : List ℕ) → renumbered f r ≡ filled r (renumber f (references r))
 unfolding renumbered
 renumbered-is f r = refl
 
@@ -241,7 +234,7 @@ union_weighs before types after table same =
       table_weight after table,
     )
 
--- ---- Record by record, in an order in which each comes after those that it names
+-- ---- How many records and bytes a table has
 
 -- a table has few records
 pub table_few : (after : List (List ℕ)) → IsTable after → length (concat after) < 2 ^ 33 → length after < 2 ^ 31
@@ -250,88 +243,6 @@ table_few after table short = omega (arith, four_each after (λ k inside. (table
 -- a table grows by at most the bytes of the record that is added
 pub holds_short : (after grown : List (List ℕ)) (y : List ℕ) → Holds after grown y → length (concat grown) ≤ length (concat after) + length y
 holds_short after grown y holds = elim holds [ inl same ↦ rw same (omega arith) | inr more ↦ rw more.0 (omega (arith, concat_push after y)) ]
-
--- some of the records are added, and these are left, in an order; together with those of the table the bytes that are left are few
-pub record IsAdding (records : List (List ℕ)) (left : List ℕ) (before after : List (List ℕ)) (positions : List ℕ) : Type 0 where
-  pub done : List ℕ
-  pub order : IsOrder (graph_of records) (done ++ left)
-  pub many : length positions ≡ length records
-  pub adds : Adds records before after (λ p. get_or positions p 0) (Contains done)
-  pub few : length (concat after) + sum_by (λ p. length (get_or records p [])) left < 2 ^ 33
-
--- at the start none is added
-pub adding_starts : (records : List (List ℕ)) (left : List ℕ) (before : List (List ℕ)) (many : ℕ) (positions : List ℕ) → IsTable before → length (concat before) < 2 ^ 32 → length (concat records) < 2 ^ 32 → IsOrder (graph_of records) left
-    → many ≡ length records → positions ≡ replicate many 0 → IsAdding records left before before positions
-adding_starts records left before many positions table short all_short order same zeros = record {
-  done = [];
-  order = order;
-  many = ap length zeros ∙ length-replicate {A = ℕ} many 0 ∙ same;
-  adds = adds_none records before (λ p. get_or positions p 0) (Contains []) table (λ k on. none_in k on);
-  few = omega (arith, short, all_short, order_weighs records left order);
-}
-
--- the next one is the position of a record
-pub adding_inside : (records : List (List ℕ)) (left others : List ℕ) (before after : List (List ℕ)) (positions : List ℕ) (p : ℕ) → IsAdding records left before after positions → left ≡ p ∷ others → p < length records
-adding_inside records left others before after positions p a split = (next_in_order records a.done left others (a.done ++ left) p a.order refl split).0
-
--- the bytes of the next record are few beside those of the table
-pub adding_few : (records : List (List ℕ)) (left others : List ℕ) (before after : List (List ℕ)) (positions : List ℕ) (p : ℕ) → IsAdding records left before after positions → left ≡ p ∷ others
-    → length (concat after) + length (get_or records p []) + sum_by (λ q. length (get_or records q [])) others < 2 ^ 33
-adding_few records left others before after positions p a split =
-    let whole = ap (sum_by (λ q. length (get_or records q []))) split ∙ sum_by-cons (λ q. length (get_or records q [])) p others in
-    omega (arith, a.few, whole)
-
--- each record that the next record names has a position in the table
-pub adding_numbered : (records : List (List ℕ)) (left others : List ℕ) (before after : List (List ℕ)) (positions : List ℕ) (p : ℕ) → IsAdding records left before after positions → left ≡ p ∷ others → AreNumbered positions (references (get_or records p []))
-adding_numbered records left others before after positions p a split =
-    numbered (references (get_or records p [])) (next_in_order records a.done left others (a.done ++ left) p a.order refl split).1
-  where
-    small : length after < 2 ^ 31
-    small = table_few after a.adds.table (omega (arith, adding_few records left others before after positions p a split))
-
-    inside : (q : ℕ) → Contains a.done q → q < length positions
-    inside q on = omega (arith, a.many, many_nodes records, All-contains (λ i. i < length (graph_of records)) (a.done ++ left) q a.order.inside (Contains-append_left a.done left q on))
-
-    numbered : (ns : List ℕ) → NamesDone (Contains a.done) ns → AreNumbered positions ns
-    numbered [] names = tt
-    numbered (n ∷ ns) names = (elim names.0 [ inl low ↦ inl low | inr on ↦ inr (inside (n - first_index) on, omega (arith, a.adds.inside (n - first_index) on, small)) ], numbered ns names.1)
-
--- one more record is added
-pub adding_more : (records : List (List ℕ)) (left others : List ℕ) (before after grown : List (List ℕ)) (positions : List ℕ) (p last : ℕ) → AreTypes records → IsAdding records left before after positions → left ≡ p ∷ others
-    → AreBytes (renumbered (λ q. get_or positions q 0) (get_or records p [])) → Holds after grown (renumbered (λ q. get_or positions q 0) (get_or records p []))
-    → last < length grown → get_or grown last [] ≡ renumbered (λ q. get_or positions q 0) (get_or records p []) → IsAdding records others before grown (set positions p last)
-adding_more records left others before after grown positions p last types a split bytes holds inside at =
-    let next = next_in_order records a.done left others (a.done ++ left) p a.order refl split in
-    let frame : IsRecord (get_or records p []) = at_position IsRecord records p types.framed next.0 in
-    let checked : IsChecked (get_or records p []) = at_position IsChecked records p types.checked next.0 in
-    let few = adding_few records left others before after positions p a split in
-    record {
-      done = a.done ++ p ∷ [];
-      order = subst (IsOrder (graph_of records)) (all ∙ sym (append_assoc a.done (p ∷ []) others)) a.order;
-      many = length-set positions p last ∙ a.many;
-      adds = adds_more records before after grown (λ q. get_or positions q 0) (λ q. get_or (set positions p last) q 0) (Contains a.done) (Contains (a.done ++ p ∷ [])) p last a.adds
-          (omega (arith, table_few after a.adds.table (omega (arith, few)))) frame checked (tree_there records types.ranked.0 p types.ranked.1 next.0) next.1 bytes holds inside at
-          (λ k old. get_or-set_other positions p k last 0 (apart next.2 k old))
-          (get_or-set_same positions p last 0 (omega (arith, next.0, a.many)))
-          (λ k new. elim (Contains-push_cases a.done p k new) [ inl old ↦ inl old | inr same ↦ inr (sym same) ]);
-      few = omega (arith, few, holds_short after grown (renumbered (λ q. get_or positions q 0) (get_or records p [])) holds, renumbered_long (λ q. get_or positions q 0) (get_or records p []) checked);
-    }
-  where
-    all : a.done ++ left ≡ a.done ++ p ∷ others
-    all = ap (λ (xs : List ℕ). a.done ++ xs) split
-
-    -- what is done is not the next one: the order has each record once
-    apart : length a.done < length (a.done ++ left) → (k : ℕ) → Contains a.done k → k ≡ p → ⊥
-    apart below k old same =
-        let first : get_or (a.done ++ left) old.0 0 ≡ k = get_or_append_left a.done left 0 old.0 old.1 ∙ get_or_default a.done old.0 0 k old.1 ∙ old.2 in
-        let second : get_or (a.done ++ left) (length a.done) 0 ≡ p = ap (λ (xs : List ℕ). get_or xs (length a.done) 0) all ∙ get_or_at a.done p others 0 (length a.done) refl in
-        a.order.once old.0 (length a.done) 0 old.1 below (first ∙ same ∙ sym second)
-
--- at the end the table has the types of both
-pub all_added : (records : List (List ℕ)) (left : List ℕ) (before after : List (List ℕ)) (positions : List ℕ) → IsAdding records left before after positions → left ≡ [] → (t : Tree) → IsType after t ↔ (IsType before t ⊎ IsType records t)
-all_added records left before after positions a none =
-    let all : a.done ++ left ≡ a.done = ap (λ (xs : List ℕ). a.done ++ xs) none ∙ append-nil a.done in
-    adds_all records before after (λ p. get_or positions p 0) (Contains a.done) a.adds (λ k inside. subst (λ (xs : List ℕ). Contains xs k) all (a.order.whole k (omega (arith, inside, many_nodes records))))
 
 -- if a table has more bytes than the limit, their number is the weight of the union
 pub too_large : (before types after : List (List ℕ)) (found limit : ℕ) → (l : List Tree) × IsUnion l before types × (weight l ≡ length (concat after)) → found ≡ length (concat after) → limit < found

@@ -16,11 +16,11 @@
 //! The file `src/examples.rt` of the crate `test_examples` shows this crate in use, in a few lines.
 #![tactic(auto)]
 
+mod adding;
 mod canon;
 mod canon_records;
 mod expected;
 mod fault;
-mod ordered;
 mod table;
 mod table_depths;
 

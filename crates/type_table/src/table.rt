@@ -1,144 +1,53 @@
 //! Tables: types in the order in which they came, each once.
 
-ghost use Rattle.std.specs.Prelude.{◌≡◌, ◌≢◌, ◌⊎◌, ◌↔◌, ◌+◌, ◌-◌, ◌%◌, ◌^◌, ◌<◌, ◌≤◌, [], ℕ, List, IsTrue, length, get_or, map, take, IfOk, IfErr, IfSome};
-ghost use Rattle.std.specs.List.{AllByRecursion, concat};
-ghost use Rattle.tpi_records.specs.Records.{IsRecord};
-ghost use Rattle.cv_leaves.specs.Place.{IsChecked};
-ghost use Rattle.text_set.specs.TextSet.{Holds};
-ghost use Rattle.cv_leaves.specs.References.{references};
+ghost use Rattle.std.specs.Prelude.{◌≡◌, ◌⊎◌, ◌↔◌, ◌+◌, ◌-◌, ◌^◌, ◌<◌, ◌≤◌, [], ℕ, List, IsTrue, true, length, take, IfOk, IfErr};
+ghost use Rattle.std.specs.List.{concat};
 ghost use Rattle.closed_trees.specs.Tree.{Tree, IsType};
 ghost use Rattle.closed_trees.specs.Canon.{weight};
-ghost use Rattle.byte_fields.specs.Bytes.{AreBytes};
 ghost use Rattle.closed_trees.specs.Depth.{HasDepths};
-ghost use Rattle.closed_trees.specs.Table.{IsTable, IsUnion, AreNumbered, renumbered};
-ghost use Rattle.type_table.specs.Merge.{StartsWith};
+ghost use Rattle.closed_trees.specs.Table.{IsTable, IsUnion};
+ghost use Rattle.type_table.specs.Merge.{StartsWith, IsWalk, IsAdded};
 ghost use Rattle.closed_trees.specs.Types.{AreTypes};
-ghost use Rattle.canonical_list.specs.Finish.{IsCanon, IsCanonOf};
+ghost use Rattle.canonical_list.specs.Finish.{IsCanonOf};
 
+use crate::adding::{add_in_order, are_bytes};
 use crate::canon::Canon;
-use crate::expected::is_at;
 use crate::fault::JoinFault;
-use crate::ordered::add_ordered;
 use crate::table_depths::measure_new;
 use canonical_list::canonical_list;
-use checked_types::{Types, record_at};
-use closed_trees::renumber_into;
+use checked_types::{InOrder, Types, in_file_order};
 use std::alloc::{AllocError, Allocator, Global};
 use std::hash::BuildHasher;
 use std::marker::Model;
 use text_set::TextSet;
 use tpi_records::Records;
 
-/// Each number of a `&[u8]` is a byte. This function does nothing: its contract is the fact.
-pub(crate) fn are_bytes(text: &[u8])
-    ensures { AreBytes text.now }
-{}
-
-/// Puts a record into the set where it isn't there yet, and returns its position there.
-///
-/// `numbers` has the position in the set of each record that it names. `guess` is the position
-/// where the record is looked for first.
-#[tactic(auto, using(closed_trees::proofs::RenumberLaws::padded_record, closed_trees::proofs::RenumberLaws::long_record, closed_trees::proofs::RenumberLaws::renumbered_long))]
-fn add_record<S: BuildHasher, A: Allocator>(
-    texts: &mut TextSet<S, A>,
-    copy: &mut Vec<u8, A>,
-    bytes: &[u8],
-    numbers: &[u32],
-    guess: usize,
-) -> Result<usize, AllocError>
-    requires table { IsTable texts.old }
-    requires framed { IsRecord bytes.now }
-    requires checked { IsChecked bytes.now }
-    requires named { AreNumbered numbers.now (references bytes.now) }
-    requires few { length (concat texts.old) + length bytes.now < 2 ^ 33 }
-    ensures at { IfOk result (λ k.
-        (k < length texts.new)
-        × (get_or texts.new k [] ≡ renumbered (λ p. get_or numbers.now p 0) bytes.now)) }
-    ensures holds { IfOk result (λ _.
-        Holds texts.old texts.new (renumbered (λ p. get_or numbers.now p 0) bytes.now)) }
-    ensures bytes { IfOk result (λ _.
-        AreBytes (renumbered (λ p. get_or numbers.now p 0) bytes.now)) }
-    ensures small { IfOk result (λ k. k < 2 ^ 31) }
-    ensures err { IfErr result (λ _. texts.new ≡ texts.old) }
-{
-    if is_at(texts, guess, bytes, numbers) {
-        return Ok(guess);
-    }
-    renumber_into(copy, bytes, numbers)?;
-    are_bytes(copy);
-    texts.intern(copy)
-}
-
-/// Puts all types into the set. If this runs out of memory, some of them stay there.
-fn add_all<S: BuildHasher, A: Allocator + Copy>(
-    alloc: A,
-    texts: &mut TextSet<S, A>,
-    types: &Types<'_, A>,
-) -> Result<(), AllocError>
-    requires table { IsTable texts.old }
-    requires short { length (concat texts.old) < 2 ^ 32 }
-    ensures ok { IfOk result (λ _.
-        IsTable texts.new
-        × ((t : Tree) → IsType texts.new t ↔ (IsType texts.old t ⊎ IsType types.now t))) }
-    ensures few { IfOk result (λ _. length texts.new < 2 ^ 31) }
-    ensures front { StartsWith texts.new texts.old }
-{
-    let mut positions = vec![in alloc; 0u32; types.len()]?;
-    let mut copy = Vec::new(alloc);
-    let mut guess = 0;
-    let mut records = types.records().cursor();
-    for position in types.in_order() {
-        let bytes = record_at(&mut records, position);
-        let found = add_record(texts, &mut copy, bytes, &positions, guess)?;
-        positions[position] = found as u32;
-        guess = found + 1;
-    }
-    Ok(())
-}
-
-/// Puts all types into the set, and measures the new ones. If this runs out of memory, some of them
-/// stay there.
+/// Puts all records into the set, in this order, and measures the new ones. Returns whether that
+/// succeeded: it does for records that were `checked`. If it does not, or out of memory, some of
+/// them may be in the set.
 fn add_measured<S: BuildHasher, A: Allocator + Copy>(
     alloc: A,
     texts: &mut TextSet<S, A>,
     depths: &mut Vec<u32, A>,
-    types: &Types<'_, A>,
-) -> Result<(), AllocError>
-    requires table { IsTable texts.old }
-    requires short { length (concat texts.old) < 2 ^ 32 }
-    requires depths { HasDepths texts.old depths.old.items }
-    ensures ok { IfOk result (λ _.
-        IsTable texts.new
-        × ((t : Tree) → IsType texts.new t ↔ (IsType texts.old t ⊎ IsType types.now t))) }
-    ensures depths { IfOk result (λ _. HasDepths texts.new depths.new.items) }
-    ensures front { StartsWith texts.new texts.old }
-    ensures measured { StartsWith depths.new.items depths.old.items }
-{
-    add_all(alloc, texts, types)?;
-    measure_new(texts, depths)
-}
-
-/// Puts all records into the set, in order, and measures the new ones. `None` where that does not
-/// succeed; some of them may then be in the set.
-fn order_measured<S: BuildHasher, A: Allocator + Copy>(
-    alloc: A,
-    texts: &mut TextSet<S, A>,
-    depths: &mut Vec<u32, A>,
     records: &Records<'_, A>,
-) -> Option<()>
+    order: InOrder<'_>,
+    checked: bool,
+) -> Result<bool, AllocError>
     requires table { IsTable texts.old }
     requires short { length (concat texts.old) < 2 ^ 32 }
+    requires walk { IsWalk checked records.now order }
     requires depths { HasDepths texts.old depths.old.items }
-    ensures types { IfSome result (λ _. AreTypes records.now) }
-    ensures table { IfSome result (λ _. IsTable texts.new) }
-    ensures value { IfSome result (λ _.
-        (t : Tree) → IsType texts.new t ↔ (IsType texts.old t ⊎ IsType records.now t)) }
-    ensures depths { IfSome result (λ _. HasDepths texts.new depths.new.items) }
+    ensures added { IfOk result (λ all. IsTrue all → IsAdded records.now texts.old texts.new) }
+    ensures depths { IfOk result (λ all. IsTrue all → HasDepths texts.new depths.new.items) }
+    ensures all { checked ≡ true → IfOk result (λ all. IsTrue all) }
     ensures front { StartsWith texts.new texts.old }
     ensures measured { StartsWith depths.new.items depths.old.items }
 {
-    add_ordered(alloc, texts, records)?;
-    measure_new(texts, depths).ok()
+    if !add_in_order(alloc, texts, records, order, checked)? {
+        return Ok(false);
+    }
+    measure_new(texts, depths)?;
+    Ok(true)
 }
 
 /// Keeps the first `held` records and their depths, and removes the others.
@@ -176,8 +85,7 @@ impl<S: BuildHasher, A: Allocator> Model for Table<S, A> {
 
     ghost view = { λ t. t.texts };
 
-    ghost invariant = { λ t.
-        IsTable t.texts × (length (concat t.texts) < 2 ^ 32) × HasDepths t.texts t.depths.items };
+    ghost invariant = { λ t. IsTable t.texts × (length (concat t.texts) < 2 ^ 32) × HasDepths t.texts t.depths.items };
 }
 
 impl<S: BuildHasher, A: Allocator + Copy> Table<S, A> {
@@ -202,21 +110,25 @@ impl<S: BuildHasher, A: Allocator + Copy> Table<S, A> {
     ///
     /// After either fault the table holds the types that it held before. The table allocates space
     /// for the new records, and keeps it after a fault too.
+    #[tactic(auto, unfolding(crate::specs::Merge::IsWalk))]
     pub fn add(&mut self, alloc: A, types: &Types<'_, A>, limit: u32) -> Result<(), JoinFault>
-        ensures value { IfOk result (λ _.
-            (t : Tree) → IsType self.new t ↔ (IsType self.old t ⊎ IsType types.now t)) }
-        ensures within { IfOk result (λ _.
-            (l : List Tree) × IsUnion l self.old types.now × (weight l ≤ limit)) }
+        ensures value { IfOk result (λ _. (t : Tree) → IsType self.new t ↔ (IsType self.old t ⊎ IsType types.now t)) }
+        ensures within { IfOk result (λ _. (l : List Tree) × IsUnion l self.old types.now × (weight l ≤ limit)) }
         ensures bytes { IfOk result (λ _. length (concat self.new) ≤ limit) }
         ensures kept { IfErr result (λ _. self.new ≡ self.old) }
         // The union is larger than the limit, and has this many bytes.
-        ensures large { IfErr result (λ fault.
-            (bytes : ℕ) → fault ≡ JoinFault.TooLarge bytes →
-            (limit < bytes)
-            × ((l : List Tree) × IsUnion l self.old types.now × (weight l ≡ bytes))) }
+        ensures large { IfErr result (λ fault. (bytes : ℕ) → fault ≡ JoinFault.TooLarge bytes → (limit < bytes) × ((l : List Tree) × IsUnion l self.old types.now × (weight l ≡ bytes))) }
     {
         let held = self.texts.len();
-        let added = add_measured(alloc, &mut self.texts, &mut self.depths, types);
+        let order = types.in_order();
+        let added = add_measured(
+            alloc,
+            &mut self.texts,
+            &mut self.depths,
+            types.records(),
+            order,
+            true,
+        );
         let bytes = self.texts.bytes().len() as u64;
         if let Err(fault) = added {
             undo(&mut self.texts, &mut self.depths, held);
@@ -236,17 +148,25 @@ impl<S: BuildHasher, A: Allocator + Copy> Table<S, A> {
     /// They are not added where a check fails, where a record names itself or a later one, where the
     /// records of the union have more than `limit` bytes together, or out of memory. The table then
     /// holds the types that it held before, and [`Types::check`] and [`Table::add`] tell the fault.
+    #[tactic(auto, unfolding(crate::specs::Merge::IsWalk))]
     pub fn add_records(&mut self, alloc: A, records: &Records<'_, A>, limit: u32) -> bool
         ensures types { IsTrue result → AreTypes records.now }
-        ensures value { IsTrue result → (t : Tree) →
-            IsType self.new t ↔ (IsType self.old t ⊎ IsType records.now t) }
-        ensures within { IsTrue result →
-            (l : List Tree) × IsUnion l self.old records.now × (weight l ≤ limit) }
+        ensures value { IsTrue result → (t : Tree) → IsType self.new t ↔ (IsType self.old t ⊎ IsType records.now t) }
+        ensures within { IsTrue result → (l : List Tree) × IsUnion l self.old records.now × (weight l ≤ limit) }
         ensures bytes { IsTrue result → length (concat self.new) ≤ limit }
         ensures kept { IsTrue result ⊎ (self.new ≡ self.old) }
     {
         let held = self.texts.len();
-        if let Some(()) = order_measured(alloc, &mut self.texts, &mut self.depths, records) {
+        let order = in_file_order(records.len());
+        let added = add_measured(
+            alloc,
+            &mut self.texts,
+            &mut self.depths,
+            records,
+            order,
+            false,
+        );
+        if let Ok(true) = added {
             if self.texts.bytes().len() as u64 <= u64::from(limit) {
                 return true;
             }

@@ -1,0 +1,111 @@
+//! Adds records to a table, each after those that it names.
+//!
+//! Records that are types are added in their order. Others are added as they stand, and checked on
+//! the way: compilers write most records after those that they name. Where one of these has a fault
+//! or names a later one, the walk ends: [`Types::check`](checked_types::Types::check) then finds
+//! the fault, or the order.
+
+ghost use Rattle.std.specs.Prelude.{◌≡◌, ◌≤◌, ◌<◌, ◌+◌, ◌^◌, true, false, IsTrue, IfOk, IfErr, IfSome, IfNone, length};
+ghost use Rattle.std.specs.List.{concat};
+ghost use Rattle.tpi_records.specs.Records.{IsRecord};
+ghost use Rattle.cv_leaves.specs.Place.{IsChecked};
+ghost use Rattle.cv_leaves.specs.References.{references};
+ghost use Rattle.byte_fields.specs.Bytes.{AreBytes};
+ghost use Rattle.closed_trees.specs.Table.{IsTable, AreNumbered};
+ghost use Rattle.type_table.specs.Merge.{StartsWith, IsWalk, IsPut, IsAdded};
+
+use crate::expected::is_at;
+use checked_types::{InOrder, record_at};
+use closed_trees::renumber_into;
+use cv_leaves::check;
+use std::alloc::{AllocError, Allocator};
+use std::hash::BuildHasher;
+use text_set::TextSet;
+use tpi_records::Records;
+
+/// Each number of a `&[u8]` is a byte. This function does nothing: its contract is the fact.
+pub fn are_bytes(text: &[u8])
+    ensures { AreBytes text.now }
+{}
+
+/// Puts a record into the set where it isn't there yet, and returns its position there. `None`
+/// where the record has a fault, or where it names a record without a number.
+///
+/// `numbers` has the positions in the set of the records that may be named. `guess` is the position
+/// where the record is looked for first. A record that was `checked` is not checked again. Unless
+/// a position is returned, the set stays as it was.
+#[tactic(auto, using(closed_trees::proofs::RenumberLaws::padded_record, closed_trees::proofs::RenumberLaws::long_record, closed_trees::proofs::RenumberLaws::renumbered_long))]
+fn put_record<S: BuildHasher, A: Allocator>(
+    texts: &mut TextSet<S, A>,
+    copy: &mut Vec<u8, A>,
+    bytes: &[u8],
+    numbers: &[u32],
+    guess: usize,
+    checked: bool,
+) -> Result<Option<usize>, AllocError>
+    requires table { IsTable texts.old }
+    requires framed { IsRecord bytes.now }
+    requires checked { checked ≡ true → IsChecked bytes.now }
+    requires few { length (concat texts.old) + length bytes.now < 2 ^ 33 }
+    ensures put { IfOk result (λ found. IfSome found (λ k. IsPut texts.old texts.new numbers.now bytes.now k)) }
+    ensures all { checked ≡ true → AreNumbered numbers.now (references bytes.now) → IfOk result (λ found. IfNone found ⊥) }
+    ensures none { IfOk result (λ found. IfNone found (texts.new ≡ texts.old)) }
+    ensures err { IfErr result (λ _. texts.new ≡ texts.old) }
+{
+    if is_at(texts, guess, bytes, numbers) {
+        return Ok(Some(guess));
+    }
+    if !checked && check(bytes).is_err() {
+        return Ok(None);
+    }
+    if !renumber_into(copy, bytes, numbers)? {
+        return Ok(None);
+    }
+    are_bytes(copy);
+    let position = texts.intern(copy)?;
+    Ok(Some(position))
+}
+
+/// How many of `many` records may be named by the one at a position.
+fn known_of(checked: bool, many: usize, position: usize) -> usize
+    requires { position < many }
+    ensures within { result ≤ many }
+    ensures all { checked ≡ true → result ≡ many }
+    ensures earlier { checked ≡ false → result ≡ position }
+{
+    if checked { many } else { position }
+}
+
+/// Puts all records into the set, in this order. Returns whether that succeeded: it does for records
+/// that were `checked`. If it does not, or out of memory, some of them may be in the set.
+pub fn add_in_order<S: BuildHasher, A: Allocator + Copy>(
+    alloc: A,
+    texts: &mut TextSet<S, A>,
+    records: &Records<'_, A>,
+    order: InOrder<'_>,
+    checked: bool,
+) -> Result<bool, AllocError>
+    requires table { IsTable texts.old }
+    requires short { length (concat texts.old) < 2 ^ 32 }
+    requires walk { IsWalk checked records.now order }
+    ensures added { IfOk result (λ all. IsTrue all → IsAdded records.now texts.old texts.new) }
+    ensures all { checked ≡ true → IfOk result (λ all. IsTrue all) }
+    ensures front { StartsWith texts.new texts.old }
+{
+    let many = records.len();
+    let mut numbers = vec![in alloc; 0u32; many]?;
+    let mut copy = Vec::new(alloc);
+    let mut guess = 0;
+    let mut cursor = records.cursor();
+    for position in order {
+        let bytes = record_at(&mut cursor, position);
+        let known = known_of(checked, many, position);
+        let Some(found) = put_record(texts, &mut copy, bytes, &numbers[..known], guess, checked)?
+        else {
+            return Ok(false);
+        };
+        numbers[position] = found as u32;
+        guess = found + 1;
+    }
+    Ok(true)
+}
