@@ -47,8 +47,10 @@ fn put_record<S: BuildHasher, A: Allocator>(
     requires framed { IsRecord bytes.now }
     requires checked { checked ≡ true → IsChecked bytes.now }
     requires few { length (concat texts.old) + length bytes.now < 2 ^ 33 }
-    ensures put { IfOk result (λ found. IfSome found (λ k. IsPut texts.old texts.new numbers.now bytes.now k)) }
-    ensures all { checked ≡ true → AreNumbered numbers.now (references bytes.now) → IfOk result (λ found. IfNone found ⊥) }
+    ensures put { IfOk result (λ found.
+        IfSome found (λ k. IsPut texts.old texts.new numbers.now bytes.now k)) }
+    ensures all { checked ≡ true → AreNumbered numbers.now (references bytes.now) →
+        IfOk result (λ found. IfNone found ⊥) }
     ensures none { IfOk result (λ found. IfNone found (texts.new ≡ texts.old)) }
     ensures err { IfErr result (λ _. texts.new ≡ texts.old) }
 {

@@ -85,7 +85,8 @@ impl<S: BuildHasher, A: Allocator> Model for Table<S, A> {
 
     ghost view = { λ t. t.texts };
 
-    ghost invariant = { λ t. IsTable t.texts × (length (concat t.texts) < 2 ^ 32) × HasDepths t.texts t.depths.items };
+    ghost invariant = { λ t.
+        IsTable t.texts × (length (concat t.texts) < 2 ^ 32) × HasDepths t.texts t.depths.items };
 }
 
 impl<S: BuildHasher, A: Allocator + Copy> Table<S, A> {
@@ -112,12 +113,17 @@ impl<S: BuildHasher, A: Allocator + Copy> Table<S, A> {
     /// for the new records, and keeps it after a fault too.
     #[tactic(auto, unfolding(crate::specs::Merge::IsWalk))]
     pub fn add(&mut self, alloc: A, types: &Types<'_, A>, limit: u32) -> Result<(), JoinFault>
-        ensures value { IfOk result (λ _. (t : Tree) → IsType self.new t ↔ (IsType self.old t ⊎ IsType types.now t)) }
-        ensures within { IfOk result (λ _. (l : List Tree) × IsUnion l self.old types.now × (weight l ≤ limit)) }
+        ensures value { IfOk result (λ _.
+            (t : Tree) → IsType self.new t ↔ (IsType self.old t ⊎ IsType types.now t)) }
+        ensures within { IfOk result (λ _.
+            (l : List Tree) × IsUnion l self.old types.now × (weight l ≤ limit)) }
         ensures bytes { IfOk result (λ _. length (concat self.new) ≤ limit) }
         ensures kept { IfErr result (λ _. self.new ≡ self.old) }
         // The union is larger than the limit, and has this many bytes.
-        ensures large { IfErr result (λ fault. (bytes : ℕ) → fault ≡ JoinFault.TooLarge bytes → (limit < bytes) × ((l : List Tree) × IsUnion l self.old types.now × (weight l ≡ bytes))) }
+        ensures large { IfErr result (λ fault.
+            (bytes : ℕ) → fault ≡ JoinFault.TooLarge bytes →
+            (limit < bytes)
+            × ((l : List Tree) × IsUnion l self.old types.now × (weight l ≡ bytes))) }
     {
         let held = self.texts.len();
         let order = types.in_order();
@@ -151,8 +157,10 @@ impl<S: BuildHasher, A: Allocator + Copy> Table<S, A> {
     #[tactic(auto, unfolding(crate::specs::Merge::IsWalk))]
     pub fn add_records(&mut self, alloc: A, records: &Records<'_, A>, limit: u32) -> bool
         ensures types { IsTrue result → AreTypes records.now }
-        ensures value { IsTrue result → (t : Tree) → IsType self.new t ↔ (IsType self.old t ⊎ IsType records.now t) }
-        ensures within { IsTrue result → (l : List Tree) × IsUnion l self.old records.now × (weight l ≤ limit) }
+        ensures value { IsTrue result → (t : Tree) →
+            IsType self.new t ↔ (IsType self.old t ⊎ IsType records.now t) }
+        ensures within { IsTrue result →
+            (l : List Tree) × IsUnion l self.old records.now × (weight l ≤ limit) }
         ensures bytes { IsTrue result → length (concat self.new) ≤ limit }
         ensures kept { IsTrue result ⊎ (self.new ≡ self.old) }
     {
