@@ -12,17 +12,17 @@ use Rattle.std.proofs.lemmas.List.{append-nil, length-append, length-take, lengt
 use Rattle.msf_blocks.specs.BlockNumber.{IsBlockSize, blocks_for}
 use Rattle.msf_blocks.proofs.SizeLaws.{size_facts, some_bytes, big_enough, next_row, ceil_is}
 use Rattle.msf_streams.specs.Image.{joined, filled, superblock_part, block_map_part, directory_part, parts, image, image_blocks, data_count}
-use Rattle.msf_streams.specs.Put.{maps_before, woven, room, AppendsPart, IsFront}
+use Rattle.msf_streams.specs.Put.{WriterView, IsSameImage, maps_before, woven, woven_from, room, AppendsPart, IsFront}
 use Rattle.msf_blocks.proofs.RangeLaws.{next_block, first_block}
 use Rattle.msf_streams.proofs.ImageLaws.{length_parts}
 use Rattle.msf_streams.proofs.BackLaws.{all_blocks, bounds}
 use Rattle.msf_streams.proofs.WovenLaws.{woven_parts, some_room, woven_run, some_stretch, image_woven}
 use lib.ListN.{replicate}
 
--- a sink took the first of all these bytes; the others are the rest of the data, from byte p on, with its map blocks
-pub record Halfway (old now : Option (List ℕ)) (block_size num_blocks : ℕ) (all : List ℕ) (p : ℕ) (left : List ℕ) : Type 0 where
+-- a sink took the first of all these bytes; the others are the rest of the data, from the position of the writer on, with its map blocks
+pub record Halfway (old now : Option (List ℕ)) (writer : WriterView) (all left : List ℕ) : Type 0 where
   pub taken : List ℕ
-  pub split : all ≡ taken ++ woven block_size num_blocks p left
+  pub split : all ≡ taken ++ woven_from writer left
   pub appends : Appends old now taken
 
 -- ---- what a sink took
@@ -94,14 +94,6 @@ run_taken old between new b n p count bytes big more is before h =
 pub run_count : (b p count : ℕ) (bytes : List ℕ) → 3 < b → 0 < length bytes → count ≡ min (room b p) (length bytes) → (0 < count) × (count ≤ length bytes)
 run_count b p count bytes big more is = let some = some_room b p (some_stretch b big) in (omega (arith, some), omega arith)
 
--- what was taken with one more run, and what is left after it
-pub woven_more : (b n p count : ℕ) (taken rest all : List ℕ) → all ≡ taken ++ woven b n p rest → count ≤ length rest
-    → all ≡ (taken ++ woven b n p (take count rest)) ++ woven b n (p + count) (take (length rest - count) (drop count rest))
-woven_more b n p count taken rest all e le =
-    let long : length (take count rest) ≡ count = omega (arith, length-take count rest) in
-    let left : take (length rest - count) (drop count rest) ≡ drop count rest = take_rest rest count in
-    e ∙ rw (split_run b n p count rest, long, left) (sym (append_assoc taken (woven b n p (take count rest)) (woven b n (p + count) (drop count rest))))
-
 -- the position after the run, and how many bytes are left
 pub places_left : (p count end : ℕ) (rest : List ℕ) → p + length rest ≡ end → count ≤ length rest → p + count + length (take (length rest - count) (drop count rest)) ≡ end
 places_left p count end rest e le = omega (arith, length-take (length rest - count) (drop count rest), length-drop count rest)
@@ -112,15 +104,7 @@ unfolding woven
 woven_done b n p taken [] all e none = e ∙ append-nil taken
 woven_done b n p taken (byte ∷ rest) all e none = absurd (omega arith)
 
--- ---- the size of positions
-
--- the number of the interval before a position fits in four bytes, and so do the numbers of its map blocks
-pub few_intervals : (b l p : ℕ) → 0 < b → 4 * b ≤ l → p < 2 ^ 33 → ((p - b) / l * b + 2 < 2 ^ 32) × ((p - b) / l < 2 ^ 32)
-few_intervals b l p some long few =
-    let q = (p - b) / l in
-    let rows = mul-le q (4 * b) q l (omega arith) long in
-    let places = mul-le (4 * q) 1 (4 * q) b (omega arith) some in
-    (omega (arith, rows, div-add-mod' (p - b) l), omega (arith, rows, places, div-add-mod' (p - b) l))
+-- ---- a part, padded to whole blocks
 
 -- how many zeros pad some bytes to whole blocks
 pub fill_count : (b len : ℕ) → IsBlockSize b → ((b - len % b) % b ≡ blocks_for b len * b - len) × ((b - len % b) % b ≤ 32768)
@@ -144,18 +128,17 @@ fill_count b len size =
           (rw (rest, count) (omega (arith, whole)), omega (arith, rest))
     ]
 
--- ---- a part, padded to whole blocks
-
 pub filled_is : (b : ℕ) (part fill : List ℕ) (count : ℕ) → count ≡ blocks_for b (length part) * b - length part → fill ≡ replicate count 0 → filled b part ≡ part ++ fill
 unfolding filled
 filled_is b part fill count is e = rw (e, is) refl
 
--- a padded part is the part, and then zeros
-pub filled_after : (b position end : ℕ) (part fill : List ℕ) (count : ℕ) → end ≡ position + length part → count ≡ blocks_for b (end - position) * b - (end - position) → fill ≡ replicate count 0
-    → filled b part ≡ part ++ fill
-filled_after b position end part fill count ends is e =
-    let len : end - position ≡ length part = omega (arith, ends) in
-    filled_is b part fill count (rw len at is) e
+-- a padded part is the part, and then as many zeros as follow from the positions before and after the part
+pub filled_after : (w v first last : WriterView) (part fill : List ℕ) (count : ℕ) → first ≡ w → last ≡ v → IsSameImage w v → v.position ≡ w.position + length part
+    → count ≡ blocks_for last.block_size (last.position - first.position) * last.block_size - (last.position - first.position) → fill ≡ replicate count 0 → filled w.block_size part ≡ part ++ fill
+filled_after w v first last part fill count before after same end is e =
+    let size : last.block_size ≡ w.block_size = ap (λ (x : WriterView). x.block_size) after ∙ same.block_size in
+    let len : last.position - first.position ≡ length part = omega (arith, ap (λ (x : WriterView). x.position) before, ap (λ (x : WriterView). x.position) after, end) in
+    filled_is w.block_size part fill count (rw (size, len) at is) e
 
 pub filled_longer : (b : ℕ) (part : List ℕ) → length part ≤ length (filled b part)
 unfolding filled
@@ -201,52 +184,89 @@ next_fits h xs i d p end lt e few = omega (arith, next_place h xs i d p end lt e
 pub none_left : {X : Type 0} (h : X → List ℕ) (xs : List X) (i : ℕ) → length xs ≤ i → length (flat_map h (drop i xs)) ≡ 0
 none_left h xs i le = rw (drop_all i xs le) refl
 
--- at the start nothing was taken
-pub at_start : (old : Option (List ℕ)) (b n p : ℕ) (bytes : List ℕ) → Halfway old old b n (woven b n p bytes) p bytes
-at_start old b n p bytes = record { taken = []; split = refl; appends = Appends-nil old }
+-- a writer of the same image as another one writes the same image as a third one
+pub still_same : (first second third : WriterView) → IsSameImage first second → IsSameImage second third → IsSameImage first third
+still_same first second third before after = record { block_size = after.block_size ∙ before.block_size; num_blocks = after.num_blocks ∙ before.num_blocks }
 
 -- the first of the remaining data was not taken as a whole
-pub first_fails : (old between new : Option (List ℕ)) (b n p : ℕ) (all first rest : List ℕ) → Halfway old between b n all p (first ++ rest)
-    → AppendsPart between new (woven b n p first) → AppendsPart old new all
-first_fails old between new b n p all first rest so_far h =
-    rw (so_far.split, woven_parts b n p first rest)
-    (part_second old between new so_far.taken _ so_far.appends (part_first between new (woven b n p first) _ h))
+first_fails : (old between new : Option (List ℕ)) (w : WriterView) (all first rest : List ℕ) → Halfway old between w all (first ++ rest)
+    → AppendsPart between new (woven_from w first) → AppendsPart old new all
+first_fails old between new w all first rest so_far h =
+    rw (so_far.split, woven_parts w.block_size w.num_blocks w.position first rest)
+    (part_second old between new so_far.taken _ so_far.appends (part_first between new (woven_from w first) _ h))
 
 -- the first of the remaining data was taken as a whole
-pub first_taken : (old between new : Option (List ℕ)) (b n p end : ℕ) (all first rest : List ℕ) → Halfway old between b n all p (first ++ rest)
-    → Appends between new (woven b n p first) → end ≡ p + length first → Halfway old new b n all end rest
-first_taken old between new b n p end all first rest so_far h is =
-    let put = woven b n p first in
+first_taken : (old between new : Option (List ℕ)) (w v : WriterView) (all first rest : List ℕ) → Halfway old between w all (first ++ rest)
+    → Appends between new (woven_from w first) → IsSameImage w v → v.position ≡ w.position + length first → Halfway old new v all rest
+first_taken old between new w v all first rest so_far h same is =
+    let put = woven_from w first in
     record {
       taken = so_far.taken ++ put;
-      split = so_far.split ∙ rw (is, woven_parts b n p first rest) (sym (append_assoc so_far.taken put _));
+      split = so_far.split ∙ rw (same.block_size, same.num_blocks, is, woven_parts w.block_size w.num_blocks w.position first rest) (sym (append_assoc so_far.taken put _));
       appends = Appends-trans old between new so_far.taken put so_far.appends h;
     }
 
 -- the remaining data was not taken as a whole
-pub rest_fails : (old between new : Option (List ℕ)) (b n p : ℕ) (all left : List ℕ) → Halfway old between b n all p left → AppendsPart between new (woven b n p left) → AppendsPart old new all
-rest_fails old between new b n p all left so_far h = rw so_far.split (part_second old between new so_far.taken (woven b n p left) so_far.appends h)
+pub rest_fails : (old between new : Option (List ℕ)) (w : WriterView) (all left : List ℕ) → Halfway old between w all left → AppendsPart between new (woven_from w left) → AppendsPart old new all
+rest_fails old between new w all left so_far h = rw so_far.split (part_second old between new so_far.taken (woven_from w left) so_far.appends h)
 
 -- the remaining data was taken as a whole
-pub rest_taken : (old between new : Option (List ℕ)) (b n p : ℕ) (all left : List ℕ) → Halfway old between b n all p left → Appends between new (woven b n p left) → Appends old new all
-rest_taken old between new b n p all left so_far h = rw so_far.split (Appends-trans old between new so_far.taken (woven b n p left) so_far.appends h)
+pub rest_taken : (old between new : Option (List ℕ)) (w : WriterView) (all left : List ℕ) → Halfway old between w all left → Appends between new (woven_from w left) → Appends old new all
+rest_taken old between new w all left so_far h = rw so_far.split (Appends-trans old between new so_far.taken (woven_from w left) so_far.appends h)
+
+-- a run was taken as a whole
+pub run_more : (old between new : Option (List ℕ)) (w v : WriterView) (all rest : List ℕ) (count : ℕ) → count ≤ length rest → Halfway old between w all rest
+    → Appends between new (woven_from w (take count rest)) → IsSameImage w v → v.position ≡ w.position + count → Halfway old new v all (take (length rest - count) (drop count rest))
+run_more old between new w v all rest count le so_far h same is =
+    let long : length (take count rest) ≡ count = omega (arith, length-take count rest) in
+    let parts : Halfway old between w all (take count rest ++ drop count rest) = rw (take-append-drop count rest) so_far in
+    rw (take_rest rest count) (first_taken old between new w v all (take count rest) (drop count rest) parts h same (omega (arith, is, long)))
 
 -- the next part was not taken as a whole
-pub next_fails : {X : Type 0} (old between new : Option (List ℕ)) (h : X → List ℕ) (b n p : ℕ) (xs : List X) (i : ℕ) (d : X) (all : List ℕ) → i < length xs
-    → Halfway old between b n all p (flat_map h (drop i xs)) → AppendsPart between new (woven b n p (h (get_or xs i d))) → AppendsPart old new all
-next_fails old between new h b n p xs i d all lt so_far part =
-    first_fails old between new b n p all (h (get_or xs i d)) (flat_map h (drop (i + 1) xs)) (rw (part_here h xs i d lt) at so_far) part
+pub next_fails : {X : Type 0} (old between new : Option (List ℕ)) (h : X → List ℕ) (w : WriterView) (xs : List X) (i : ℕ) (d : X) (all : List ℕ) → i < length xs
+    → Halfway old between w all (flat_map h (drop i xs)) → AppendsPart between new (woven_from w (h (get_or xs i d))) → AppendsPart old new all
+next_fails old between new h w xs i d all lt so_far part =
+    first_fails old between new w all (h (get_or xs i d)) (flat_map h (drop (i + 1) xs)) (rw (part_here h xs i d lt) at so_far) part
 
 -- the next part was taken as a whole
-pub next_taken : {X : Type 0} (old between new : Option (List ℕ)) (h : X → List ℕ) (b n p : ℕ) (xs : List X) (i : ℕ) (d : X) (all : List ℕ) → i < length xs
-    → Halfway old between b n all p (flat_map h (drop i xs)) → Appends between new (woven b n p (h (get_or xs i d)))
-    → Halfway old new b n all (p + length (h (get_or xs i d))) (flat_map h (drop (i + 1) xs))
-next_taken old between new h b n p xs i d all lt so_far put =
-    first_taken old between new b n p (p + length (h (get_or xs i d))) all (h (get_or xs i d)) (flat_map h (drop (i + 1) xs)) (rw (part_here h xs i d lt) at so_far) put refl
+pub next_taken : {X : Type 0} (old between new : Option (List ℕ)) (h : X → List ℕ) (w v : WriterView) (xs : List X) (i : ℕ) (d : X) (all : List ℕ) → i < length xs
+    → Halfway old between w all (flat_map h (drop i xs)) → Appends between new (woven_from w (h (get_or xs i d)))
+    → IsSameImage w v → v.position ≡ w.position + length (h (get_or xs i d)) → Halfway old new v all (flat_map h (drop (i + 1) xs))
+next_taken old between new h w v xs i d all lt so_far put same is =
+    first_taken old between new w v all (h (get_or xs i d)) (flat_map h (drop (i + 1) xs)) (rw (part_here h xs i d lt) at so_far) put same is
 
 -- no data remains, so all of it was taken
-pub all_taken : (old now : Option (List ℕ)) (b n p : ℕ) (all left : List ℕ) → Halfway old now b n all p left → length left ≡ 0 → Appends old now all
-all_taken old now b n p all left h none = rw (woven_done b n p h.taken left all h.split none) h.appends
+pub all_taken : (old now : Option (List ℕ)) (w : WriterView) (all left : List ℕ) → Halfway old now w all left → length left ≡ 0 → Appends old now all
+all_taken old now w all left h none = rw (woven_done w.block_size w.num_blocks w.position h.taken left all h.split none) h.appends
+
+-- the next part, padded to whole blocks, was not taken as a whole
+pub part_not_put : (old between new : Option (List ℕ)) (b : ℕ) (w : WriterView) (all part given rest : List ℕ) → w.block_size ≡ b → given ≡ part
+    → Halfway old between w all (filled b part ++ rest) → AppendsPart between new (woven_from w (filled w.block_size given)) → AppendsPart old new all
+part_not_put old between new b w all part given rest size is so_far h =
+    let same : filled w.block_size given ≡ filled b part = rw (size, is) refl in
+    first_fails old between new w all (filled b part) rest so_far (rw same at h)
+
+-- the next part, padded to whole blocks, was taken as a whole
+pub part_put : (old between new : Option (List ℕ)) (b : ℕ) (w v : WriterView) (all part given rest : List ℕ) → w.block_size ≡ b → given ≡ part
+    → Halfway old between w all (filled b part ++ rest) → Appends between new (woven_from w (filled w.block_size given))
+    → IsSameImage w v → v.position ≡ w.position + length (filled w.block_size given) → Halfway old new v all rest
+part_put old between new b w v all part given rest size is so_far h is_same end =
+    let same : filled w.block_size given ≡ filled b part = rw (size, is) refl in
+    first_taken old between new w v all (filled b part) rest so_far (rw same at h) is_same (rw same at end)
+
+-- the same for the next of several streams
+pub next_not_put : {X : Type 0} (old between new : Option (List ℕ)) (h : X → List ℕ) (b : ℕ) (w : WriterView) (xs : List X) (i : ℕ) (d : X) (all : List ℕ) → i < length xs → w.block_size ≡ b
+    → Halfway old between w all (flat_map (λ x. filled b (h x)) (drop i xs)) → AppendsPart between new (woven_from w (filled w.block_size (h (get_or xs i d)))) → AppendsPart old new all
+next_not_put old between new h b w xs i d all lt size so_far part =
+    let here = part_here (λ x. filled b (h x)) xs i d lt in
+    part_not_put old between new b w all (h (get_or xs i d)) (h (get_or xs i d)) (flat_map (λ x. filled b (h x)) (drop (i + 1) xs)) size refl (rw here at so_far) part
+
+pub next_put : {X : Type 0} (old between new : Option (List ℕ)) (h : X → List ℕ) (b : ℕ) (w v : WriterView) (xs : List X) (i : ℕ) (d : X) (all : List ℕ) → i < length xs → w.block_size ≡ b
+    → Halfway old between w all (flat_map (λ x. filled b (h x)) (drop i xs)) → Appends between new (woven_from w (filled w.block_size (h (get_or xs i d))))
+    → IsSameImage w v → v.position ≡ w.position + length (filled w.block_size (h (get_or xs i d))) → Halfway old new v all (flat_map (λ x. filled b (h x)) (drop (i + 1) xs))
+next_put old between new h b w v xs i d all lt size so_far put same end =
+    let here = part_here (λ x. filled b (h x)) xs i d lt in
+    part_put old between new b w v all (h (get_or xs i d)) (h (get_or xs i d)) (flat_map (λ x. filled b (h x)) (drop (i + 1) xs)) size refl (rw here at so_far) put same end
 
 -- ---- the parts of an image in turn
 
@@ -278,10 +298,15 @@ few_bytes b n ts sb bm dir size front =
       length-append (filled b dir) (flat_map (filled b) ts),
     )
 
--- what was written before the first part, and after each part before the streams
-pub before_front : (old : Option (List ℕ)) (b n : ℕ) (ts : List (List ℕ)) (sb bm dir : List ℕ) → IsBlockSize b → IsFront b n (map length ts) sb bm dir
-    → Halfway old old b n (image b ts) 0 (flat_map (filled b) (sb ∷ bm ∷ dir ∷ ts))
-before_front old b n ts sb bm dir size front = rw (by_parts b n ts sb bm dir size front) (at_start old b n 0 (flat_map (filled b) (sb ∷ bm ∷ dir ∷ ts)))
+-- what was written before the first part
+pub before_front : (old : Option (List ℕ)) (w : WriterView) (ts : List (List ℕ)) (sb bm dir : List ℕ) → IsBlockSize w.block_size → IsFront w.block_size w.num_blocks (map length ts) sb bm dir
+    → w.position ≡ 0 → Halfway old old w (image w.block_size ts) (flat_map (filled w.block_size) (sb ∷ bm ∷ dir ∷ ts))
+before_front old w ts sb bm dir size front start =
+    record {
+      taken = [];
+      split = by_parts w.block_size w.num_blocks ts sb bm dir size front ∙ rw start refl;
+      appends = Appends-nil old;
+    }
 
 -- a stream in one part has the contents of that part
 pub joined_one : (part : Bor (List ℕ)) → joined (part ∷ []) ≡ part.now

@@ -1,6 +1,7 @@
 -- An image during writing: the data, with the map blocks between its bytes.
 use Rattle.std.specs.Prelude.{ℕ, ◌≡◌, ◌+◌, ◌-◌, ◌*◌, ◌/◌, ◌%◌, ◌<◌, ◌==◌, ◌&&◌, nat_le, nat_lt, if◌then◌else◌, Bool, List, [], ◌∷◌, ◌++◌, Option, length, take}
 use Rattle.std.specs.Io.KnownBytes.{Appends}
+use Rattle.msf_blocks.specs.BlockNumber.{IsBlockSize}
 use Rattle.msf_blocks.specs.FreeMap.{map_block}
 use Rattle.msf_streams.specs.Image.{Fits, image_blocks, superblock_part, block_map_part, directory_part}
 
@@ -25,6 +26,26 @@ maps_before block_size num_blocks p =
 unfoldable pub woven : ℕ → ℕ → ℕ → List ℕ → List ℕ
 woven block_size num_blocks p [] = []
 woven block_size num_blocks p (byte ∷ bytes) = maps_before block_size num_blocks p ++ byte ∷ woven block_size num_blocks (p + 1) bytes
+
+-- a writer of an image: how many bytes a block has, how many blocks the image has, and the position where the next byte goes
+pub record WriterView : Type 0 where
+  pub block_size : ℕ
+  pub num_blocks : ℕ
+  pub position : ℕ
+
+-- what holds of each writer: its blocks have one of the seven sizes, and its page has one block
+pub record IsWriter (block_size : ℕ) (page : List ℕ) : Type 0 where
+  pub size : IsBlockSize block_size
+  pub long : length page ≡ block_size
+
+-- a writer of the same image: only its position may be another
+pub record IsSameImage (old new : WriterView) : Type 0 where
+  pub block_size : new.block_size ≡ old.block_size
+  pub num_blocks : new.num_blocks ≡ old.num_blocks
+
+-- some data from the position of a writer on, with the map blocks that come before its bytes
+abbrev pub woven_from : WriterView → List ℕ → List ℕ
+woven_from writer bytes = woven writer.block_size writer.num_blocks writer.position bytes
 
 -- how many bytes of data there are from byte p on, up to the next map blocks
 unfoldable pub room : ℕ → ℕ → ℕ

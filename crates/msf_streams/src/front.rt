@@ -1,6 +1,6 @@
 //! The parts of an image before its streams: the superblock, the block map and the directory.
 
-ghost use Rattle.std.specs.Prelude.{◌≡◌, length, IfOk};
+ghost use Rattle.std.specs.Prelude.{◌≡◌, IfOk};
 ghost use Rattle.msf_blocks.specs.BlockNumber.{IsBlockSize};
 ghost use Rattle.msf_streams.specs.Image.{Fits, image_blocks};
 ghost use Rattle.msf_streams.specs.Put.{IsFront};
@@ -9,13 +9,12 @@ use crate::image::{directory_blocks, directory_len, stream_blocks};
 use msf_blocks::{block_map_bytes, directory_bytes, nth_block, superblock_bytes};
 use std::alloc::{AllocError, Allocator};
 
-/// What a writer needs besides the streams: the parts before them, and a page for a map block.
+/// The parts of an image before its streams.
 #[derive(Drop)]
 pub(crate) struct Front<A: Allocator> {
     pub(crate) superblock: [u8; 56],
     pub(crate) block_map: Vec<u8, A>,
     pub(crate) directory: Vec<u8, A>,
-    pub(crate) page: Vec<u8, A>,
 }
 
 impl<A: Allocator + Copy> Front<A> {
@@ -30,10 +29,9 @@ impl<A: Allocator + Copy> Front<A> {
         requires size { IsBlockSize block_size }
         requires fits { Fits block_size sizes.now }
         requires count { num_blocks ≡ image_blocks block_size sizes.now }
-        ensures value { IfOk result (λ f.
+        ensures { IfOk result (λ f.
             IsFront block_size num_blocks sizes.now f.superblock f.block_map.items
             f.directory.items) }
-        ensures page { IfOk result (λ f. length f.page.items ≡ block_size) }
     {
         let blocks = stream_blocks(block_size, sizes);
         let directory_blocks = directory_blocks(block_size, blocks);
@@ -48,7 +46,6 @@ impl<A: Allocator + Copy> Front<A> {
             superblock,
             block_map: block_map_bytes(alloc, block_size, directory_blocks)?,
             directory: directory_bytes(alloc, block_size, sizes, directory_blocks, blocks)?,
-            page: vec![in alloc; 0; block_size as usize]?,
         })
     }
 }

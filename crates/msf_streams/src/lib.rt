@@ -44,8 +44,8 @@ mod at;
 mod fault;
 mod front;
 mod image;
+mod image_writer;
 pub mod laws;
-mod put;
 mod streams;
 mod write;
 

@@ -9,7 +9,7 @@ ghost use Rattle.msf_streams.specs.Put.{AppendsPart, IsFront};
 use crate::fault::WriteFault;
 use crate::front::Front;
 use crate::image::image_len;
-use crate::put::{put_part, put_streams};
+use crate::image_writer::ImageWriter;
 use byte_io::{NotTaken, Sink};
 use std::alloc::Allocator;
 
@@ -49,29 +49,29 @@ fn sizes_of(streams: &[&[&[u8]]; 5]) -> Option<[u32; 5]>
     Some(sizes)
 }
 
-/// Puts the image of these streams into a sink. `front` is the front of this image.
+/// Puts the image of these streams into a sink. `front` is the front of this image, and `writer` is
+/// at its first byte.
 fn put_image<W: Sink, A: Allocator>(
-    block_size: u32,
-    num_blocks: u32,
-    front: &mut Front<A>,
+    writer: &mut ImageWriter<A>,
+    front: &Front<A>,
     streams: &[&[&[u8]]; 5],
     out: &mut W,
 ) -> Result<(), NotTaken>
-    requires size { IsBlockSize block_size }
-    requires page { length front.old.page.items ≡ block_size }
-    requires front { IsFront block_size num_blocks (map length (joined_of streams.now))
-        front.old.superblock front.old.block_map.items front.old.directory.items }
-    ensures ok { OnOk result
-        (Appends (W.taken out.old) (W.taken out.new) (image block_size (joined_of streams.now))) }
+    requires size { IsBlockSize writer.old.block_size }
+    requires start { writer.old.position ≡ 0 }
+    requires front { IsFront writer.old.block_size writer.old.num_blocks
+        (map length (joined_of streams.now))
+        front.now.superblock front.now.block_map.items front.now.directory.items }
+    ensures ok { OnOk result (Appends (W.taken out.old) (W.taken out.new)
+        (image writer.old.block_size (joined_of streams.now))) }
     ensures broken { OnErr result (W.is_broken out.new ≡ true) }
     ensures prefix { OnErr result (AppendsPart (W.taken out.old) (W.taken out.new)
-        (image block_size (joined_of streams.now))) }
+        (image writer.old.block_size (joined_of streams.now))) }
 {
-    let page = &mut front.page;
-    let end = put_part(block_size, num_blocks, 0, &front.superblock, page, out)?;
-    let end = put_part(block_size, num_blocks, end, &front.block_map, page, out)?;
-    let end = put_part(block_size, num_blocks, end, &front.directory, page, out)?;
-    put_streams(block_size, num_blocks, end, streams, page, out)
+    writer.put_part(&front.superblock, out)?;
+    writer.put_part(&front.block_map, out)?;
+    writer.put_part(&front.directory, out)?;
+    writer.put_streams(streams, out)
 }
 
 /// Writes the image of five streams into a sink: the container that holds just these streams. Each
@@ -121,8 +121,9 @@ pub fn write_parts<W: Sink, A: Allocator + Copy>(
         return Err(WriteFault::Image);
     };
     let num_blocks = len / block_size;
-    let mut front = Front::new(alloc, block_size, num_blocks, &sizes)?;
-    put_image(block_size, num_blocks, &mut front, streams, out)?;
+    let front = Front::new(alloc, block_size, num_blocks, &sizes)?;
+    let mut writer = ImageWriter::new(alloc, block_size, num_blocks)?;
+    put_image(&mut writer, &front, streams, out)?;
     Ok(())
 }
 

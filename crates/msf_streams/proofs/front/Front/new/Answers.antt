@@ -6,8 +6,8 @@ use Rattle.msf_streams.proofs.front.Front.new.Goals as goal
 pub nth_block-block_map_addr-requires-clause-fits : goal.nth_block-block_map_addr-requires-clause-fits
 nth_block-block_map_addr-requires-clause-fits g c = small_number c.args.block_size 1 c.requires.size (omega arith)
 
-pub returns-clause-value : goal.returns-clause-value
-returns-clause-value g c =
+pub returns : goal.returns
+returns g c =
     let b = c.args.block_size in
     let sizes = c.args.sizes.now in
     let five = c.told-sizes in

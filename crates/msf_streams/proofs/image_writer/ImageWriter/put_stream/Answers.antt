@@ -1,0 +1,75 @@
+use Rattle.std.proofs.Common.{◌≡◌, ◌+◌, length, arith, ap}
+use Rattle.std.specs.Io.KnownBytes.{Appends}
+use Rattle.std.proofs.lemmas.List.{length-append}
+use Rattle.msf_streams.specs.Image.{filled, joined}
+use Rattle.msf_streams.specs.Put.{WriterView, woven_from, AppendsPart}
+use Rattle.msf_streams.proofs.PutLaws.{at_err, on_ok, on_err, filled_after, filled_longer, part_fails, fill_fails, part_taken}
+use Rattle.msf_streams.proofs.image_writer.ImageWriter.put_stream.Goals as goal
+
+pub put_joined-requires : goal.put_joined-requires
+put_joined-requires g c = record { few = omega (arith, c.requires.few, filled_longer c.args.self.now.block_size (joined c.args.parts.now)) }
+
+pub returns-in_err-put_joined-clause-prefix : goal.returns-in_err-put_joined-clause-prefix
+returns-in_err-put_joined-clause-prefix g c =
+    let w = c.args.self.now in
+    let bytes = joined c.args.parts.now in
+    let old = g.W.Sink.taken c.args.out.now in
+    let new = g.W.Sink.taken c.put_joined.new.out in
+    at_err (AppendsPart old new (woven_from w (filled w.block_size bytes))) c.from_residual.result
+    (part_fails old new w.block_size w.num_blocks w.position bytes c.in_err-put_joined.ensures.prefix)
+
+pub fill_len-requires-clause-few : goal.fill_len-requires-clause-few
+fill_len-requires-clause-few g c =
+    let end = ap (λ (v : WriterView). v.position) c.self-2.view_is in
+    omega (arith, end, c.in_ok-put_joined.ensures.end, c.requires.few, filled_longer c.args.self.now.block_size (joined c.args.parts.now))
+
+pub put_bytes-requires : goal.put_bytes-requires
+put_bytes-requires g c =
+    let w = c.args.self.now in
+    let v = c.put_joined.new.self in
+    let put = c.in_ok-put_joined.ensures in
+    let bytes = joined c.args.parts.now in
+    let fill = c.zeros-fill.result.now in
+    let is = filled_after w v _ _ bytes fill c.fill_len.result c.self.view_is c.self-2.view_is put.same put.end c.fill_len.ensures.value c.zeros-fill.ensures in
+    record { few = omega (arith, put.end, c.requires.few, ap length is, length-append bytes fill) }
+
+pub returns-clause-end : goal.returns-clause-end
+returns-clause-end g c =
+    let w = c.args.self.now in
+    let v = c.put_joined.new.self in
+    let put = c.in_ok-put_joined.ensures in
+    let bytes = joined c.args.parts.now in
+    let fill = c.zeros-fill.result.now in
+    let is = filled_after w v _ _ bytes fill c.fill_len.result c.self.view_is c.self-2.view_is put.same put.end c.fill_len.ensures.value c.zeros-fill.ensures in
+    let end = c.put_bytes.new.self.position in
+    on_ok (end ≡ v.position + length fill) (end ≡ w.position + length (filled w.block_size bytes)) c.put_bytes.result (λ e. omega (arith, e, put.end, ap length is, length-append bytes fill)) c.put_bytes.ensures.end
+
+pub returns-clause-ok : goal.returns-clause-ok
+returns-clause-ok g c =
+    let w = c.args.self.now in
+    let v = c.put_joined.new.self in
+    let put = c.in_ok-put_joined.ensures in
+    let bytes = joined c.args.parts.now in
+    let fill = c.zeros-fill.result.now in
+    let is = filled_after w v _ _ bytes fill c.fill_len.result c.self.view_is c.self-2.view_is put.same put.end c.fill_len.ensures.value c.zeros-fill.ensures in
+    let old = g.W.Sink.taken c.args.out.now in
+    let between = g.W.Sink.taken c.put_joined.new.out in
+    let new = g.W.Sink.taken c.put_bytes.new.out in
+    let all = woven_from w (filled w.block_size bytes) in
+    on_ok (Appends between new (woven_from v fill)) (Appends old new all) c.put_bytes.result
+    (λ h. part_taken old between new w.block_size w.num_blocks w.position bytes fill is put.ok (rw (put.same.block_size, put.same.num_blocks, put.end) at h)) c.put_bytes.ensures.ok
+
+pub returns-clause-prefix : goal.returns-clause-prefix
+returns-clause-prefix g c =
+    let w = c.args.self.now in
+    let v = c.put_joined.new.self in
+    let put = c.in_ok-put_joined.ensures in
+    let bytes = joined c.args.parts.now in
+    let fill = c.zeros-fill.result.now in
+    let is = filled_after w v _ _ bytes fill c.fill_len.result c.self.view_is c.self-2.view_is put.same put.end c.fill_len.ensures.value c.zeros-fill.ensures in
+    let old = g.W.Sink.taken c.args.out.now in
+    let between = g.W.Sink.taken c.put_joined.new.out in
+    let new = g.W.Sink.taken c.put_bytes.new.out in
+    let all = woven_from w (filled w.block_size bytes) in
+    on_err (AppendsPart between new (woven_from v fill)) (AppendsPart old new all) c.put_bytes.result
+    (λ h. fill_fails old between new w.block_size w.num_blocks w.position bytes fill is put.ok (rw (put.same.block_size, put.same.num_blocks, put.end) at h)) c.put_bytes.ensures.prefix
