@@ -14,7 +14,8 @@
 //!   otherwise.
 //! - [`gather_at`] gathers the contents by position, and reads no other byte of the file.
 //! - [`write_image`] writes the *image* of five streams: the container that holds just these
-//!   streams. [`write_parts`] does the same for streams that are lent in several parts.
+//!   streams. [`write_parts`] does the same for streams that are lent in several parts, and
+//!   [`write_parts_len`] also returns the length of the image.
 //! - [`image_len`] computes the length of an image, or says that there is none.
 //! - [`laws`] says what holds of every image and of every stream. For example, an image reads back
 //!   as the streams that it was made of.
@@ -53,4 +54,4 @@ pub use at::gather_at;
 pub use fault::{StreamFault, WriteFault};
 pub use image::image_len;
 pub use streams::{StreamPieces as Pieces, contents, gather, lent, pieces};
-pub use write::{write_image, write_parts};
+pub use write::{write_image, write_parts, write_parts_len};

@@ -1,6 +1,6 @@
 //! Writes an image into a sink.
 
-ghost use Rattle.std.specs.Prelude.{◌≡◌, ◌≢◌, ◌⊎◌, ◌<◌, ◌≤◌, ◌^◌, true, All, length, map, IfSome, IfNone, IfErr, OnOk, OnErr};
+ghost use Rattle.std.specs.Prelude.{◌≡◌, ◌≢◌, ◌⊎◌, ◌<◌, ◌≤◌, ◌^◌, true, All, length, map, IfSome, IfNone, IfOk, IfErr, OnOk, OnErr};
 ghost use Rattle.std.specs.Io.KnownBytes.{Appends};
 ghost use Rattle.msf_blocks.specs.BlockNumber.{IsBlockSize};
 ghost use Rattle.msf_streams.specs.Image.{Writable, image, contents_of, joined, joined_of};
@@ -89,7 +89,6 @@ fn put_image<W: Sink, A: Allocator>(
 /// 3. `Write`: the sink broke. It took only the first bytes of the image, or none.
 ///
 /// The sink is unchanged after `Image` and `Memory`. ("The MSF File Format".)
-#[tactic(auto, using(msf_blocks::proofs::SizeLaws::some_bytes, crate::proofs::ImageLaws::count_back))]
 pub fn write_parts<W: Sink, A: Allocator + Copy>(
     alloc: A,
     block_size: u32,
@@ -99,6 +98,39 @@ pub fn write_parts<W: Sink, A: Allocator + Copy>(
     requires { IsBlockSize block_size }
     ensures value { OnOk result
         (Appends (W.taken out.old) (W.taken out.new) (image block_size (joined_of streams.now))) }
+    ensures image { IfErr result (λ fault.
+        fault ≡ WriteFault.Image → Writable block_size (joined_of streams.now) → ⊥) }
+    // Streams that fit are refused only when out of memory, or when the sink breaks.
+    ensures found { Writable block_size (joined_of streams.now) →
+        IfErr result (λ fault. (fault ≡ WriteFault.Memory) ⊎ (fault ≡ WriteFault.Write)) }
+    // The result is `Image`, or the streams fit.
+    ensures writable { (result ≡ Err WriteFault.Image)
+        ⊎ Writable block_size (joined_of streams.now) }
+    ensures write { IfErr result (λ fault.
+        fault ≡ WriteFault.Write →
+        (W.is_broken out.new ≡ true)
+        × AppendsPart (W.taken out.old) (W.taken out.new)
+        (image block_size (joined_of streams.now))) }
+    ensures untouched { IfErr result (λ fault. fault ≢ WriteFault.Write → out.new ≡ out.old) }
+{
+    write_parts_len(alloc, block_size, streams, out)?;
+    Ok(())
+}
+
+/// Writes the image of five streams into a sink, and returns the length of the image in bytes.
+///
+/// Everything else is as in [`write_parts`], which calls this. ("The MSF File Format".)
+#[tactic(auto, using(msf_blocks::proofs::SizeLaws::some_bytes, crate::proofs::ImageLaws::count_back))]
+pub fn write_parts_len<W: Sink, A: Allocator + Copy>(
+    alloc: A,
+    block_size: u32,
+    streams: &[&[&[u8]]; 5],
+    out: &mut W,
+) -> Result<u32, WriteFault>
+    requires { IsBlockSize block_size }
+    ensures value { OnOk result
+        (Appends (W.taken out.old) (W.taken out.new) (image block_size (joined_of streams.now))) }
+    ensures len { IfOk result (λ len. len ≡ length (image block_size (joined_of streams.now))) }
     ensures image { IfErr result (λ fault.
         fault ≡ WriteFault.Image → Writable block_size (joined_of streams.now) → ⊥) }
     // Streams that fit are refused only when out of memory, or when the sink breaks.
@@ -124,7 +156,7 @@ pub fn write_parts<W: Sink, A: Allocator + Copy>(
     let front = Front::new(alloc, block_size, num_blocks, &sizes)?;
     let mut writer = ImageWriter::new(alloc, block_size, num_blocks)?;
     put_image(&mut writer, &front, streams, out)?;
-    Ok(())
+    Ok(len)
 }
 
 /// Writes the image of five streams into a sink, each of which is lent in one part.

@@ -1,10 +1,10 @@
--- The length of the file of types, and that it fits.
+-- The streams of the file of types, and that they fit in a file.
 use Rattle.std.proofs.Common.{◌≡◌, ℕ, ◌+◌, ◌<◌, ◌≤◌, ◌^◌, List, [], ◌∷◌, ◌++◌, length, map, refl, ap, ◌∙◌, arith}
 use Rattle.std.specs.Prelude.{All}
 use Rattle.std.specs.List.{concat}
 use Rattle.pdb_info.proofs.SettingsLaws.{records_fit}
 use Rattle.std.proofs.lemmas.List.{length-append}
-use Rattle.std.proofs.lemmas.List.Elements.{All-nil, All-cons, All-head, All-tail}
+use Rattle.std.proofs.lemmas.List.Elements.{All-nil, All-cons}
 use Rattle.msf_streams.specs.Image.{Fits, Writable}
 use Rattle.pdb_info.specs.Settings.{SettingsView, AreSettings, record_limit}
 use Rattle.pdb_info.specs.Written.{info_contents}
@@ -13,7 +13,7 @@ use Rattle.tpi_records.specs.Written.{header_bytes, header_numbers}
 use Rattle.byte_fields.proofs.NumberLaws.{length-u32s}
 use Rattle.pdb_info.proofs.GuidLaws.{stored_is}
 use Rattle.byte_fields.specs.Number.{u32s}
-use Rattle.pdb_merge.specs.Merged.{type_stream, merged_sizes, merged_contents}
+use Rattle.pdb_merge.specs.Merged.{type_stream, merged_contents}
 
 -- the info stream has 52 bytes
 pub length-info : (age : ℕ) (guid : List ℕ) → length guid ≡ 16 → length (info_contents age guid) ≡ 52
@@ -36,7 +36,7 @@ stream_short : (records : List (List ℕ)) → length (concat records) ≤ 10737
 stream_short records few = omega (arith, length-stream records, few)
 
 -- the sizes of the streams
-pub sizes_are : (settings : SettingsView) (records : List (List ℕ)) → AreSettings settings
+sizes_are : (settings : SettingsView) (records : List (List ℕ)) → AreSettings settings
     → map length (merged_contents settings records) ≡ 0 ∷ 52 ∷ (56 + length (concat records)) ∷ 0 ∷ 0 ∷ []
 sizes_are settings records are = rw (length-info settings.age settings.guid are.guid_long, length-stream records) refl
 
@@ -52,21 +52,7 @@ short_writable settings records are few =
     All-cons P [] (info_contents settings.age settings.guid ∷ type_stream records ∷ [] ∷ [] ∷ []) (omega arith)
     (All-cons P (info_contents settings.age settings.guid) (type_stream records ∷ [] ∷ [] ∷ []) (omega (arith, length-info settings.age settings.guid are.guid_long)) (All-cons P (type_stream records) ([] ∷ [] ∷ []) short none))
 
--- the streams can be written exactly if their sizes fit
-pub sizes_writable : (settings : SettingsView) (records : List (List ℕ)) → AreSettings settings → Fits settings.block_size (merged_sizes (length (concat records))) → 56 + length (concat records) < 2 ^ 32
-    → Writable settings.block_size (merged_contents settings records)
-sizes_writable settings records are fits few = record { short = short_writable settings records are few; fits = rw (sizes_are settings records are) fits }
-
-pub writable_sizes : (settings : SettingsView) (records : List (List ℕ)) → AreSettings settings → Writable settings.block_size (merged_contents settings records)
-    → Fits settings.block_size (merged_sizes (length (concat records))) × (56 + length (concat records) < 2 ^ 32)
-writable_sizes settings records are w =
-    let P : List ℕ → Type 0 = λ text. length text < 2 ^ 32 in
-    let behind = All-tail P (info_contents settings.age settings.guid) (type_stream records ∷ [] ∷ [] ∷ []) (All-tail P [] (info_contents settings.age settings.guid ∷ type_stream records ∷ [] ∷ [] ∷ []) w.short) in
-    let short = All-head P (type_stream records) ([] ∷ [] ∷ []) behind in
-    let fits = w.fits in
-    let fit = rw (sizes_are settings records are) at fits in
-    (fit, omega (arith, length-stream records, short))
-
 pub merged_writable : (settings : SettingsView) (records : List (List ℕ)) → AreSettings settings → length (concat records) ≤ record_limit settings
     → Writable settings.block_size (merged_contents settings records)
-merged_writable settings records are few = sizes_writable settings records are (records_fit settings are (length (concat records)) few) (omega (arith, few, are.limit_fits))
+merged_writable settings records are few =
+    record { short = short_writable settings records are (omega (arith, few, are.limit_fits)); fits = merged_fits settings records are few }

@@ -1,10 +1,10 @@
 -- The file of types reads back.
-use Rattle.std.proofs.Common.{◌≡◌, ◌↔◌, ℕ, suc, subst, ◌+◌, ◌*◌, ◌<◌, ◌≤◌, List, [], ◌∷◌, length, map, get_or, refl, sym, ap, ◌∙◌, arith, inl, inr}
+use Rattle.std.proofs.Common.{◌≡◌, ◌↔◌, ℕ, suc, subst, ◌*◌, ◌<◌, ◌≤◌, List, [], ◌∷◌, length, map, get_or, refl, sym, ap, ◌∙◌, arith, inl, inr}
 use Rattle.std.specs.List.{AllByRecursion, Contains, concat}
 use Rattle.std.proofs.lemmas.Bool.{cases_order}
 use Rattle.std.proofs.lemmas.List.{get_or_default, append-nil, length-map}
 use Rattle.std.proofs.lemmas.List.Elements.{Contains-get_or}
-use Rattle.msf_streams.specs.Image.{ReadsBack, image_layout, image_length}
+use Rattle.msf_streams.specs.Image.{ReadsBack, image_layout}
 use Rattle.msf_streams.proofs.BackLaws.{reads_back}
 use Rattle.pdb_info.specs.Settings.{SettingsView, AreSettings, record_limit}
 use Rattle.pdb_info.specs.Written.{info_contents}
@@ -24,16 +24,11 @@ use Rattle.pdb_merge.specs.Union.{HasType, Within}
 use Rattle.pdb_merge.specs.Merged.{StandOnce, type_stream, merged_contents, merged_file}
 use Rattle.byte_fields.specs.Bytes.{AreBytes}
 use Rattle.pdb_merge.proofs.BytesLaws.{canon_bytes, merged_bytes}
-use Rattle.pdb_merge.proofs.FitLaws.{length-info, merged_fits, sizes_are}
+use Rattle.pdb_merge.proofs.FitLaws.{length-info, merged_fits}
 
 pub merged_back : (settings : SettingsView) (records : List (List ℕ)) → AreSettings settings → length (concat records) ≤ record_limit settings
     → ReadsBack settings.block_size (merged_contents settings records)
 merged_back settings records are few = reads_back settings.block_size (merged_contents settings records) are.size_fits (merged_fits settings records are few)
-
-pub merged_length : (settings : SettingsView) (records : List (List ℕ)) → AreSettings settings → length (concat records) ≤ record_limit settings
-    → length (merged_file settings records) ≡ image_length settings.block_size (0 ∷ 52 ∷ (56 + length (concat records)) ∷ 0 ∷ 0 ∷ [])
-unfolding merged_file
-merged_length settings records are few = (merged_back settings records are few).long ∙ ap (image_length settings.block_size) (sizes_are settings records are)
 
 -- the TPI stream of records that have at most 1,073,741,824 bytes together has these records
 pub stream_holds : (records : List (List ℕ)) → AllByRecursion IsRecord records → length (concat records) ≤ 1073741824 → HasRecords (type_stream records) records

@@ -1,5 +1,5 @@
 -- The file that is written for types.
-use Rattle.std.specs.Prelude.{ℕ, ◌≡◌, ◌+◌, ◌↔◌, List, [], ◌∷◌, ◌++◌, Option, length}
+use Rattle.std.specs.Prelude.{ℕ, ◌≡◌, ◌↔◌, List, [], ◌∷◌, ◌++◌, Option, length}
 use Rattle.std.specs.List.{concat}
 use Rattle.std.specs.Io.KnownBytes.{Appends}
 use Rattle.msf_streams.specs.Image.{image}
@@ -26,10 +26,6 @@ parts_contents info header records = [] ∷ info ∷ (header ++ records) ∷ [] 
 -- the streams of a file with these settings and these records: an empty stream, the info stream, the TPI stream, and two empty streams
 abbrev pub merged_contents : SettingsView → List (List ℕ) → List (List ℕ)
 merged_contents settings records = [] ∷ info_contents settings.age settings.guid ∷ type_stream records ∷ [] ∷ [] ∷ []
-
--- the lengths of these streams, where the records have `bytes` bytes together
-abbrev pub merged_sizes : ℕ → List ℕ
-merged_sizes bytes = 0 ∷ 52 ∷ (56 + bytes) ∷ 0 ∷ 0 ∷ []
 
 -- the file with these settings and these records
 unfoldable pub merged_file : SettingsView → List (List ℕ) → List ℕ

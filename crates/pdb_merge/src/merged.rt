@@ -13,7 +13,7 @@ ghost use Rattle.pdb_merge.specs.declared.fault.MergeFault.{MergeFault};
 use crate::fault::OutFault;
 use crate::files::merge_files;
 use crate::summary::Summary;
-use crate::written::{merged_len, write_merged};
+use crate::written::write_merged_len;
 use byte_io::{Inputs, Sink};
 use msf_streams::WriteFault;
 use pdb_info::Settings;
@@ -50,12 +50,13 @@ fn write_canon<W: Sink, A: Allocator + Copy>(
     ensures untouched { IfErr result (λ fault. fault ≢ OutFault.Write → out.new ≡ out.old) }
 {
     let bytes = canon.bytes_len();
-    let length = merged_len(settings, bytes);
-    if let Err(fault) = write_merged(alloc, canon, settings, out) {
-        return Err(out_fault(fault));
-    }
+    let length = match write_merged_len(alloc, canon, settings, out) {
+        Ok(length) => length,
+        Err(fault) => return Err(out_fault(fault)),
+    };
+    let types = canon.len() as u32;
     Ok(Summary {
-        types: canon.len() as u32,
+        types,
         bytes,
         length,
     })
