@@ -3,9 +3,7 @@ pub mod FreeLaws
 pub mod InfoLaws
 pub mod LayoutLaws
 pub mod MergeLaws
-pub mod RecordsLaws
 pub mod ShowLaws
 pub mod ShownLaws
 pub mod StreamsLaws
-pub mod TextLaws
 pub mod TypesLaws

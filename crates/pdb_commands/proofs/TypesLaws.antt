@@ -3,7 +3,8 @@ use Rattle.std.proofs.Common.{◌≡◌, ℕ, ◌+◌, List, [], ◌∷◌, ◌+
 use Rattle.std.proofs.lemmas.List.{append-nil, length-append}
 use Rattle.std.specs.List.{AllByRecursion}
 use Rattle.cv_leaves.specs.Place.{HasPlaces, IsChecked}
-use Rattle.pdb_commands.specs.Types.{AreTypeLines, type_line}
+use Rattle.pdb_commands.specs.Types.{AreTypeLines}
+use Rattle.command_texts.specs.Types.{type_line}
 use Rattle.tpi_records.specs.Header.{first_index}
 
 -- ---- lines

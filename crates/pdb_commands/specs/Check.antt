@@ -1,18 +1,13 @@
 -- What the command `check` prints.
-use Rattle.std.specs.Prelude.{ℕ, ◌≡◌, List, ◌∷◌, ◌++◌, length, codes}
+use Rattle.std.specs.Prelude.{ℕ, ◌≡◌, List, length}
 use Rattle.std.specs.List.{concat}
 use Rattle.closed_trees.specs.Depth.{HasLevels}
 use Rattle.byte_io.specs.At.{Bytes}
 use Rattle.msf_blocks.specs.Layout.{LayoutView}
 use Rattle.pdb_merge.specs.Read.{IsAccepted, TypesWereRead, HasPdbFault, HasPdbFaultRead}
-use Rattle.pdb_commands.specs.Text.{named_line}
+use Rattle.command_texts.specs.Check.{checked_lines}
 use Rattle.pdb_commands.specs.declared.fault.RunFault.{RunFault}
 use Rattle.pdb_commands.specs.declared.fault.RunFault.TheVariants.{Pdb}
-
--- what is printed of types that have this number of records, of bytes together and of levels
-unfoldable pub checked_lines : ℕ → ℕ → ℕ → List ℕ
-checked_lines records bytes levels =
-    codes "accepted" ++ 10 ∷ named_line (codes "records") records ++ named_line (codes "bytes") bytes ++ named_line (codes "levels") levels
 
 -- `check` prints this text for the file: that it is accepted, and the number of records, of bytes and of levels of its types
 abbrev pub ShowsChecked : List ℕ → List ℕ → Type 0

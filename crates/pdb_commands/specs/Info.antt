@@ -1,20 +1,16 @@
 -- What the command `info` prints.
-use Rattle.std.specs.Prelude.{ℕ, ◌≡◌, ◌≤◌, List, [], ◌∷◌, ◌++◌, Some, length, codes}
+use Rattle.std.specs.Prelude.{ℕ, ◌≡◌, ◌≤◌, List, ◌++◌, Some, length}
 use Rattle.std.specs.List.{flat_map}
-use Rattle.std.specs.Fmt.{decimal}
-use Rattle.uuid.specs.Text.{hyphenated_text, lower}
 use Rattle.byte_fields.specs.Check.{first_failing}
 use Rattle.byte_io.specs.At.{Bytes}
 use Rattle.msf_blocks.specs.Layout.{LayoutView, HasLayout}
 use Rattle.msf_streams.specs.Streams.{WasRead, stream_contents}
 use Rattle.msf_streams.specs.declared.fault.StreamFault.TheVariants.{NoStream}
-use Rattle.pdb_info.specs.Header.{HeaderFields}
-use Rattle.pdb_info.specs.Names.{NamedStream}
 use Rattle.pdb_info.specs.Info.{InfoView, HasInfo, info_checks}
 use Rattle.pdb_merge.specs.declared.fault.PdbFault.{PdbFault}
 use Rattle.pdb_merge.specs.declared.fault.PdbFault.TheVariants as pdb
+use Rattle.command_texts.specs.Info.{header_lines, name_line, feature_line}
 use Rattle.pdb_commands.specs.Streams.{HasLayoutFault}
-use Rattle.pdb_commands.specs.Text.{index_text, quoted, named_line}
 use Rattle.pdb_commands.specs.declared.fault.RunFault.{RunFault}
 use Rattle.pdb_commands.specs.declared.fault.RunFault.TheVariants.{Info, Pdb}
 
@@ -25,30 +21,6 @@ pub record HasInfoStream (file : List ℕ) (info : InfoView) : Type 0 where
   pub stream : List ℕ
   pub is_stream : stream_contents file layout 1 ≡ Some stream
   pub has_info : HasInfo stream info
-
--- the line of the signature
-unfoldable pub signature_line : ℕ → List ℕ
-signature_line signature = codes "signature " ++ index_text signature ++ 10 ∷ []
-
--- the line of the GUID, in lower case with hyphens
-unfoldable pub guid_line : List ℕ → List ℕ
-guid_line guid = codes "guid " ++ hyphenated_text lower guid ++ 10 ∷ []
-
--- the lines of the header
-unfoldable pub header_lines : HeaderFields → List ℕ
-header_lines header =
-    named_line (codes "version") header.version
-    ++ signature_line header.signature
-    ++ named_line (codes "age") header.age
-    ++ guid_line header.guid
-
--- the line of a named stream
-unfoldable pub name_line : NamedStream → List ℕ
-name_line name = codes "name " ++ quoted name.text ++ 32 ∷ decimal name.stream ++ 10 ∷ []
-
--- the line of a feature code
-abbrev pub feature_line : ℕ → List ℕ
-feature_line feature = named_line (codes "feature") feature
 
 -- `info` prints this text for the file: the header, the named streams in the order of their buckets, the feature codes
 abbrev pub ShowsInfo : List ℕ → List ℕ → Type 0

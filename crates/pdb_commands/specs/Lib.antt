@@ -7,5 +7,4 @@ pub mod Records
 pub mod Show
 pub mod Shown
 pub mod Streams
-pub mod Text
 pub mod Types

@@ -8,7 +8,7 @@ use Rattle.pdb_merge.specs.Union.{IsMergeFault}
 use Rattle.pdb_merge.specs.Merged.{Wrote}
 use Rattle.pdb_merge.specs.declared.summary.Summary.{Summary}
 use Rattle.pdb_merge.specs.declared.fault.MergeFault.TheVariants as merge
-use Rattle.pdb_commands.specs.Text.{named_line}
+use Rattle.command_texts.specs.Text.{named_line}
 use Rattle.pdb_commands.specs.declared.fault.RunFault.{RunFault}
 use Rattle.pdb_commands.specs.declared.fault.RunFault.TheVariants.{Merge, Memory, Write}
 

@@ -1,18 +1,15 @@
 -- What the command `record` prints.
-use Rattle.std.specs.Prelude.{ℕ, ◌≡◌, ◌-◌, nat_le, List, [], ◌∷◌, ◌++◌, Option, Some, None, if◌then◌else◌, slice_get, codes}
+use Rattle.std.specs.Prelude.{ℕ, ◌≡◌, ◌-◌, nat_le, List, ◌++◌, Option, Some, None, if◌then◌else◌, slice_get}
 use Rattle.std.specs.List.{flat_map}
-use Rattle.std.specs.Fmt.{decimal}
-use Rattle.hex.specs.Hex.{encode_lower}
-use Rattle.byte_fields.specs.Number.{number_at}
 use Rattle.byte_fields.specs.Check.{first_failing}
-use Rattle.cv_leaves.specs.Checks.{body_of, record_checks}
+use Rattle.cv_leaves.specs.Checks.{record_checks}
 use Rattle.cv_leaves.specs.Place.{HasPlaces}
 use Rattle.cv_leaves.specs.Name.{name_of}
 use Rattle.byte_io.specs.At.{Bytes}
 use Rattle.msf_blocks.specs.Layout.{LayoutView}
 use Rattle.pdb_merge.specs.Read.{HasTypeRecords, RecordsWereRead}
+use Rattle.command_texts.specs.Record.{bytes_line, place_line, name_lines}
 use Rattle.pdb_commands.specs.Records.{RefusesRecords, RefusesRecordsRead}
-use Rattle.pdb_commands.specs.Text.{index_text, quoted}
 use Rattle.pdb_commands.specs.declared.fault.RunFault.{RunFault}
 use Rattle.pdb_commands.specs.declared.fault.RunFault.TheVariants.{NoRecord, Leaf}
 use Rattle.tpi_records.specs.Header.{first_index}
@@ -20,19 +17,6 @@ use Rattle.tpi_records.specs.Header.{first_index}
 -- the record that has this type index; the first of these records has the index 0x1000
 unfoldable pub record_of : List (List ℕ) → ℕ → Option (List ℕ)
 record_of records index = if nat_le first_index index then slice_get records (index - first_index) else None
-
--- the line of the bytes of a record, in hexadecimal
-unfoldable pub bytes_line : List ℕ → List ℕ
-bytes_line bytes = encode_lower bytes ++ 10 ∷ []
-
--- the line of a place of a record: the place, and the type index at it
-unfoldable pub place_line : List ℕ → ℕ → List ℕ
-place_line bytes place = decimal place ++ 32 ∷ index_text (number_at 4 (body_of bytes) place) ++ 10 ∷ []
-
--- the line of a name, where there is one
-unfoldable pub name_lines : Option (List ℕ) → List ℕ
-name_lines None = []
-name_lines (Some name) = codes "name " ++ quoted name ++ 10 ∷ []
 
 -- `record` prints this text for the file and the type index: the bytes of the record, its places, its name
 pub record ShowsRecord (index : ℕ) (file text : List ℕ) : Type 0 where

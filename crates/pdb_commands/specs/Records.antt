@@ -1,23 +1,12 @@
 -- What the command `records` prints.
-use Rattle.std.specs.Prelude.{ℕ, ◌≡◌, ◌+◌, List, [], ◌∷◌, ◌++◌, length}
-use Rattle.std.specs.Fmt.{decimal}
-use Rattle.byte_fields.specs.Number.{number_at}
+use Rattle.std.specs.Prelude.{ℕ, ◌≡◌, List}
 use Rattle.byte_io.specs.At.{Bytes}
 use Rattle.msf_blocks.specs.Layout.{LayoutView}
 use Rattle.pdb_merge.specs.Read.{HasTypeRecords, RecordsWereRead, HasRecordsFault, HasStreamFaultRead}
-use Rattle.pdb_commands.specs.Text.{index_text, kind_text}
+use Rattle.command_texts.specs.Records.{record_lines}
 use Rattle.pdb_commands.specs.declared.fault.RunFault.{RunFault}
 use Rattle.pdb_commands.specs.declared.fault.RunFault.TheVariants.{Pdb}
 use Rattle.tpi_records.specs.Header.{first_index}
-
--- the line of a record: its type index, its kind, its size in bytes
-unfoldable pub record_line : ℕ → List ℕ → List ℕ
-record_line index bytes = index_text index ++ 32 ∷ kind_text (number_at 2 bytes 2) ++ 32 ∷ decimal (length bytes) ++ 10 ∷ []
-
--- the lines of records in order; the first record has this type index
-unfoldable pub record_lines : ℕ → List (List ℕ) → List ℕ
-record_lines index [] = []
-record_lines index (bytes ∷ others) = record_line index bytes ++ record_lines (index + 1) others
 
 -- `records` prints this text for the file: a line for each of its type records
 abbrev pub ShowsRecords : List ℕ → List ℕ → Type 0

@@ -1,40 +1,18 @@
 -- What the command `types` prints.
-use Rattle.std.specs.Prelude.{ℕ, ◌≡◌, ◌+◌, List, [], ◌∷◌, ◌++◌, Option, Some, None, length}
-use Rattle.std.specs.Option.{option_map_or}
-use Rattle.std.specs.List.{flat_map, AllByRecursion}
-use Rattle.std.specs.Fmt.{decimal}
-use Rattle.byte_fields.specs.Number.{number_at}
+use Rattle.std.specs.Prelude.{ℕ, ◌≡◌, ◌+◌, List, [], ◌∷◌, ◌++◌, Some, length}
+use Rattle.std.specs.List.{AllByRecursion}
 use Rattle.byte_fields.specs.Check.{first_failing}
-use Rattle.cv_leaves.specs.Leaf.{leaf_of}
-use Rattle.cv_leaves.specs.Checks.{kind_of, body_of, record_checks}
+use Rattle.cv_leaves.specs.Checks.{record_checks}
 use Rattle.cv_leaves.specs.Place.{HasPlaces, IsChecked}
-use Rattle.cv_leaves.specs.Name.{name_of}
 use Rattle.cv_leaves.specs.declared.fault.LeafFault.{LeafFault}
 use Rattle.byte_io.specs.At.{Bytes}
 use Rattle.msf_blocks.specs.Layout.{LayoutView}
 use Rattle.pdb_merge.specs.Read.{RecordsWereRead, HasTypeRecords}
+use Rattle.command_texts.specs.Types.{type_line}
 use Rattle.pdb_commands.specs.Records.{RefusesRecords, RefusesRecordsRead}
-use Rattle.pdb_commands.specs.Text.{index_text, quoted}
 use Rattle.pdb_commands.specs.declared.fault.RunFault.{RunFault}
 use Rattle.pdb_commands.specs.declared.fault.RunFault.TheVariants.{Leaf}
 use Rattle.tpi_records.specs.Header.{first_index}
-
--- a space and a reference: the type index at a place of a record
-abbrev pub reference : List ℕ → ℕ → List ℕ
-reference bytes place = 32 ∷ index_text (number_at 4 (body_of bytes) place)
-
--- a space and a name in quotes, where there is a name
-unfoldable pub quoted_name : Option (List ℕ) → List ℕ
-quoted_name None = []
-quoted_name (Some name) = 32 ∷ quoted name
-
--- the name of the leaf of a record
-unfoldable pub leaf_name : List ℕ → List ℕ
-leaf_name bytes = option_map_or (λ l. l.text) (leaf_of (kind_of bytes)) []
-
--- the line of a record with these places: its type index, the name of its leaf, its size in bytes, each reference, its name
-unfoldable pub type_line : ℕ → List ℕ → List ℕ → List ℕ
-type_line index bytes places = index_text index ++ 32 ∷ leaf_name bytes ++ 32 ∷ decimal (length bytes) ++ flat_map (reference bytes) places ++ quoted_name (name_of bytes) ++ 10 ∷ []
 
 -- the text is the lines of these records in order; the first record has this type index
 abbrev pub AreTypeLines : ℕ → List (List ℕ) → List ℕ → Type 0

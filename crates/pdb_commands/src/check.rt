@@ -1,38 +1,20 @@
 //! The command `check`: whether the types of a file can be trusted.
 
-ghost use Rattle.std.specs.Prelude.{◌≡◌, ◌⊎◌, ◌++◌, true, ℕ, List, OnOk, IfOk, IfErr, string_bytes};
+ghost use Rattle.std.specs.Prelude.{◌≡◌, true, ℕ, List, IfOk, IfErr, string_bytes};
 ghost use Rattle.byte_io.specs.At.{Bytes};
 ghost use Rattle.msf_blocks.specs.Layout.{LayoutView};
-ghost use Rattle.pdb_commands.specs.Check.{ShowsChecked, ShowsCheckedRead, RefusesCheck, RefusesCheckRead, checked_lines};
+ghost use Rattle.pdb_commands.specs.Check.{ShowsChecked, ShowsCheckedRead, RefusesCheck, RefusesCheckRead};
 ghost use Rattle.pdb_commands.specs.Show.{Answers, AnswersAt};
 ghost use Rattle.pdb_merge.specs.Read.{IsAccepted, TypesWereRead};
 
 use crate::command::{Show, ShowAt, run, run_at};
 use crate::fault::RunFault;
-use crate::text::push_named;
 use byte_io::{AtFault, ReadAt, Sink, Source};
+use command_texts::push_checked;
 use msf_blocks::{Layout, MsfFault};
 use pdb_merge::{Buffer, PdbFault, read_types, read_types_of};
-use std::alloc::{AllocError, Allocator};
+use std::alloc::Allocator;
 use type_trees::Types;
-
-/// Appends `accepted`, then the number of records, of bytes and of levels, one per line.
-#[tactic(auto, unfolding(crate::specs::Check::checked_lines))]
-fn push_checked<A: Allocator>(
-    text: &mut String<A>,
-    records: u32,
-    bytes: u32,
-    levels: u32,
-) -> Result<(), AllocError>
-    ensures { OnOk result
-        (string_bytes text.new ≡ string_bytes text.old ++ checked_lines records bytes levels) }
-{
-    text.push_str("accepted\n")?;
-    push_named(text, "records", records)?;
-    push_named(text, "bytes", bytes)?;
-    push_named(text, "levels", levels)?;
-    Ok(())
-}
 
 /// The text of types.
 fn types_text<A: Allocator + Copy>(alloc: A, types: &Types<'_, A>) -> Result<String<A>, RunFault<A>>

@@ -1,108 +1,22 @@
 //! The command `info`: what identifies a file.
 
-ghost use Rattle.std.specs.Prelude.{◌≡◌, ◌⊎◌, ◌++◌, map, Some, true, OnOk, IfOk, IfErr, string_bytes};
-ghost use Rattle.std.specs.List.{flat_map};
+ghost use Rattle.std.specs.Prelude.{◌≡◌, ◌⊎◌, Some, true, OnOk, IfOk, IfErr, string_bytes};
 ghost use Rattle.byte_io.specs.At.{Breaks, IfKnown, IfOf};
 ghost use Rattle.msf_blocks.specs.Layout.{LayoutView, HasLayout};
 ghost use Rattle.msf_streams.specs.Streams.{WasRead, stream_contents};
-ghost use Rattle.pdb_info.specs.Name.{named};
 ghost use Rattle.pdb_commands.specs.Show.{Answers, AnswersAt};
-ghost use Rattle.pdb_commands.specs.Info.{ShowsInfo, ShowsInfoRead, RefusesInfo, RefusesInfoRead, HasNoInfoStream, HasNoInfoStreamRead, IsInfoFault, IsInfoText, signature_line, guid_line, header_lines, name_line, feature_line};
+ghost use Rattle.pdb_commands.specs.Info.{ShowsInfo, ShowsInfoRead, RefusesInfo, RefusesInfoRead, HasNoInfoStream, HasNoInfoStreamRead, IsInfoFault, IsInfoText};
 
 use crate::bound::INFO_STREAM;
 use crate::command::{Show, ShowAt, run, run_at};
 use crate::fault::RunFault;
 use crate::streams::read_layout;
-use crate::text::{push_index, push_named, push_quoted};
 use byte_io::{AtFault, ReadAt, Sink, Source};
+use command_texts::{names_length, push_features, push_info_header, push_names};
 use msf_blocks::{Layout, MsfFault};
 use msf_streams::{contents, gather_at};
-use pdb_info::{InfoHeader, Name};
 use pdb_merge::PdbFault;
-use std::alloc::{AllocError, Allocator};
-use uuid::Uuid;
-
-/// Appends the line of the signature.
-#[tactic(auto, unfolding(crate::specs::Info::signature_line))]
-fn push_signature<A: Allocator>(text: &mut String<A>, signature: u32) -> Result<(), AllocError>
-    ensures { OnOk result
-        (string_bytes text.new ≡ string_bytes text.old ++ signature_line signature) }
-{
-    text.push_str("signature ")?;
-    push_index(text, signature)?;
-    text.push_str("\n")?;
-    Ok(())
-}
-
-/// Appends the line of the GUID.
-#[tactic(auto, unfolding(crate::specs::Info::guid_line))]
-fn push_guid<A: Allocator>(text: &mut String<A>, guid: Uuid) -> Result<(), AllocError>
-    ensures { OnOk result (string_bytes text.new ≡ string_bytes text.old ++ guid_line guid) }
-{
-    let mut buffer = Uuid::encode_buffer();
-    text.push_str("guid ")?;
-    text.push_str(guid.hyphenated().encode_lower(&mut buffer))?;
-    text.push_str("\n")?;
-    Ok(())
-}
-
-/// Appends the lines of the header.
-#[tactic(auto, unfolding(crate::specs::Info::header_lines))]
-fn push_header<A: Allocator>(text: &mut String<A>, header: &InfoHeader) -> Result<(), AllocError>
-    ensures { OnOk result
-        (string_bytes text.new ≡ string_bytes text.old ++ header_lines header.now) }
-{
-    push_named(text, "version", header.version())?;
-    push_signature(text, header.signature())?;
-    push_named(text, "age", header.age())?;
-    push_guid(text, header.guid())?;
-    Ok(())
-}
-
-/// Appends the line of a named stream.
-#[tactic(auto, unfolding(crate::specs::Info::name_line))]
-fn push_name<A: Allocator>(text: &mut String<A>, name: &Name<'_>) -> Result<(), AllocError>
-    ensures { OnOk result
-        (string_bytes text.new ≡ string_bytes text.old ++ name_line (named name.now)) }
-{
-    let stream = name.stream;
-    text.push_str("name ")?;
-    push_quoted(text, name.text)?;
-    writeln!(text, " {stream}")?;
-    Ok(())
-}
-
-/// Appends the lines of all named streams.
-fn push_names<A: Allocator>(text: &mut String<A>, names: &[Name<'_>]) -> Result<(), AllocError>
-    ensures { OnOk result
-        (string_bytes text.new
-        ≡ string_bytes text.old ++ flat_map name_line (map named names.now)) }
-{
-    for name in names {
-        push_name(text, name)?;
-    }
-    Ok(())
-}
-
-/// How many bytes the names have together.
-fn names_length(names: &[Name<'_>]) -> usize {
-    let mut length = 0usize;
-    for name in names {
-        length = length.saturating_add(name.text.len());
-    }
-    length
-}
-
-/// Appends the lines of all feature codes.
-fn push_features<A: Allocator>(text: &mut String<A>, features: &[u32]) -> Result<(), AllocError>
-    ensures { OnOk result
-        (string_bytes text.new ≡ string_bytes text.old ++ flat_map feature_line features.now) }
-{
-    for feature in features {
-        push_named(text, "feature", *feature)?;
-    }
-    Ok(())
-}
+use std::alloc::Allocator;
 
 /// The bytes of stream 1 of a file. They are lent from the file where its blocks are consecutive,
 /// and gathered into the buffer otherwise.
@@ -157,7 +71,7 @@ fn stream_text<A: Allocator + Copy>(alloc: A, stream: &[u8]) -> Result<String<A>
     // Names may share their bytes, and have far more together than the file. So the space for
     // them is asked for before any of them is copied.
     text.reserve(names_length(info.names()))?;
-    push_header(&mut text, info.header())?;
+    push_info_header(&mut text, info.header())?;
     push_names(&mut text, info.names())?;
     push_features(&mut text, info.features())?;
     Ok(text)

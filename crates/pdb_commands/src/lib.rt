@@ -19,7 +19,7 @@
 //! reads gave (`ShowsItRead`, `RefusesItRead`).
 //!
 //! The module `command` runs the commands that show a file. Each command has a module of its own.
-//! `text` prints numbers and names.
+//! The crate `command_texts` makes the texts.
 //!
 //! The file `src/examples.rt` of the crate `test_examples` shows this crate in use, in a few lines.
 #![tactic(auto)]
@@ -34,7 +34,6 @@ mod record;
 mod records;
 mod shown;
 mod streams;
-mod text;
 mod types;
 
 pub use bound::{check_type_stream, check_type_stream_at};

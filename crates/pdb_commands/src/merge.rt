@@ -11,8 +11,8 @@ ghost use Rattle.pdb_merge.specs.declared.fault.MergeFault.{MergeFault};
 ghost use Rattle.pdb_commands.specs.Merge.{summary_lines, IsNotMerged, IsOfMerging, WroteWhole, WroteAndReported, WroteAndBrokeOff};
 
 use crate::fault::RunFault;
-use crate::text::push_named;
 use byte_io::{Inputs, Sink, put_all};
+use command_texts::push_named;
 use pdb_info::Settings;
 use pdb_merge::{Summary, merge_to};
 use std::alloc::{AllocError, Allocator};

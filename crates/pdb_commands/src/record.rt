@@ -1,23 +1,20 @@
 //! The command `record`: one type record of a file, with the types that it names.
 
-ghost use Rattle.std.specs.Prelude.{◌≡◌, ◌≤◌, ◌+◌, ◌^◌, ◌⊎◌, ◌++◌, List, ℕ, true, OnOk, IfOk, IfErr, IfSome, option_map, string_bytes, length};
-ghost use Rattle.std.specs.List.{flat_map};
-ghost use Rattle.cv_leaves.specs.Place.{HasPlaces, IsChecked};
-ghost use Rattle.cv_leaves.specs.Name.{name_of};
+ghost use Rattle.std.specs.Prelude.{◌≡◌, ◌≤◌, ◌^◌, ◌⊎◌, List, ℕ, true, IfOk, IfErr, IfSome, option_map, string_bytes, length};
 ghost use Rattle.byte_io.specs.At.{Bytes};
 ghost use Rattle.msf_blocks.specs.Layout.{LayoutView};
-ghost use Rattle.pdb_commands.specs.Record.{ShowsRecord, ShowsRecordRead, RefusesRecord, RefusesRecordRead, record_of, bytes_line, place_line, name_lines};
+ghost use Rattle.pdb_commands.specs.Record.{ShowsRecord, ShowsRecordRead, RefusesRecord, RefusesRecordRead, record_of};
 ghost use Rattle.pdb_commands.specs.Show.{Answers, AnswersAt, IsOfText};
 ghost use Rattle.pdb_merge.specs.Read.{HasTypeRecords, RecordsWereRead};
 
 use crate::command::{Show, ShowAt, run, run_at};
 use crate::fault::RunFault;
-use crate::text::{push_index, push_quoted};
 use byte_io::{AtFault, ReadAt, Sink, Source};
-use cv_leaves::{check, places, ref_at, type_name};
+use command_texts::record_text;
+use cv_leaves::check;
 use msf_blocks::{Layout, MsfFault};
 use pdb_merge::{Buffer, PdbFault, read_records, read_records_of};
-use std::alloc::{AllocError, Allocator};
+use std::alloc::Allocator;
 use tpi_records::{FIRST_INDEX, Records};
 
 /// The record that has a type index. `None` where no record has it.
@@ -28,83 +25,6 @@ fn record_of<'a, A: Allocator>(records: &Records<'a, A>, index: u32) -> Option<&
 {
     let bytes = records.get(index.checked_sub(FIRST_INDEX)? as usize)?;
     Some(bytes)
-}
-
-/// Appends the line with the bytes in hexadecimal.
-#[tactic(auto, unfolding(crate::specs::Record::bytes_line))]
-fn push_bytes<A: Allocator + Copy>(
-    alloc: A,
-    text: &mut String<A>,
-    bytes: &[u8],
-) -> Result<(), AllocError>
-    ensures { OnOk result (string_bytes text.new ≡ string_bytes text.old ++ bytes_line bytes.now) }
-{
-    text.push_str(&hex::encode(alloc, bytes)?)?;
-    text.push_str("\n")?;
-    Ok(())
-}
-
-/// Appends the line of a place: the place and the type index there.
-#[tactic(auto, unfolding(crate::specs::Record::place_line))]
-fn push_place<A: Allocator>(
-    text: &mut String<A>,
-    bytes: &[u8],
-    place: usize,
-) -> Result<(), AllocError>
-    requires { place + 8 ≤ length bytes.now }
-    ensures { OnOk result
-        (string_bytes text.new ≡ string_bytes text.old ++ place_line bytes.now place) }
-{
-    write!(text, "{place} ")?;
-    push_index(text, ref_at(bytes, place))?;
-    text.push_str("\n")?;
-    Ok(())
-}
-
-/// Appends the lines of all places.
-fn push_places<A: Allocator>(text: &mut String<A>, bytes: &[u8]) -> Result<(), AllocError>
-    requires long { (4 ≤ length bytes.now) × (length bytes.now ≤ 2 ^ 16) }
-    requires checked { IsChecked bytes.now }
-    ensures { OnOk result
-        ((at : List ℕ) × HasPlaces bytes.now at
-        × (string_bytes text.new ≡ string_bytes text.old ++ flat_map (place_line bytes.now) at)) }
-{
-    for place in places(bytes) {
-        push_place(text, bytes, place)?;
-    }
-    Ok(())
-}
-
-/// Appends the line of the name, where there is one.
-#[tactic(auto, unfolding(crate::specs::Record::name_lines))]
-fn push_name<A: Allocator>(text: &mut String<A>, bytes: &[u8]) -> Result<(), AllocError>
-    requires long { (4 ≤ length bytes.now) × (length bytes.now ≤ 2 ^ 16) }
-    ensures { OnOk result
-        (string_bytes text.new ≡ string_bytes text.old ++ name_lines (name_of bytes.now)) }
-{
-    if let Some(name) = type_name(bytes) {
-        text.push_str("name ")?;
-        push_quoted(text, name)?;
-        text.push_str("\n")?;
-    }
-    Ok(())
-}
-
-/// The text of a record.
-fn record_text<A: Allocator + Copy>(alloc: A, bytes: &[u8]) -> Result<String<A>, AllocError>
-    requires long { (4 ≤ length bytes.now) × (length bytes.now ≤ 2 ^ 16) }
-    requires checked { IsChecked bytes.now }
-    ensures { IfOk result (λ text.
-        (at : List ℕ) × HasPlaces bytes.now at
-        × (string_bytes text
-        ≡ bytes_line bytes.now ++ flat_map (place_line bytes.now) at
-        ++ name_lines (name_of bytes.now))) }
-{
-    let mut text = String::new(alloc);
-    push_bytes(alloc, &mut text, bytes)?;
-    push_places(&mut text, bytes)?;
-    push_name(&mut text, bytes)?;
-    Ok(text)
 }
 
 /// The text of the record that has a type index.

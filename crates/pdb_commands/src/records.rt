@@ -1,54 +1,16 @@
 //! The command `records`: a line for each type record of a file.
 
-ghost use Rattle.std.specs.Prelude.{◌≡◌, ◌⊎◌, ◌++◌, true, OnOk, IfOk, IfErr, string_bytes};
-ghost use Rattle.tpi_records.specs.Records.{IsRecord};
-ghost use Rattle.pdb_commands.specs.Records.{ShowsRecords, ShowsRecordsRead, RefusesRecords, RefusesRecordsRead, record_line, record_lines};
+ghost use Rattle.std.specs.Prelude.{true};
+ghost use Rattle.pdb_commands.specs.Records.{ShowsRecords, ShowsRecordsRead, RefusesRecords, RefusesRecordsRead};
 ghost use Rattle.pdb_commands.specs.Show.{Answers, AnswersAt};
 
 use crate::command::{Show, ShowAt, run, run_at};
 use crate::fault::RunFault;
-use crate::text::{push_index, push_kind};
 use byte_io::{AtFault, ReadAt, Sink, Source};
-use cv_leaves::kind_of;
+use command_texts::record_lines;
 use msf_blocks::{Layout, MsfFault};
 use pdb_merge::{Buffer, PdbFault, read_records, read_records_of};
-use std::alloc::{AllocError, Allocator};
-use tpi_records::FIRST_INDEX;
-
-/// Appends the line of a record. `bytes` is the whole record, with its length field.
-#[tactic(auto, unfolding(crate::specs::Records::record_line, cv_leaves::specs::Checks::kind_of))]
-fn push_record<A: Allocator>(
-    text: &mut String<A>,
-    index: u32,
-    bytes: &[u8],
-) -> Result<(), AllocError>
-    requires { IsRecord bytes.now }
-    ensures { OnOk result
-        (string_bytes text.new ≡ string_bytes text.old ++ record_line index bytes.now) }
-{
-    let kind = kind_of(bytes);
-    let size = bytes.len();
-    push_index(text, index)?;
-    text.push_str(" ")?;
-    push_kind(text, kind)?;
-    writeln!(text, " {size}")
-}
-
-/// The lines of all records.
-fn record_lines<A: Allocator + Copy>(
-    alloc: A,
-    records: &tpi_records::Records<'_, A>,
-) -> Result<String<A>, AllocError>
-    ensures { IfOk result (λ text. string_bytes text ≡ record_lines FIRST_INDEX records.now) }
-{
-    let mut text = String::new(alloc);
-    let mut index = FIRST_INDEX;
-    for bytes in records.iter() {
-        push_record(&mut text, index, bytes)?;
-        index += 1;
-    }
-    Ok(text)
-}
+use std::alloc::Allocator;
 
 /// The command `records`.
 #[derive(Clone, Copy, Debug)]

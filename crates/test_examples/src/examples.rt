@@ -4,6 +4,7 @@ use crate::orders::names_nodes;
 use byte_fields::{u16_at, u32_at};
 use byte_io::{In, Out, put_all};
 use closed_trees::renumber_into;
+use command_texts::{push_named, push_quoted};
 use cv_leaves::{places, ref_at, type_name};
 use key_chains::KeyChains;
 use msf_blocks::Layout;
@@ -197,6 +198,16 @@ fn a_merge_of_two_files(rt: HostRuntime) -> Result<(), Fail> {
     assert_eq!(rt; summary.types, 2);
     let mut buffer = Buffer::new(rt.alloc());
     assert_eq!(rt; read_types(rt.alloc(), &merged, &mut buffer)?.len(), 2);
+    Ok(())
+}
+
+/// `command_texts` appends the lines that commands print.
+#[test]
+fn lines_of_a_text(rt: HostRuntime) -> Result<(), Fail> {
+    let mut text = String::new(rt.alloc());
+    push_named(&mut text, "records", 2)?;
+    push_quoted(&mut text, b"a \"name\"")?;
+    assert_eq!(rt; text.as_str(), "records 2\n\"a \\x22name\\x22\"");
     Ok(())
 }
 

@@ -1,5 +1,5 @@
 use Rattle.std.proofs.Common.{◌≡◌, ◌∷◌, arith, ap, length, rules, string_bytes}
-use Rattle.pdb_commands.proofs.RecordsLaws.{each_left}
+use Rattle.command_texts.proofs.RecordsLaws.{each_left}
 use Rattle.pdb_commands.proofs.TypesLaws.{types_more, types_whole, checked_more}
 use Rattle.pdb_commands.proofs.types.type_lines.Goals as goal
 

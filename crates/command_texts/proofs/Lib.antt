@@ -1,0 +1,3 @@
+pub mod RecordsLaws
+pub mod StreamsLaws
+pub mod TextLaws

@@ -1,0 +1,11 @@
+use Rattle.std.proofs.Common.{◌≡◌, ◌≤◌, ◌+◌, ◌++◌, List, ℕ, length, string_bytes}
+use Rattle.std.specs.List.{AllByRecursion, flat_map}
+use Rattle.cv_leaves.specs.Place.{HasPlaces}
+use Rattle.command_texts.specs.Types.{reference}
+use Rattle.command_texts.proofs.types.push_references.Given as goal
+
+abbrev pub invariant-loop-place : goal.invariant-loop-place
+invariant-loop-place g l =
+    (at : List ℕ) × HasPlaces l.bytes at
+    × (string_bytes l.text ++ flat_map (reference l.bytes) l.place-iterator ≡ string_bytes l.fn.text ++ flat_map (reference l.bytes) at)
+    × AllByRecursion (λ p. p + 8 ≤ length l.bytes) l.place-iterator

@@ -1,0 +1,7 @@
+pub mod Check
+pub mod Info
+pub mod Record
+pub mod Records
+pub mod Streams
+pub mod Text
+pub mod Types

@@ -1,0 +1,34 @@
+//! The texts that the commands of `pdbmerge` print.
+//!
+//! [`push_index`], [`push_kind`], [`push_named`] and [`push_quoted`] append a number, a line with a
+//! name and a number, or bytes in quotes. The others make what one command prints, or a part of it:
+//! [`record_text`], [`record_lines`], [`push_type_line`], [`layout_text`], [`push_checked`], and for
+//! `info` [`push_info_header`], [`push_names`] and [`push_features`]. [`names_length`] says how many
+//! bytes `info` asks for before it appends the names.
+//!
+//! What is proved: after Ok the text is the old one, and after it the bytes that `specs/` names for
+//! the values. The only fault is that memory is out, and nothing is said of the text after it. Of
+//! [`names_length`] no value is proved, and no text depends on it.
+//!
+//! Here nothing is read and nothing is refused. The crate `pdb_commands` does both.
+//!
+//! `text` prints numbers and names. Each other module is named for the command whose lines it makes.
+//!
+//! The file `src/examples.rt` of the crate `test_examples` shows this crate in use, in a few lines.
+#![tactic(auto)]
+
+mod check;
+mod info;
+mod record;
+mod records;
+mod streams;
+mod text;
+mod types;
+
+pub use check::push_checked;
+pub use info::{names_length, push_features, push_info_header, push_names};
+pub use record::record_text;
+pub use records::record_lines;
+pub use streams::layout_text;
+pub use text::{push_index, push_kind, push_named, push_quoted};
+pub use types::push_type_line;
