@@ -8,9 +8,9 @@ use Rattle.byte_fields.specs.Number.{number_at}
 use Rattle.byte_fields.proofs.CheckLaws.{first_failing-parts}
 use Rattle.byte_fields.proofs.NumberLaws.{number_at-take}
 use Rattle.cv_leaves.specs.Leaf.{Leaf, leaf_of}
-use Rattle.cv_leaves.specs.Field.{fits}
+use Rattle.cv_leaves.specs.Field.{field_checks}
 use Rattle.cv_leaves.specs.Attributes.{points_to_member, introduces}
-use Rattle.cv_leaves.specs.Part.{start_of, stop_of, extent_checks, part_end, part_places, part_checks}
+use Rattle.cv_leaves.specs.Part.{rest_start, stop_of, extent_checks, part_end, part_places, part_checks}
 use Rattle.cv_leaves.specs.Checks.{kind_of, body_of, fixed_checks, record_checks, checks_from, places_from, places_of}
 use Rattle.cv_leaves.specs.Place.{IsPart, AreParts, HasPlaces}
 use Rattle.cv_leaves.specs.declared.leaf.Rest.{Rest}
@@ -31,12 +31,12 @@ IsFound rest body at = (part_end rest body at ≤ length body)
 containing_found : (body : List ℕ) (at : ℕ) (b : Bool) → points_to_member (number_at 4 body at) ≡ b → first_failing (part_checks Containing body at) ≡ None → IsFound Containing body at
 unfolding part_checks part_end part_places
 containing_found body at true e held =
-    let all = first_failing-parts (fits body at 4) (fits body (at + 4) 4) (rw e at held) in
+    let all = first_failing-parts (field_checks body at 4) (field_checks body (at + 4) 4) (rw e at held) in
     let inside : at + 8 ≤ length body = omega (arith, fits_held body (at + 4) 4 all.1) in
     let n = number_at-take 4 body at (at + 8 - at) (omega arith) in
     rw e (inside, (4 ∷ [], rw (n, e) (omega (arith, text_len body at (at + 8) (omega arith) inside), refl), refl))
 containing_found body at false e held =
-    let all = first_failing-parts (fits body at 4) [] (rw e at held) in
+    let all = first_failing-parts (field_checks body at 4) [] (rw e at held) in
     let inside : at + 4 ≤ length body = omega (arith, fits_held body at 4 all.0) in
     let n = number_at-take 4 body at (at + 4 - at) (omega arith) in
     rw e (inside, ([], rw (n, e) (omega (arith, text_len body at (at + 4) (omega arith) inside), refl), refl))
@@ -45,14 +45,14 @@ containing_found body at false e held =
 entry_found : (body : List ℕ) (at : ℕ) (b : Bool) → introduces (number_at 2 body at) ≡ b → first_failing (part_checks Methods body at) ≡ None → IsFound Methods body at
 unfolding part_checks part_end part_places
 entry_found body at true e held =
-    let all = first_failing-parts (fits body at 2) (fits body (at + 4) 4 ++ fits body (at + 8) 4) (rw e at held) in
-    let back = first_failing-parts (fits body (at + 4) 4) (fits body (at + 8) 4) all.1 in
+    let all = first_failing-parts (field_checks body at 2) (field_checks body (at + 4) 4 ++ field_checks body (at + 8) 4) (rw e at held) in
+    let back = first_failing-parts (field_checks body (at + 4) 4) (field_checks body (at + 8) 4) all.1 in
     let inside : at + 12 ≤ length body = omega (arith, fits_held body (at + 8) 4 back.1) in
     let n = number_at-take 2 body at (at + 12 - at) (omega arith) in
     rw e (inside, (4 ∷ [], rw (n, e) (omega (arith, text_len body at (at + 12) (omega arith) inside), refl), refl))
 entry_found body at false e held =
-    let all = first_failing-parts (fits body at 2) (fits body (at + 4) 4 ++ []) (rw e at held) in
-    let back = first_failing-parts (fits body (at + 4) 4) [] all.1 in
+    let all = first_failing-parts (field_checks body at 2) (field_checks body (at + 4) 4 ++ []) (rw e at held) in
+    let back = first_failing-parts (field_checks body (at + 4) 4) [] all.1 in
     let inside : at + 8 ≤ length body = omega (arith, fits_held body (at + 4) 4 back.0) in
     let n = number_at-take 2 body at (at + 8 - at) (omega arith) in
     rw e (inside, (4 ∷ [], rw (n, e) (omega (arith, text_len body at (at + 8) (omega arith) inside), refl), refl))
@@ -109,7 +109,7 @@ parts_found rest body stop (suc n) at few held = elim (cases_lt at stop) [
 ]
 
 -- the parts begin within the body
-starts_found : (rest : Rest) (body : List ℕ) → first_failing (extent_checks rest body) ≡ None → first_failing (checks_from rest body (stop_of rest body) (start_of rest)) ≡ None → start_of rest ≤ length body
+starts_found : (rest : Rest) (body : List ℕ) → first_failing (extent_checks rest body) ≡ None → first_failing (checks_from rest body (stop_of rest body) (rest_start rest)) ≡ None → rest_start rest ≤ length body
 unfolding extent_checks part_end
 starts_found Nothing body extent held = omega arith
 starts_found Containing body extent held =
@@ -127,7 +127,7 @@ fixed_found : (body places : List ℕ) → first_failing (fixed_checks body plac
 unfolding fixed_checks
 fixed_found body [] held = tt
 fixed_found body (p ∷ ps) held =
-    let all = first_failing-parts (fits body p 4) (fixed_checks body ps) held in
+    let all = first_failing-parts (field_checks body p 4) (fixed_checks body ps) held in
     (fits_held body p 4 all.0, fixed_found body ps all.1)
 
 -- a record that passes its checks, by its leaf
@@ -136,13 +136,13 @@ record_found r None long is held = absurd (has_leaf r held is)
 record_found r (Some l) long is held =
     let body = body_of r in
     let parts_hold = parts_held r l held is in
-    let parts = parts_found l.rest body (stop_of l.rest body) (stop_of l.rest body) (start_of l.rest) (omega arith) parts_hold in
+    let parts = parts_found l.rest body (stop_of l.rest body) (stop_of l.rest body) (rest_start l.rest) (omega arith) parts_hold in
     record {
       long = long;
       leaf = l;
       kind = sym is;
       fixed = fixed_found body l.places (fixed_held r l held is);
-      others = places_from l.rest body (stop_of l.rest body) (start_of l.rest);
+      others = places_from l.rest body (stop_of l.rest body) (rest_start l.rest);
       rest = record {
         starts = starts_found l.rest body (extent_held r l held is) parts_hold;
         pieces = parts.0;

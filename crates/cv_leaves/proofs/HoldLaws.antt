@@ -5,9 +5,9 @@ use Rattle.std.proofs.lemmas.List.{length-append, length-drop, append_assoc}
 use Rattle.byte_fields.specs.Check.{first_failing}
 use Rattle.byte_fields.specs.Number.{number_at}
 use Rattle.byte_fields.proofs.CheckLaws.{first_failing-append_none}
-use Rattle.cv_leaves.specs.Field.{fits}
+use Rattle.cv_leaves.specs.Field.{field_checks}
 use Rattle.cv_leaves.specs.Attributes.{points_to_member, introduces}
-use Rattle.cv_leaves.specs.Part.{start_of, stop_of, extent_checks, part_end, part_places, part_checks}
+use Rattle.cv_leaves.specs.Part.{rest_start, stop_of, extent_checks, part_end, part_places, part_checks}
 use Rattle.cv_leaves.specs.Checks.{body_of, fixed_checks, rest_checks, record_checks, checks_from, places_from, places_of}
 use Rattle.cv_leaves.specs.Place.{IsPart, AreParts, HasParts, HasPlaces, IsChecked}
 use Rattle.cv_leaves.specs.declared.leaf.Rest.{Rest}
@@ -33,13 +33,13 @@ containing_holds body at t back here true e is part =
     let inside = text_inside body at t back is (omega (arith, p.0)) in
     let n : points_to_member (number_at 4 body at) ≡ true = ap points_to_member (number_of_text 4 body at t back is (omega (arith, p.0))) ∙ e in
     rw (n, p.0, p.1)
-    (first_failing-append_none (fits body at 4) (fits body (at + 4) 4) (fits_holds body at 4 (omega (arith, p.0))) ∙ fits_holds body (at + 4) 4 (omega (arith, p.0)), refl, refl)
+    (first_failing-append_none (field_checks body at 4) (field_checks body (at + 4) 4) (fits_holds body at 4 (omega (arith, p.0))) ∙ fits_holds body (at + 4) 4 (omega (arith, p.0)), refl, refl)
 containing_holds body at t back here false e is part =
     let p : (length t ≡ 4) × (here ≡ []) = rw e at part in
     let inside = text_inside body at t back is (omega (arith, p.0)) in
     let n : points_to_member (number_at 4 body at) ≡ false = ap points_to_member (number_of_text 4 body at t back is (omega (arith, p.0))) ∙ e in
     rw (n, p.0, p.1)
-    (first_failing-append_none (fits body at 4) [] (fits_holds body at 4 (omega (arith, p.0))), refl, refl)
+    (first_failing-append_none (field_checks body at 4) [] (fits_holds body at 4 (omega (arith, p.0))), refl, refl)
 
 -- an entry of a method list, by whether it introduces a virtual
 entry_holds : (body : List ℕ) (at : ℕ) (t back here : List ℕ) (b : Bool) → introduces (number_at 2 t 0) ≡ b → drop at body ≡ t ++ back → IsPart Methods t here → Holds Methods body at (length t) here
@@ -49,8 +49,8 @@ entry_holds body at t back here true e is part =
     let inside = text_inside body at t back is (omega (arith, p.0)) in
     let n : introduces (number_at 2 body at) ≡ true = ap introduces (number_of_text 2 body at t back is (omega (arith, p.0))) ∙ e in
     rw (n, p.0, p.1) (
-      first_failing-append_none (fits body at 2) (fits body (at + 4) 4 ++ fits body (at + 8) 4) (fits_holds body at 2 (omega (arith, p.0)))
-          ∙ first_failing-append_none (fits body (at + 4) 4) (fits body (at + 8) 4) (fits_holds body (at + 4) 4 (omega (arith, p.0)))
+      first_failing-append_none (field_checks body at 2) (field_checks body (at + 4) 4 ++ field_checks body (at + 8) 4) (fits_holds body at 2 (omega (arith, p.0)))
+          ∙ first_failing-append_none (field_checks body (at + 4) 4) (field_checks body (at + 8) 4) (fits_holds body (at + 4) 4 (omega (arith, p.0)))
           ∙ fits_holds body (at + 8) 4 (omega (arith, p.0)),
       refl,
       refl,
@@ -60,8 +60,8 @@ entry_holds body at t back here false e is part =
     let inside = text_inside body at t back is (omega (arith, p.0)) in
     let n : introduces (number_at 2 body at) ≡ false = ap introduces (number_of_text 2 body at t back is (omega (arith, p.0))) ∙ e in
     rw (n, p.0, p.1) (
-      first_failing-append_none (fits body at 2) (fits body (at + 4) 4 ++ []) (fits_holds body at 2 (omega (arith, p.0)))
-          ∙ first_failing-append_none (fits body (at + 4) 4) [] (fits_holds body (at + 4) 4 (omega (arith, p.0))),
+      first_failing-append_none (field_checks body at 2) (field_checks body (at + 4) 4 ++ []) (fits_holds body at 2 (omega (arith, p.0)))
+          ∙ first_failing-append_none (field_checks body (at + 4) 4) [] (fits_holds body (at + 4) 4 (omega (arith, p.0))),
       refl,
       refl,
     )
@@ -145,10 +145,10 @@ parts_hold rest body stop at (t ∷ ts) back places is reaches parts =
 fixed_holds : (body places : List ℕ) → AllByRecursion (λ p. p + 4 ≤ length body) places → first_failing (fixed_checks body places) ≡ None
 unfolding fixed_checks
 fixed_holds body [] each = refl
-fixed_holds body (p ∷ ps) each = first_failing-append_none (fits body p 4) (fixed_checks body ps) (fits_holds body p 4 each.0) ∙ fixed_holds body ps each.1
+fixed_holds body (p ∷ ps) each = first_failing-append_none (field_checks body p 4) (fixed_checks body ps) (fits_holds body p 4 each.0) ∙ fixed_holds body ps each.1
 
 -- the field that says how far the parts reach passes its checks
-extent_holds : (rest : Rest) (body : List ℕ) → start_of rest ≤ length body → first_failing (extent_checks rest body) ≡ None
+extent_holds : (rest : Rest) (body : List ℕ) → rest_start rest ≤ length body → first_failing (extent_checks rest body) ≡ None
 unfolding extent_checks
 extent_holds Nothing body starts = refl
 extent_holds Containing body starts = refl
@@ -160,8 +160,8 @@ extent_holds Members body starts = refl
 rest_holds : (rest : Rest) (body places : List ℕ) → HasParts rest body places → first_failing (rest_checks rest body) ≡ None
 unfolding rest_checks
 rest_holds rest body places has =
-    first_failing-append_none (extent_checks rest body) (checks_from rest body (stop_of rest body) (start_of rest)) (extent_holds rest body has.starts)
-    ∙ (parts_hold rest body (stop_of rest body) (start_of rest) has.pieces has.back places has.parts (stop_reaches rest body) has.parts_are).0
+    first_failing-append_none (extent_checks rest body) (checks_from rest body (stop_of rest body) (rest_start rest)) (extent_holds rest body has.starts)
+    ∙ (parts_hold rest body (stop_of rest body) (rest_start rest) has.pieces has.back places has.parts (stop_reaches rest body) has.parts_are).0
 
 -- a record that has these places passes its checks
 has_holds : (r places : List ℕ) → HasPlaces r places → first_failing (record_checks r) ≡ None
@@ -186,7 +186,7 @@ not_refused r places fault has fails = let holds = has_holds r places has in cc
 pub places_met : (r places : List ℕ) → HasPlaces r places → places ≡ places_of r
 places_met r places has =
     has.places_are
-    ∙ ap (λ (xs : List ℕ). has.leaf.places ++ xs) (parts_hold has.leaf.rest (body_of r) (stop_of has.leaf.rest (body_of r)) (start_of has.leaf.rest) has.rest.pieces has.rest.back has.others has.rest.parts (stop_reaches has.leaf.rest (body_of r)) has.rest.parts_are).1
+    ∙ ap (λ (xs : List ℕ). has.leaf.places ++ xs) (parts_hold has.leaf.rest (body_of r) (stop_of has.leaf.rest (body_of r)) (rest_start has.leaf.rest) has.rest.pieces has.rest.back has.others has.rest.parts (stop_reaches has.leaf.rest (body_of r)) has.rest.parts_are).1
     ∙ sym (places_split r has.leaf (sym has.kind))
 
 -- a record has one list of places

@@ -6,7 +6,7 @@ use Rattle.std.proofs.lemmas.List.{length-append, length-take, length-drop, take
 use Rattle.byte_fields.specs.Number.{number_at}
 use Rattle.cv_leaves.specs.Leaf.{leaf_of}
 use Rattle.cv_leaves.specs.Attributes.{points_to_member, introduces}
-use Rattle.cv_leaves.specs.Part.{start_of, stop_of}
+use Rattle.cv_leaves.specs.Part.{rest_start, stop_of}
 use Rattle.cv_leaves.specs.Checks.{kind_of, body_of}
 use Rattle.cv_leaves.specs.Blank.{put_four}
 use Rattle.cv_leaves.specs.Place.{IsPart, AreParts, HasParts, HasPlaces, IsPlace}
@@ -192,7 +192,7 @@ put_before x s p n before inside =
     ap (λ (y : List ℕ). drop s y) all ∙ drop_at (put_four front p n) (drop s x) s (put_len front p n near ∙ long)
 
 -- the stop of the parts stays as it was
-stop_kept : (rest : Rest) (body : List ℕ) (p n : ℕ) → start_of rest ≤ p → p + 4 ≤ length body → stop_of rest (put_four body p n) ≡ stop_of rest body
+stop_kept : (rest : Rest) (body : List ℕ) (p n : ℕ) → rest_start rest ≤ p → p + 4 ≤ length body → stop_of rest (put_four body p n) ≡ stop_of rest body
 stop_kept Nothing body p n behind inside = refl
 stop_kept Containing body p n behind inside = refl
 stop_kept Indices body p n behind inside = ap (λ (k : ℕ). 4 + 4 * k) (four_before body p n behind (omega (arith, inside)))
@@ -202,15 +202,15 @@ stop_kept Members body p n behind inside = put_len body p n inside
 -- a number that is written at a place of the parts
 parts_kept : (rest : Rest) (body places : List ℕ) (p n : ℕ) → p + 4 ≤ length body → Among p places → HasParts rest body places → HasParts rest (put_four body p n) places
 parts_kept rest body places p n inside in_places has =
-    let kept = parts_keep rest (stop_of rest body) (start_of rest) has.pieces places p n has.parts_are in_places in
-    let at : start_of rest + (p - start_of rest) ≡ p = omega (arith, kept.from) in
-    let moved : drop (start_of rest) (put_four body p n) ≡ put_four (drop (start_of rest) body) (p - start_of rest) n =
-    ap (λ (k : ℕ). drop (start_of rest) (put_four body k n)) (sym at) ∙ put_after body (start_of rest) (p - start_of rest) n has.starts in
+    let kept = parts_keep rest (stop_of rest body) (rest_start rest) has.pieces places p n has.parts_are in_places in
+    let at : rest_start rest + (p - rest_start rest) ≡ p = omega (arith, kept.from) in
+    let moved : drop (rest_start rest) (put_four body p n) ≡ put_four (drop (rest_start rest) body) (p - rest_start rest) n =
+    ap (λ (k : ℕ). drop (rest_start rest) (put_four body k n)) (sym at) ∙ put_after body (rest_start rest) (p - rest_start rest) n has.starts in
     record {
       starts = omega (arith, has.starts, put_len body p n inside);
       pieces = kept.texts_now;
       back = has.back;
-      parts = moved ∙ ap (λ (x : List ℕ). put_four x (p - start_of rest) n) has.parts ∙ put_front (concat has.pieces) has.back (p - start_of rest) n kept.inside ∙ ap (λ (x : List ℕ). x ++ has.back) kept.bytes;
+      parts = moved ∙ ap (λ (x : List ℕ). put_four x (p - rest_start rest) n) has.parts ∙ put_front (concat has.pieces) has.back (p - rest_start rest) n kept.inside ∙ ap (λ (x : List ℕ). x ++ has.back) kept.bytes;
       parts_are = rw (stop_kept rest body p n kept.from inside) kept.parts_are;
     }
 

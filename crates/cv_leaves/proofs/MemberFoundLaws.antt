@@ -9,7 +9,7 @@ use Rattle.byte_fields.specs.Check.{first_failing}
 use Rattle.byte_fields.specs.Number.{number_at}
 use Rattle.byte_fields.proofs.CheckLaws.{check_held, first_failing-parts}
 use Rattle.byte_fields.proofs.NumberLaws.{number_at-take}
-use Rattle.cv_leaves.specs.Field.{fits}
+use Rattle.cv_leaves.specs.Field.{field_checks}
 use Rattle.cv_leaves.specs.Numeric.{numeric_len, numeric_end, has_numeric, numeric_checks, numerics_end, numerics_checks}
 use Rattle.byte_fields.specs.Name.{name_len, has_name}
 use Rattle.cv_leaves.specs.Terminated.{name_end, name_checks}
@@ -132,12 +132,12 @@ padding_found body at inside held =
 -- ---- the member
 
 -- the bytes of a virtual fit if they are checked
-virtual_found : (b : Bool) (body : List ℕ) (at : ℕ) → at ≤ length body → first_failing (cond b (fits body at 4) []) ≡ None → at + cond b 4 0 ≤ length body
+virtual_found : (b : Bool) (body : List ℕ) (at : ℕ) → at ≤ length body → first_failing (cond b (field_checks body at 4) []) ≡ None → at + cond b 4 0 ≤ length body
 virtual_found true body at inside held = fits_held body at 4 held
 virtual_found false body at inside held = omega (arith, inside)
 
 -- the indices fit if they are checked; there are at most two
-indices_found : (n : ℕ) (body : List ℕ) (at : ℕ) → n ≤ 2 → at + 4 ≤ length body → first_failing (cond (nat_le 1 n) (fits body (at + 4) 4) []) ≡ None → first_failing (cond (nat_le 2 n) (fits body (at + 8) 4) []) ≡ None
+indices_found : (n : ℕ) (body : List ℕ) (at : ℕ) → n ≤ 2 → at + 4 ≤ length body → first_failing (cond (nat_le 1 n) (field_checks body (at + 4) 4) []) ≡ None → first_failing (cond (nat_le 2 n) (field_checks body (at + 8) 4) []) ≡ None
     → at + 4 + 4 * n ≤ length body
 indices_found zero body at few front one two = omega (arith, front)
 indices_found (suc zero) body at few front one two = omega (arith, fits_held body (at + 4) 4 one)
@@ -148,10 +148,10 @@ indices_found (suc (suc (suc n))) body at few front one two = absurd (omega (ari
 head_found : (m : Member) (body : List ℕ) (at : ℕ) → m.indices ≤ 2 → first_failing (head_checks m body at) ≡ None → head_end m body at ≤ length body
 unfolding head_checks
 head_found m body at few held =
-    let a = fits body (at + 2) 2 in
-    let b = cond (nat_le 1 m.indices) (fits body (at + 4) 4) [] in
-    let c = cond (nat_le 2 m.indices) (fits body (at + 8) 4) [] in
-    let d = cond (has_virtual m body at) (fits body (indices_end m at) 4) [] in
+    let a = field_checks body (at + 2) 2 in
+    let b = cond (nat_le 1 m.indices) (field_checks body (at + 4) 4) [] in
+    let c = cond (nat_le 2 m.indices) (field_checks body (at + 8) 4) [] in
+    let d = cond (has_virtual m body at) (field_checks body (indices_end m at) 4) [] in
     let p = first_failing-parts a (b ++ (c ++ d)) held in
     let q = first_failing-parts b (c ++ d) p.1 in
     let r = first_failing-parts c d q.1 in
@@ -219,9 +219,9 @@ found_by : (o : Option Member) (body : List ℕ) (at : ℕ) → member_of (numbe
 unfolding member_checks member_end member_places
 found_by None body at is held =
     let unknown = fault.Member at (number_at 2 body at) in
-    absurd (never_held unknown (first_failing-parts (fits body at 2) (record { holds = false; fault = unknown } ∷ []) (rw is at held)).1)
+    absurd (never_held unknown (first_failing-parts (field_checks body at 2) (record { holds = false; fault = unknown } ∷ []) (rw is at held)).1)
 found_by (Some m) body at is held =
-    let both = first_failing-parts (fits body at 2) (fields_checks m body at) (rw is at held) in
+    let both = first_failing-parts (field_checks body at 2) (fields_checks m body at) (rw is at held) in
     let found = known_found body at m is both.1 in
     rw is (found.0, (index_places m, found.1, refl))
 

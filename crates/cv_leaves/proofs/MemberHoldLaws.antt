@@ -8,7 +8,7 @@ use Rattle.std.proofs.lemmas.List.Sums.{position_or_len_is, fails_before_first, 
 use Rattle.byte_fields.specs.Check.{first_failing}
 use Rattle.byte_fields.specs.Number.{number_at}
 use Rattle.byte_fields.proofs.CheckLaws.{check_holds, first_failing-append_none}
-use Rattle.cv_leaves.specs.Field.{fits}
+use Rattle.cv_leaves.specs.Field.{field_checks}
 use Rattle.cv_leaves.specs.Numeric.{numeric_len, numeric_end, has_numeric, numeric_checks, numerics_end, numerics_checks}
 use Rattle.byte_fields.specs.Name.{name_len, has_name}
 use Rattle.cv_leaves.specs.Terminated.{name_end, name_checks}
@@ -130,12 +130,12 @@ padding_met body at t back inside is unpadded (inr (some, few, first)) =
 -- ---- the member
 
 -- the bytes of a virtual that fit pass their check
-virtual_holds : (b : Bool) (body : List ℕ) (at : ℕ) → at + cond b 4 0 ≤ length body → first_failing (cond b (fits body at 4) []) ≡ None
+virtual_holds : (b : Bool) (body : List ℕ) (at : ℕ) → at + cond b 4 0 ≤ length body → first_failing (cond b (field_checks body at 4) []) ≡ None
 virtual_holds true body at inside = fits_holds body at 4 inside
 virtual_holds false body at inside = refl
 
 -- indices that fit pass their checks
-indices_hold : (n : ℕ) (body : List ℕ) (at : ℕ) → at + 4 + 4 * n ≤ length body → (first_failing (cond (nat_le 1 n) (fits body (at + 4) 4) []) ≡ None) × (first_failing (cond (nat_le 2 n) (fits body (at + 8) 4) []) ≡ None)
+indices_hold : (n : ℕ) (body : List ℕ) (at : ℕ) → at + 4 + 4 * n ≤ length body → (first_failing (cond (nat_le 1 n) (field_checks body (at + 4) 4) []) ≡ None) × (first_failing (cond (nat_le 2 n) (field_checks body (at + 8) 4) []) ≡ None)
 indices_hold zero body at inside = (refl, refl)
 indices_hold (suc zero) body at inside = (fits_holds body (at + 4) 4 (omega (arith, inside)), refl)
 indices_hold (suc (suc n)) body at inside = rw (le-leb 1 (suc (suc n)) (omega arith), le-leb 2 (suc (suc n)) (omega arith)) (fits_holds body (at + 4) 4 (omega (arith, inside)), fits_holds body (at + 8) 4 (omega (arith, inside)))
@@ -144,10 +144,10 @@ indices_hold (suc (suc n)) body at inside = rw (le-leb 1 (suc (suc n)) (omega ar
 head_holds : (m : Member) (body : List ℕ) (at : ℕ) → head_end m body at ≤ length body → first_failing (head_checks m body at) ≡ None
 unfolding head_checks
 head_holds m body at inside =
-    let a = fits body (at + 2) 2 in
-    let b = cond (nat_le 1 m.indices) (fits body (at + 4) 4) [] in
-    let c = cond (nat_le 2 m.indices) (fits body (at + 8) 4) [] in
-    let d = cond (has_virtual m body at) (fits body (indices_end m at) 4) [] in
+    let a = field_checks body (at + 2) 2 in
+    let b = cond (nat_le 1 m.indices) (field_checks body (at + 4) 4) [] in
+    let c = cond (nat_le 2 m.indices) (field_checks body (at + 8) 4) [] in
+    let d = cond (has_virtual m body at) (field_checks body (indices_end m at) 4) [] in
     let end = head_is m body at in
     let indices = indices_hold m.indices body at (omega (arith, inside, end)) in
     first_failing-append_none a (b ++ (c ++ d)) (fits_holds body (at + 2) 2 (omega (arith, inside, end)))
@@ -216,4 +216,4 @@ member_holds body at t back here is unpadded part =
     let kind : member_of (number_at 2 body at) ≡ Some m = ap member_of (number_of_text 2 body at t back is (omega (arith, long))) ∙ part.kind in
     let met = fields_met body at t back here is unpadded part in
     rw (kind, part.places_are)
-    (first_failing-append_none (fits body at 2) (fields_checks m body at) (fits_holds body at 2 (omega (arith, inside, long))) ∙ met.checks, met.end, refl)
+    (first_failing-append_none (field_checks body at 2) (fields_checks m body at) (fits_holds body at 2 (omega (arith, inside, long))) ∙ met.checks, met.end, refl)

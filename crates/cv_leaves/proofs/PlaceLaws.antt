@@ -9,7 +9,7 @@ use Rattle.cv_leaves.proofs.TestLaws.{and_both, found_passes}
 use Rattle.cv_leaves.proofs.TextLaws.{no_bytes}
 use Rattle.cv_leaves.proofs.MemberLaws.{member_apart}
 use Rattle.cv_leaves.specs.Attributes.{points_to_member, introduces}
-use Rattle.cv_leaves.specs.Part.{start_of, stop_of}
+use Rattle.cv_leaves.specs.Part.{rest_start, stop_of}
 use Rattle.cv_leaves.specs.Checks.{kind_of, body_of}
 use Rattle.cv_leaves.specs.Place.{IsPart, AreParts, HasParts, HasPlaces, Apart}
 use Rattle.cv_leaves.specs.declared.leaf.Rest.{Rest}
@@ -83,7 +83,7 @@ last_end from (p ∷ ps) = last_end (p + 4) ps
 abbrev pub fixed_end : Rest → List ℕ → ℕ
 fixed_end Nothing places = last_end 0 places
 fixed_end Indices places = 0
-fixed_end rest places = start_of rest
+fixed_end rest places = rest_start rest
 
 -- the test that places rise, and end before the end
 abbrev are_apart : ℕ → List ℕ → ℕ → Bool
@@ -131,11 +131,11 @@ parts_apart rest stop at (t ∷ ts) places parts =
     rw parts.1.4 (apart_append at (map (λ k. at + k) here) (at + length t) others (at + length (t ++ concat ts)) first (rw end at later))
 
 -- the places after the fixed ones lie in the body
-pub rest_apart : (rest : Rest) (body places : List ℕ) → HasParts rest body places → Apart (start_of rest) places (length body)
+pub rest_apart : (rest : Rest) (body places : List ℕ) → HasParts rest body places → Apart (rest_start rest) places (length body)
 rest_apart rest body places has =
-    apart_longer (start_of rest) places (start_of rest + length (concat has.pieces)) (length body)
-    (parts_apart rest (stop_of rest body) (start_of rest) has.pieces places has.parts_are)
-    (omega (arith, has.starts, length-drop (start_of rest) body, ap length has.parts, length-append (concat has.pieces) has.back))
+    apart_longer (rest_start rest) places (rest_start rest + length (concat has.pieces)) (length body)
+    (parts_apart rest (stop_of rest body) (rest_start rest) has.pieces places has.parts_are)
+    (omega (arith, has.starts, length-drop (rest_start rest) body, ap length has.parts, length-append (concat has.pieces) has.back))
 
 -- where nothing follows there are no parts
 pub nothing_follows : (stop : ℕ) (texts : List (List ℕ)) (places : List ℕ) → stop ≤ 0 → AreParts Nothing stop 0 texts places → places ≡ []
@@ -172,7 +172,7 @@ parts_reach rest stop at (t ∷ ts) places parts =
     omega (arith, parts_reach rest stop (at + length t) ts parts.1.1 parts.1.3, length-append t (concat ts))
 
 -- parts that reach from the beginning of the body to its end fill it
-parts_fill : (rest : Rest) (body places : List ℕ) → start_of rest ≡ 0 → stop_of rest body ≡ length body → HasParts rest body places
+parts_fill : (rest : Rest) (body places : List ℕ) → rest_start rest ≡ 0 → stop_of rest body ≡ length body → HasParts rest body places
     → (texts : List (List ℕ)) × (body ≡ concat texts) × AreParts rest (length body) 0 texts places
 parts_fill rest body places starts stops has =
     let parts_are : AreParts rest (length body) 0 has.pieces places = rw (starts, stops) at has.parts_are in

@@ -3,7 +3,7 @@ use Rattle.std.proofs.Common.{◌≡◌, ◌<◌, ℕ, ◌+◌, ◌++◌, map, L
 use Rattle.byte_fields.specs.Check.{first_failing}
 use Rattle.byte_fields.proofs.CheckLaws.{first_failing-parts}
 use Rattle.cv_leaves.specs.Leaf.{Leaf, leaf_of}
-use Rattle.cv_leaves.specs.Part.{extent_checks, start_of, stop_of, part_end, part_places}
+use Rattle.cv_leaves.specs.Part.{extent_checks, rest_start, stop_of, part_end, part_places}
 use Rattle.cv_leaves.specs.Checks.{kind_of, body_of, record_checks, leaf_checks, fixed_checks, rest_checks, rest_places, checks_from, places_from, places_of}
 use Rattle.cv_leaves.specs.declared.leaf.Rest.{Rest}
 use Rattle.cv_leaves.specs.declared.fault.LeafFault.TheVariants as fault
@@ -34,13 +34,13 @@ rest_held r l checked is = (first_failing-parts (fixed_checks (body_of r) l.plac
 -- the field that says how far the parts reach passes its checks
 pub extent_held : (r : List ℕ) (l : Leaf) → first_failing (record_checks r) ≡ None → Some l ≡ leaf_of (kind_of r) → first_failing (extent_checks l.rest (body_of r)) ≡ None
 unfolding rest_checks
-extent_held r l checked is = (first_failing-parts (extent_checks l.rest (body_of r)) (checks_from l.rest (body_of r) (stop_of l.rest (body_of r)) (start_of l.rest)) (rest_held r l checked is)).0
+extent_held r l checked is = (first_failing-parts (extent_checks l.rest (body_of r)) (checks_from l.rest (body_of r) (stop_of l.rest (body_of r)) (rest_start l.rest)) (rest_held r l checked is)).0
 
 -- the parts pass their checks
 pub parts_held : (r : List ℕ) (l : Leaf) → first_failing (record_checks r) ≡ None → Some l ≡ leaf_of (kind_of r)
-    → first_failing (checks_from l.rest (body_of r) (stop_of l.rest (body_of r)) (start_of l.rest)) ≡ None
+    → first_failing (checks_from l.rest (body_of r) (stop_of l.rest (body_of r)) (rest_start l.rest)) ≡ None
 unfolding rest_checks
-parts_held r l checked is = (first_failing-parts (extent_checks l.rest (body_of r)) (checks_from l.rest (body_of r) (stop_of l.rest (body_of r)) (start_of l.rest)) (rest_held r l checked is)).1
+parts_held r l checked is = (first_failing-parts (extent_checks l.rest (body_of r)) (checks_from l.rest (body_of r) (stop_of l.rest (body_of r)) (rest_start l.rest)) (rest_held r l checked is)).1
 
 -- offsets from 0 on are the numbers themselves
 plus_zero : (ns : List ℕ) → map (λ k. 0 + k) ns ≡ ns
@@ -48,13 +48,13 @@ plus_zero [] = refl
 plus_zero (n ∷ ns) = let e : 0 + n ≡ n = omega arith in rw e (ap (λ (xs : List ℕ). n ∷ xs) (plus_zero ns))
 
 -- the places of a record are the fixed ones of its leaf and those of the parts
-pub places_split : (r : List ℕ) (l : Leaf) → Some l ≡ leaf_of (kind_of r) → places_of r ≡ l.places ++ places_from l.rest (body_of r) (stop_of l.rest (body_of r)) (start_of l.rest)
+pub places_split : (r : List ℕ) (l : Leaf) → Some l ≡ leaf_of (kind_of r) → places_of r ≡ l.places ++ places_from l.rest (body_of r) (stop_of l.rest (body_of r)) (rest_start l.rest)
 unfolding places_of rest_places
 places_split r l is = rw (← is) refl
 
 -- the same with the fixed ones counted from 0
 pub places_are : (r : List ℕ) (l : Leaf) → Some l ≡ leaf_of (kind_of r)
-    → map (λ k. 0 + k) l.places ++ places_from l.rest (body_of r) (stop_of l.rest (body_of r)) (start_of l.rest) ≡ places_of r
+    → map (λ k. 0 + k) l.places ++ places_from l.rest (body_of r) (stop_of l.rest (body_of r)) (rest_start l.rest) ≡ places_of r
 unfolding places_of rest_places
 places_are r l is = rw (← is, plus_zero l.places) refl
 

@@ -8,7 +8,7 @@ use Rattle.byte_fields.specs.Check.{first_failing}
 use Rattle.byte_fields.specs.Number.{number_at}
 use Rattle.byte_fields.proofs.CheckLaws.{check_held}
 use Rattle.byte_fields.proofs.NumberLaws.{number_at-take, number_at-append, number_at-drop}
-use Rattle.cv_leaves.specs.Field.{fits}
+use Rattle.cv_leaves.specs.Field.{field_checks}
 use Rattle.cv_leaves.specs.declared.fault.LeafFault.TheVariants.{Body}
 
 -- ---- from one offset to another
@@ -74,9 +74,9 @@ no_bytes (b ∷ x) none = absurd (omega (arith, none))
 -- ---- fields
 
 -- a field whose check holds lies within the body
-pub fits_held : (body : List ℕ) (at len : ℕ) → first_failing (fits body at len) ≡ None → at + len ≤ length body
+pub fits_held : (body : List ℕ) (at len : ℕ) → first_failing (field_checks body at len) ≡ None → at + len ≤ length body
 fits_held body at len held = leb-true (at + len) (length body) (check_held (nat_le (at + len) (length body)) (Body at) held)
 
 -- the check of a field that lies within the body holds
-pub fits_holds : (body : List ℕ) (at len : ℕ) → at + len ≤ length body → first_failing (fits body at len) ≡ None
+pub fits_holds : (body : List ℕ) (at len : ℕ) → at + len ≤ length body → first_failing (field_checks body at len) ≡ None
 fits_holds body at len inside = rw (le-leb (at + len) (length body) inside) refl

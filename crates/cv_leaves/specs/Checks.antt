@@ -5,8 +5,8 @@ use Rattle.std.specs.List.{flat_map}
 use Rattle.byte_fields.specs.Check.{Check}
 use Rattle.byte_fields.specs.Number.{number_at}
 use Rattle.cv_leaves.specs.Leaf.{Leaf, leaf_of}
-use Rattle.cv_leaves.specs.Part.{start_of, stop_of, extent_checks, part_end, part_places, part_checks, each_part}
-use Rattle.cv_leaves.specs.Field.{fits}
+use Rattle.cv_leaves.specs.Part.{rest_start, stop_of, extent_checks, part_end, part_places, part_checks, each_part}
+use Rattle.cv_leaves.specs.Field.{field_checks}
 use Rattle.cv_leaves.specs.declared.leaf.Rest.{Rest}
 use Rattle.cv_leaves.specs.declared.fault.LeafFault.{LeafFault}
 use Rattle.cv_leaves.specs.declared.fault.LeafFault.TheVariants as fault
@@ -29,15 +29,15 @@ places_from rest body stop at = each_part (part_end rest body) (part_places rest
 
 -- the checks of what follows the fixed places
 unfoldable pub rest_checks : Rest → List ℕ → List (Check LeafFault)
-rest_checks rest body = extent_checks rest body ++ checks_from rest body (stop_of rest body) (start_of rest)
+rest_checks rest body = extent_checks rest body ++ checks_from rest body (stop_of rest body) (rest_start rest)
 
 -- the places that follow the fixed ones
 unfoldable pub rest_places : Rest → List ℕ → List ℕ
-rest_places rest body = places_from rest body (stop_of rest body) (start_of rest)
+rest_places rest body = places_from rest body (stop_of rest body) (rest_start rest)
 
 -- the checks of the type indices at fixed places
 unfoldable pub fixed_checks : List ℕ → List ℕ → List (Check LeafFault)
-fixed_checks body places = flat_map (λ p. fits body p 4) places
+fixed_checks body places = flat_map (λ p. field_checks body p 4) places
 
 -- the checks of the fields of a leaf
 abbrev pub leaf_checks : Leaf → List ℕ → List (Check LeafFault)

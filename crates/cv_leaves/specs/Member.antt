@@ -4,7 +4,7 @@ use Rattle.std.specs.Option.{option_map_or}
 use Rattle.byte_fields.specs.Check.{Check}
 use Rattle.byte_fields.specs.Number.{number_at}
 use Rattle.cv_leaves.specs.Attributes.{introduces}
-use Rattle.cv_leaves.specs.Field.{fits}
+use Rattle.cv_leaves.specs.Field.{field_checks}
 use Rattle.cv_leaves.specs.Numeric.{numerics_end, numerics_checks}
 use Rattle.cv_leaves.specs.Padding.{padding_len, padding_checks}
 use Rattle.cv_leaves.specs.Table.{Row, find}
@@ -21,24 +21,24 @@ pub record Member : Type 0 where
   pub named : Bool
 
 -- the row of a kind
-abbrev pub row : ℕ → ℕ → Bool → ℕ → Bool → Row Member
-row kind indices introducing numerics named = record { kind = kind; item = record { indices = indices; introducing = introducing; numerics = numerics; named = named } }
+abbrev pub member_row : ℕ → ℕ → Bool → ℕ → Bool → Row Member
+member_row kind indices introducing numerics named = record { kind = kind; item = record { indices = indices; introducing = introducing; numerics = numerics; named = named } }
 
 -- the rows, by rising kind: LF_BCLASS, LF_VBCLASS, LF_IVBCLASS, LF_INDEX, LF_VFUNCTAB, LF_ENUMERATE, LF_MEMBER, LF_STMEMBER, LF_METHOD, LF_NESTTYPE, LF_ONEMETHOD, LF_BINTERFACE
 abbrev pub members : List (Row Member)
 members =
-    row 0x1400 1 false 1 false
-    ∷ row 0x1401 2 false 2 false
-    ∷ row 0x1402 2 false 2 false
-    ∷ row 0x1404 1 false 0 false
-    ∷ row 0x1409 1 false 0 false
-    ∷ row 0x1502 0 false 1 true
-    ∷ row 0x150D 1 false 1 true
-    ∷ row 0x150E 1 false 0 true
-    ∷ row 0x150F 1 false 0 true
-    ∷ row 0x1510 1 false 0 true
-    ∷ row 0x1511 1 true 0 true
-    ∷ row 0x151A 1 false 1 false
+    member_row 0x1400 1 false 1 false
+    ∷ member_row 0x1401 2 false 2 false
+    ∷ member_row 0x1402 2 false 2 false
+    ∷ member_row 0x1404 1 false 0 false
+    ∷ member_row 0x1409 1 false 0 false
+    ∷ member_row 0x1502 0 false 1 true
+    ∷ member_row 0x150D 1 false 1 true
+    ∷ member_row 0x150E 1 false 0 true
+    ∷ member_row 0x150F 1 false 0 true
+    ∷ member_row 0x1510 1 false 0 true
+    ∷ member_row 0x1511 1 true 0 true
+    ∷ member_row 0x151A 1 false 1 false
     ∷ []
 
 -- the member of a kind
@@ -46,8 +46,8 @@ unfoldable pub member_of : ℕ → Option Member
 member_of kind = find members kind
 
 -- a row of the program's table, as a member
-abbrev pub seen : declared.Member → Member
-seen m = record { indices = m.indices; introducing = m.introducing; numerics = m.numerics; named = m.named }
+abbrev pub member_seen : declared.Member → Member
+member_seen m = record { indices = m.indices; introducing = m.introducing; numerics = m.numerics; named = m.named }
 
 -- the places of a member, as offsets from its beginning
 abbrev pub index_places : Member → List ℕ
@@ -68,9 +68,9 @@ head_end m body at = if has_virtual m body at then indices_end m at + 4 else ind
 -- the checks of the two bytes after its kind, of its indices and of its bytes of a virtual
 unfoldable pub head_checks : Member → List ℕ → ℕ → List (Check LeafFault)
 head_checks m body at =
-    fits body (at + 2) 2 ++ (
-    (if nat_le 1 m.indices then fits body (at + 4) 4 else []) ++ (
-    (if nat_le 2 m.indices then fits body (at + 8) 4 else []) ++ (if has_virtual m body at then fits body (indices_end m at) 4 else [])))
+    field_checks body (at + 2) 2 ++ (
+    (if nat_le 1 m.indices then field_checks body (at + 4) 4 else []) ++ (
+    (if nat_le 2 m.indices then field_checks body (at + 8) 4 else []) ++ (if has_virtual m body at then field_checks body (indices_end m at) 4 else [])))
 
 -- the offset at which its numeric leaves end
 abbrev pub numbers_end : Member → List ℕ → ℕ → ℕ
@@ -102,5 +102,5 @@ member_places body at = option_map_or (λ m. map (λ k. at + k) (index_places m)
 -- the checks of the member at `at`, in order
 unfoldable pub member_checks : List ℕ → ℕ → List (Check LeafFault)
 member_checks body at =
-    fits body at 2
+    field_checks body at 2
     ++ option_map_or (λ m. fields_checks m body at) (member_of (number_at 2 body at)) (record { holds = false; fault = fault.Member at (number_at 2 body at) } ∷ [])

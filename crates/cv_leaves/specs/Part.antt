@@ -3,7 +3,7 @@ use Rattle.std.specs.Prelude.{ℕ, zero, suc, ◌+◌, ◌-◌, ◌*◌, nat_lt,
 use Rattle.byte_fields.specs.Check.{Check}
 use Rattle.byte_fields.specs.Number.{number_at}
 use Rattle.cv_leaves.specs.Attributes.{points_to_member, introduces}
-use Rattle.cv_leaves.specs.Field.{fits}
+use Rattle.cv_leaves.specs.Field.{field_checks}
 use Rattle.cv_leaves.specs.Member.{member_end, member_places, member_checks}
 use Rattle.cv_leaves.specs.declared.leaf.Rest.{Rest}
 use Rattle.cv_leaves.specs.declared.leaf.Rest.TheVariants.{Nothing, Containing, Indices, Methods, Members}
@@ -11,12 +11,12 @@ use Rattle.cv_leaves.specs.declared.fault.LeafFault.{LeafFault}
 use Rattle.cv_leaves.specs.declared.fault.LeafFault.TheVariants.{Body}
 
 -- the offset at which the parts begin
-abbrev pub start_of : Rest → ℕ
-start_of Nothing = 0
-start_of Containing = 4
-start_of Indices = 4
-start_of Methods = 0
-start_of Members = 0
+abbrev pub rest_start : Rest → ℕ
+rest_start Nothing = 0
+rest_start Containing = 4
+rest_start Indices = 4
+rest_start Methods = 0
+rest_start Members = 0
 
 -- the offset at which the parts stop
 abbrev pub stop_of : Rest → List ℕ → ℕ
@@ -28,7 +28,7 @@ stop_of Members body = length body
 
 -- the checks of the field that says how far the parts reach
 unfoldable pub extent_checks : Rest → List ℕ → List (Check LeafFault)
-extent_checks Indices body = fits body 0 4
+extent_checks Indices body = field_checks body 0 4
 extent_checks _ body = []
 
 -- the offset at which the part at `at` ends
@@ -50,10 +50,10 @@ part_places Members body at = member_places body at
 -- the checks of the part at `at`, in order
 unfoldable pub part_checks : Rest → List ℕ → ℕ → List (Check LeafFault)
 part_checks Nothing body at = record { holds = false; fault = Body at } ∷ []
-part_checks Containing body at = fits body at 4 ++ (if points_to_member (number_at 4 body at) then fits body (at + 4) 4 else [])
-part_checks Indices body at = fits body at 4
+part_checks Containing body at = field_checks body at 4 ++ (if points_to_member (number_at 4 body at) then field_checks body (at + 4) 4 else [])
+part_checks Indices body at = field_checks body at 4
 part_checks Methods body at =
-    fits body at 2 ++ (fits body (at + 4) 4 ++ (if introduces (number_at 2 body at) then fits body (at + 8) 4 else []))
+    field_checks body at 2 ++ (field_checks body (at + 4) 4 ++ (if introduces (number_at 2 body at) then field_checks body (at + 8) 4 else []))
 part_checks Members body at = member_checks body at
 
 -- ---- one after the other

@@ -7,7 +7,7 @@ use Rattle.cv_leaves.specs.Leaf.{Leaf, leaf_of}
 use Rattle.cv_leaves.specs.Attributes.{points_to_member, introduces}
 use Rattle.cv_leaves.specs.Numeric.{numeric_len}
 use Rattle.cv_leaves.specs.Member.{Member, member_of, has_virtual, index_places}
-use Rattle.cv_leaves.specs.Part.{start_of, stop_of}
+use Rattle.cv_leaves.specs.Part.{rest_start, stop_of}
 use Rattle.cv_leaves.specs.Checks.{kind_of, body_of}
 use Rattle.cv_leaves.specs.declared.leaf.Rest.{Rest}
 use Rattle.cv_leaves.specs.declared.leaf.Rest.TheVariants.{Nothing, Containing, Indices, Methods, Members}
@@ -75,11 +75,11 @@ AreParts rest stop at (bytes ∷ pieces) places =
 
 -- what follows the fixed places of the body is parts one after the other, and these are the places in them
 pub record HasParts (rest : Rest) (body places : List ℕ) : Type 0 where
-  pub starts : start_of rest ≤ length body
+  pub starts : rest_start rest ≤ length body
   pub pieces : List (List ℕ)
   pub back : List ℕ
-  pub parts : drop (start_of rest) body ≡ concat pieces ++ back
-  pub parts_are : AreParts rest (stop_of rest body) (start_of rest) pieces places
+  pub parts : drop (rest_start rest) body ≡ concat pieces ++ back
+  pub parts_are : AreParts rest (stop_of rest body) (rest_start rest) pieces places
 
 -- the record has its length and its kind, and a leaf of the table; its fixed places fit; and the record's places are these and those of the parts after them
 pub record HasPlaces (r places : List ℕ) : Type 0 where

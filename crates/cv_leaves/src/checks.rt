@@ -2,13 +2,13 @@
 
 ghost use Rattle.std.specs.Prelude.{◌≡◌, ◌≤◌, ◌^◌, ◌<◌, List, ℕ, IsOk, IfOk, length};
 ghost use Rattle.byte_fields.specs.Check.{Makes};
-ghost use Rattle.cv_leaves.specs.Leaf.{seen};
+ghost use Rattle.cv_leaves.specs.Leaf.{leaf_seen};
 ghost use Rattle.cv_leaves.specs.Checks.{leaf_checks, kind_of, body_of, checks_from, fixed_checks, record_checks};
 ghost use Rattle.cv_leaves.specs.Place.{HasPlaces};
 
 use crate::fault::LeafFault;
 use crate::leaf::{Leaf, Rest, leaf_of};
-use crate::part::{extent, fits, part_at};
+use crate::part::{extent, check_field, part_at};
 use byte_fields::u16_at;
 
 /// The kind of a record, which is its leaf. This does not allocate.
@@ -36,7 +36,7 @@ fn check_fixed(body: &[u8], places: &[u8]) -> Result<(), LeafFault>
     ensures { Makes result (fixed_checks body.now places.now) }
 {
     for &place in places {
-        fits(body, usize::from(place), 4)?;
+        check_field(body, usize::from(place), 4)?;
     }
     Ok(())
 }
@@ -58,7 +58,7 @@ fn check_parts(rest: Rest, body: &[u8], start: usize, stop: usize) -> Result<(),
 #[tactic(auto, using(crate::proofs::PartLaws::append_held, crate::proofs::PartLaws::append_fails), unfolding(crate::specs::Checks::rest_checks))]
 fn check_leaf(leaf: Leaf, body: &[u8]) -> Result<(), LeafFault>
     requires { length body.now < 2 ^ 17 }
-    ensures { Makes result (leaf_checks (seen leaf) body.now) }
+    ensures { Makes result (leaf_checks (leaf_seen leaf) body.now) }
 {
     check_fixed(body, leaf.places)?;
     let (start, stop) = extent(leaf.rest, body)?;

@@ -1,7 +1,7 @@
 //! The table of leaves.
 
 ghost use Rattle.std.specs.Prelude.{◌≡◌, option_map};
-ghost use Rattle.cv_leaves.specs.Leaf.{leaf_of, seen};
+ghost use Rattle.cv_leaves.specs.Leaf.{leaf_of, leaf_seen};
 
 /// What follows the fields at fixed places: nothing, or parts that lie one after the other.
 #[derive(Clone, Copy)]
@@ -42,7 +42,7 @@ pub struct Leaf {
 /// The row of a kind. `None` where the table does not have it.
 #[tactic(auto, unfolding(crate::specs::Leaf::leaf_of))]
 pub fn leaf_of(kind: u16) -> Option<Leaf>
-    ensures { option_map seen result ≡ leaf_of kind }
+    ensures { option_map leaf_seen result ≡ leaf_of kind }
 {
     let (text, places, rest, naming): (&'static str, &'static [u8], Rest, Naming) = match kind {
         0x000A => ("LF_VTSHAPE", &[], Rest::Nothing, Naming::Unnamed),

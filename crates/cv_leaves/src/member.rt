@@ -2,13 +2,13 @@
 
 ghost use Rattle.std.specs.Prelude.{◌≡◌, ◌≤◌, ◌+◌, ◌^◌, ◌<◌, option_map, take, [], ◌∷◌, length, map, IfOk, IfSome};
 ghost use Rattle.byte_fields.specs.Check.{Makes};
-ghost use Rattle.cv_leaves.specs.Member.{member_of, seen, head_end, head_checks, padded_end, fields_checks, member_end, member_checks, member_places};
+ghost use Rattle.cv_leaves.specs.Member.{member_of, member_seen, head_end, head_checks, padded_end, fields_checks, member_end, member_checks, member_places};
 
 use crate::fault::LeafFault;
 use crate::name::after_name;
 use crate::numeric::after_numerics;
 use crate::padding::after_padding;
-use crate::part::{Part, fits, introduces};
+use crate::part::{Part, check_field, introduces};
 use byte_fields::u16_at;
 
 /// A row of the table: what follows the kind of a member and two more bytes, in this order.
@@ -28,7 +28,7 @@ pub struct Member {
 /// The row of a kind. `None` where the table does not have it.
 #[tactic(auto, unfolding(crate::specs::Member::member_of))]
 pub fn member_of(kind: u16) -> Option<Member>
-    ensures row { option_map seen result ≡ member_of kind }
+    ensures row { option_map member_seen result ≡ member_of kind }
     ensures few { IfSome result (λ m. m.indices ≤ 2) }
 {
     let (indices, introducing, numerics, named) = match kind {
@@ -83,19 +83,19 @@ fn index_places(indices: u8) -> &'static [u8]
 fn after_head(member: Member, body: &[u8], at: usize) -> Result<usize, LeafFault>
     requires { (at < 2 ^ 17) × (length body.now < 2 ^ 17) × (member.indices ≤ 2) }
     ensures inside { IfOk result (λ e. e ≤ length body.now) }
-    ensures end { IfOk result (λ e. e ≡ head_end (seen member) body.now at) }
-    ensures first { Makes result (head_checks (seen member) body.now at) }
+    ensures end { IfOk result (λ e. e ≡ head_end (member_seen member) body.now at) }
+    ensures first { Makes result (head_checks (member_seen member) body.now at) }
 {
-    fits(body, at + 2, 2)?;
+    check_field(body, at + 2, 2)?;
     if 1 <= member.indices {
-        fits(body, at + 4, 4)?;
+        check_field(body, at + 4, 4)?;
     }
     if 2 <= member.indices {
-        fits(body, at + 8, 4)?;
+        check_field(body, at + 8, 4)?;
     }
     let end = at + 4 + 4 * usize::from(member.indices);
     if member.introducing && introduces(u16_at(body, at + 2)) {
-        fits(body, end, 4)?;
+        check_field(body, end, 4)?;
         return Ok(end + 4);
     }
     Ok(end)
@@ -106,8 +106,8 @@ fn after_head(member: Member, body: &[u8], at: usize) -> Result<usize, LeafFault
 fn after_fields(member: Member, body: &[u8], at: usize) -> Result<usize, LeafFault>
     requires { (at < 2 ^ 17) × (length body.now < 2 ^ 17) × (member.indices ≤ 2) }
     ensures inside { IfOk result (λ e. e ≤ length body.now) }
-    ensures end { IfOk result (λ e. e ≡ padded_end (seen member) body.now at) }
-    ensures first { Makes result (fields_checks (seen member) body.now at) }
+    ensures end { IfOk result (λ e. e ≡ padded_end (member_seen member) body.now at) }
+    ensures first { Makes result (fields_checks (member_seen member) body.now at) }
 {
     let mut end = after_head(member, body, at)?;
     end = after_numerics(member.numerics, body, end)?;
@@ -126,7 +126,7 @@ pub fn member_at(body: &[u8], at: usize) -> Result<Part, LeafFault>
     ensures places { IfOk result (λ p. map (λ k. at + k) p.places.now ≡ member_places body.now at) }
     ensures first { Makes result (member_checks body.now at) }
 {
-    fits(body, at, 2)?;
+    check_field(body, at, 2)?;
     let kind = u16_at(body, at);
     let Some(member) = member_of(kind) else {
         return Err(LeafFault::Member {

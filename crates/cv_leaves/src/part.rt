@@ -2,9 +2,9 @@
 
 ghost use Rattle.std.specs.Prelude.{◌≡◌, ◌≤◌, ◌+◌, ◌^◌, ◌<◌, length, map, IfOk};
 ghost use Rattle.byte_fields.specs.Check.{Makes};
-ghost use Rattle.cv_leaves.specs.Field.{fits};
+ghost use Rattle.cv_leaves.specs.Field.{field_checks};
 ghost use Rattle.cv_leaves.specs.Attributes.{points_to_member, introduces};
-ghost use Rattle.cv_leaves.specs.Part.{start_of, stop_of, extent_checks, part_end, part_places, part_checks};
+ghost use Rattle.cv_leaves.specs.Part.{rest_start, stop_of, extent_checks, part_end, part_places, part_checks};
 
 use crate::fault::LeafFault;
 use crate::leaf::Rest;
@@ -19,9 +19,9 @@ pub struct Part {
 }
 
 /// Checks that the field of `len` bytes at the offset `at` fits the body.
-pub fn fits(body: &[u8], at: usize, len: usize) -> Result<(), LeafFault>
+pub fn check_field(body: &[u8], at: usize, len: usize) -> Result<(), LeafFault>
     requires { at + len < 2 ^ 32 }
-    ensures { Makes result (fits body.now at len) }
+    ensures { Makes result (field_checks body.now at len) }
 {
     if !byte_fields::fits(body, at, len) {
         return Err(LeafFault::Body(at as u32));
@@ -47,14 +47,14 @@ fn points_to_member(attributes: u32) -> bool
 #[tactic(auto, unfolding(crate::specs::Part::extent_checks))]
 pub fn extent(rest: Rest, body: &[u8]) -> Result<(usize, usize), LeafFault>
     ensures value { IfOk result (λ e.
-        (e.0 ≤ 4) × (e.0 ≡ start_of rest) × (e.1 ≡ stop_of rest body.now)) }
+        (e.0 ≤ 4) × (e.0 ≡ rest_start rest) × (e.1 ≡ stop_of rest body.now)) }
     ensures first { Makes result (extent_checks rest body.now) }
 {
     match rest {
         Rest::Nothing => Ok((0, 0)),
         Rest::Containing => Ok((4, 8)),
         Rest::Indices => {
-            fits(body, 0, 4)?;
+            check_field(body, 0, 4)?;
             Ok((4, 4 + 4 * u32_at(body, 0) as usize))
         }
         Rest::Methods | Rest::Members => Ok((0, body.len())),
@@ -75,9 +75,9 @@ pub fn part_at(rest: Rest, body: &[u8], at: usize) -> Result<Part, LeafFault>
         // Where nothing follows, parts stop where they begin, so no call gets here.
         Rest::Nothing => Err(LeafFault::Body(at as u32)),
         Rest::Containing => {
-            fits(body, at, 4)?;
+            check_field(body, at, 4)?;
             if points_to_member(u32_at(body, at)) {
-                fits(body, at + 4, 4)?;
+                check_field(body, at + 4, 4)?;
                 Ok(Part {
                     places: &[4],
                     end: at + 8,
@@ -90,18 +90,18 @@ pub fn part_at(rest: Rest, body: &[u8], at: usize) -> Result<Part, LeafFault>
             }
         }
         Rest::Indices => {
-            fits(body, at, 4)?;
+            check_field(body, at, 4)?;
             Ok(Part {
                 places: &[0],
                 end: at + 4,
             })
         }
         Rest::Methods => {
-            fits(body, at, 2)?;
+            check_field(body, at, 2)?;
             let introduced = introduces(u16_at(body, at));
-            fits(body, at + 4, 4)?;
+            check_field(body, at + 4, 4)?;
             if introduced {
-                fits(body, at + 8, 4)?;
+                check_field(body, at + 8, 4)?;
             }
             Ok(Part {
                 places: &[4],

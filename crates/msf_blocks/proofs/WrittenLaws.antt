@@ -4,7 +4,7 @@ use Rattle.std.proofs.lemmas.List.{append-nil, take_more}
 use Rattle.std.proofs.lemmas.List.FromFn.{map-range_with_len_more}
 use Rattle.std.proofs.lemmas.List.Concat.{flat_map-append}
 use Rattle.byte_fields.specs.Number.{four_bytes, u32s}
-use Rattle.msf_blocks.specs.BlockNumber.{IsBlockSize, nth_block, numbers}
+use Rattle.msf_blocks.specs.BlockNumber.{IsBlockSize, nth_block, block_numbers}
 use Rattle.msf_blocks.proofs.SizeLaws.{big_enough}
 use Rattle.msf_blocks.proofs.BlockLaws.{nth_few}
 
@@ -13,8 +13,8 @@ u32s_push : (ns : List ℕ) (n : ℕ) → u32s (ns ++ n ∷ []) ≡ u32s ns ++ f
 u32s_push ns n = flat_map-append four_bytes ns (n ∷ []) ∙ rw (append-nil (four_bytes n)) refl
 
 -- the number of one more block
-numbers_more : (b first j : ℕ) → u32s (numbers b first (j + 1)) ≡ u32s (numbers b first j) ++ four_bytes (nth_block b (first + j))
-numbers_more b first j = ap u32s (map-range_with_len_more (nth_block b) first j (first + j) refl) ∙ u32s_push (numbers b first j) (nth_block b (first + j))
+numbers_more : (b first j : ℕ) → u32s (block_numbers b first (j + 1)) ≡ u32s (block_numbers b first j) ++ four_bytes (nth_block b (first + j))
+numbers_more b first j = ap u32s (map-range_with_len_more (nth_block b) first j (first + j) refl) ∙ u32s_push (block_numbers b first j) (nth_block b (first + j))
 
 -- one more number of a list
 pub u32s_more : (ns : List ℕ) (i : ℕ) → i < length ns → u32s (take (i + 1) ns) ≡ u32s (take i ns) ++ four_bytes (get_or ns i 0)
@@ -24,7 +24,7 @@ u32s_more ns i lt = ap u32s (take_more ns i 0 lt) ∙ u32s_push (take i ns) (get
 pub small_number : (b j : ℕ) → IsBlockSize b → j < 2 ^ 28 → nth_block b j < 2 ^ 32
 small_number b j size few = omega (arith, nth_few b j (big_enough b size))
 
-pub block_pushed : (b first j block : ℕ) (old before new : List ℕ) → before ≡ old ++ u32s (numbers b first j) → block ≡ nth_block b (first + j) → new ≡ before ++ four_bytes block
-    → new ≡ old ++ u32s (numbers b first (j + 1))
+pub block_pushed : (b first j block : ℕ) (old before new : List ℕ) → before ≡ old ++ u32s (block_numbers b first j) → block ≡ nth_block b (first + j) → new ≡ before ++ four_bytes block
+    → new ≡ old ++ u32s (block_numbers b first (j + 1))
 block_pushed b first j block old before new so_far is pushed =
-    pushed ∙ rw (so_far, is, numbers_more b first j) (append_assoc old (u32s (numbers b first j)) (four_bytes (nth_block b (first + j))))
+    pushed ∙ rw (so_far, is, numbers_more b first j) (append_assoc old (u32s (block_numbers b first j)) (four_bytes (nth_block b (first + j))))

@@ -42,5 +42,5 @@ unfoldable pub data_blocks : ℕ → ℕ → List ℕ
 data_blocks size below = filter (λ block. not (is_map_block size block)) (range_with_len 0 below)
 
 -- the numbers of `count` data blocks, beginning with data block `first`
-abbrev pub numbers : ℕ → ℕ → ℕ → List ℕ
-numbers block_size first count = map (nth_block block_size) (range_with_len first count)
+abbrev pub block_numbers : ℕ → ℕ → ℕ → List ℕ
+block_numbers block_size first count = map (nth_block block_size) (range_with_len first count)

@@ -5,7 +5,7 @@ ghost use Rattle.std.specs.List.{range_with_len};
 ghost use Rattle.byte_fields.specs.Number.{nth_u32, u32s};
 ghost use Rattle.byte_fields.specs.Bytes.{AreBytes};
 ghost use Rattle.byte_fields.specs.Check.{Makes, checks_below};
-ghost use Rattle.msf_blocks.specs.BlockNumber.{IsBlockSize, numbers};
+ghost use Rattle.msf_blocks.specs.BlockNumber.{IsBlockSize, block_numbers};
 ghost use Rattle.msf_blocks.specs.Directory.{IsReadable, map_number, directory_blocks, directory_block_checks, directory_contents, bytes_of, stream_blocks, list_start, length_checks, stream_checks};
 
 use crate::block_number::{blocks_for, is_ordinary, nth_block};
@@ -295,7 +295,7 @@ fn push_blocks<A: Allocator>(
     requires size { IsBlockSize block_size }
     requires few { first + count < 2 ^ 28 }
     ensures { OnOk result
-        (bytes.new.items ≡ bytes.old.items ++ u32s (numbers block_size first count)) }
+        (bytes.new.items ≡ bytes.old.items ++ u32s (block_numbers block_size first count)) }
 {
     for j in 0..count {
         push_u32(bytes, nth_block(block_size, first + j))?;
@@ -315,7 +315,7 @@ pub fn block_map_bytes<A: Allocator>(
 ) -> Result<Vec<u8, A>, AllocError>
     requires size { IsBlockSize block_size }
     requires few { directory_blocks < 2 ^ 27 }
-    ensures { IfOk result (λ v. v.items ≡ u32s (numbers block_size 2 directory_blocks)) }
+    ensures { IfOk result (λ v. v.items ≡ u32s (block_numbers block_size 2 directory_blocks)) }
 {
     let mut bytes = Vec::with_capacity(alloc, 4 * directory_blocks as usize)?;
     push_blocks(&mut bytes, block_size, 2, directory_blocks)?;
@@ -338,7 +338,7 @@ pub fn directory_bytes<A: Allocator>(
     requires few { directory_blocks < 2 ^ 26 }
     requires fits { blocks ≤ 5 * 2 ^ 23 }
     ensures { IfOk result (λ v.
-        v.items ≡ u32s (5 ∷ sizes.now ++ numbers block_size (2 + directory_blocks) blocks)) }
+        v.items ≡ u32s (5 ∷ sizes.now ++ block_numbers block_size (2 + directory_blocks) blocks)) }
 {
     let mut bytes = Vec::with_capacity(alloc, 4 * (6 + blocks as usize))?;
     push_u32(&mut bytes, 5)?;

@@ -74,7 +74,7 @@ fn check(file: &[u8]) -> Result<(Directory<'_>, u32), MsfFault>
 
 /// The streams that the directory lists.
 #[tactic(auto, using(crate::proofs::DirectoryLaws::list_start_upto, crate::proofs::DirectoryLaws::list_start_first, crate::proofs::DirectoryLaws::list_start_zero, crate::proofs::DirectoryLaws::list_start_more))]
-fn listed<A: Allocator + Copy>(
+fn list_streams<A: Allocator + Copy>(
     alloc: A,
     directory: &Directory<'_>,
     streams: u32,
@@ -126,7 +126,7 @@ impl<A: Allocator + Copy> Layout<A> {
     {
         let (directory, streams) = check(file)?;
         let superblock = directory.superblock();
-        let streams = listed(alloc, &directory, streams)?;
+        let streams = list_streams(alloc, &directory, streams)?;
         Ok(Layout {
             superblock,
             streams,
@@ -155,7 +155,7 @@ fn layout_at<R: ReadAt, A: Allocator + Copy>(
     let directory = Directory::gathered(superblock, &contents);
     let streams = directory.check_length()?;
     directory.check_streams(streams)?;
-    let streams = listed(alloc, &directory, streams)?;
+    let streams = list_streams(alloc, &directory, streams)?;
     Ok(Layout {
         superblock,
         streams,

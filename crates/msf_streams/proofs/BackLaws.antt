@@ -17,8 +17,8 @@ use Rattle.msf_blocks.specs.Directory.{IsListed, IsDirectory, directory_contents
 use Rattle.msf_blocks.proofs.BlockLaws.{nth_zero, nth_ge}
 use Rattle.msf_blocks.proofs.SizeLaws.{size_facts, big_enough, next_row, ceil_ge, place_below}
 use Rattle.msf_streams.specs.Streams.{gathered, listed_contents}
-use Rattle.msf_blocks.specs.BlockNumber.{numbers}
-use Rattle.msf_streams.specs.Image.{filled, laid_out, superblock_numbers, listed_from, blocks_of_all, directory_len, directory_count, data_count, image_blocks, superblock_part, block_map_part, directory_part, parts, image, Fits, image_fields, ReadsBack}
+use Rattle.msf_blocks.specs.BlockNumber.{block_numbers}
+use Rattle.msf_streams.specs.Image.{padded, laid_out, superblock_numbers, listed_from, blocks_of_all, directory_len, directory_count, data_count, image_blocks, superblock_part, block_map_part, directory_part, parts, image, Fits, image_fields, ReadsBack}
 use Rattle.msf_blocks.proofs.RangeLaws.{map-range_with_len_parts, map-same_ranges}
 use Rattle.msf_streams.proofs.PieceLaws.{gathered_first, at_most_one_for}
 use Rattle.msf_streams.proofs.ImageLaws.{part_back, image_long, length_parts, nth_below}
@@ -33,7 +33,7 @@ word_in x ns at len k e lt small =
 
 -- ---- streams on consecutive data blocks
 
-pub listed_blocks : (b f : ℕ) (sizes : List ℕ) → flat_map (λ l. l.blocks) (listed_from b f sizes) ≡ numbers b f (blocks_of_all b sizes)
+pub listed_blocks : (b f : ℕ) (sizes : List ℕ) → flat_map (λ l. l.blocks) (listed_from b f sizes) ≡ block_numbers b f (blocks_of_all b sizes)
 unfolding listed_from
 listed_blocks b f [] = refl
 listed_blocks b f (k ∷ ks) = rw (listed_blocks b (f + blocks_for b k) ks, sum_by-cons (blocks_for b) k ks) (sym (map-range_with_len_parts (nth_block b) f (blocks_for b k) (blocks_of_all b ks)))
@@ -50,15 +50,15 @@ listed_count b f (k ∷ ks) = ap suc (listed_count b (f + blocks_for b k) ks)
 
 -- the parts after the first ones read back as streams, in order
 pub streams_back : (b m : ℕ) (all front ts : List (List ℕ)) → 3 < b → all ≡ front ++ ts → sum_by (blocks_for b) (map length all) ≡ m + 1 → All (λ t. length t < 0xFFFFFFFF) ts
-    → map (listed_contents (laid_out b (nth_block b m + 1) (flat_map (filled b) all)) b) (listed_from b (sum_by (blocks_for b) (map length front)) (map length ts)) ≡ ts
+    → map (listed_contents (laid_out b (nth_block b m + 1) (flat_map (padded b) all)) b) (listed_from b (sum_by (blocks_for b) (map length front)) (map length ts)) ≡ ts
 unfolding listed_from
 streams_back b m all front [] big e count short = refl
 streams_back b m all front (t ∷ ts) big e count short =
-    let x = laid_out b (nth_block b m + 1) (flat_map (filled b) all) in
+    let x = laid_out b (nth_block b m + 1) (flat_map (padded b) all) in
     let f = sum_by (blocks_for b) (map length front) in
     let small : length t < 0xFFFFFFFF = All-head (λ u. length u < 0xFFFFFFFF) t ts short in
     let size : bytes_of (length t) ≡ length t = grind (arith, nat_tests) in
-    let here : gathered x b (numbers b f (blocks_for b (length t))) (length t) ≡ t = rw e (part_back b m front t ts big (rw e at count)) in
+    let here : gathered x b (block_numbers b f (blocks_for b (length t))) (length t) ≡ t = rw e (part_back b m front t ts big (rw e at count)) in
     let more : all ≡ (front ++ t ∷ []) ++ ts = e ∙ sym (append_assoc front (t ∷ []) ts) in
     let next : sum_by (blocks_for b) (map length (front ++ t ∷ [])) ≡ f + blocks_for b (length t) =
     omega (arith, ap (sum_by (blocks_for b)) (map-append length front (t ∷ [])) ∙ sum_by-append (blocks_for b) (map length front) (length t ∷ []), sum_by-cons (blocks_for b) (length t) []) in
@@ -72,15 +72,15 @@ one_for b len pos some one =
 
 -- a part that fits in one block
 pub block_back : (b m : ℕ) (all front : List (List ℕ)) (t : List ℕ) (back : List (List ℕ)) → 3 < b → all ≡ front ++ t ∷ back → sum_by (blocks_for b) (map length all) ≡ m + 1
-    → 0 < length t → length t ≤ b → (nth_block b (sum_by (blocks_for b) (map length front)) + 1) * b ≤ length (laid_out b (nth_block b m + 1) (flat_map (filled b) all))
-    → take (length t) (drop (nth_block b (sum_by (blocks_for b) (map length front)) * b) (laid_out b (nth_block b m + 1) (flat_map (filled b) all))) ≡ t
+    → 0 < length t → length t ≤ b → (nth_block b (sum_by (blocks_for b) (map length front)) + 1) * b ≤ length (laid_out b (nth_block b m + 1) (flat_map (padded b) all))
+    → take (length t) (drop (nth_block b (sum_by (blocks_for b) (map length front)) * b) (laid_out b (nth_block b m + 1) (flat_map (padded b) all))) ≡ t
 unfolding gathered
 block_back b m all front t back big e count some one fits =
-    let x = laid_out b (nth_block b m + 1) (flat_map (filled b) all) in
+    let x = laid_out b (nth_block b m + 1) (flat_map (padded b) all) in
     let f = sum_by (blocks_for b) (map length front) in
-    let here : gathered x b (numbers b f (blocks_for b (length t))) (length t) ≡ t = rw e (part_back b m front t back big (rw e at count)) in
+    let here : gathered x b (block_numbers b f (blocks_for b (length t))) (length t) ≡ t = rw e (part_back b m front t back big (rw e at count)) in
     let single : blocks_for b (length t) ≡ 1 = one_for b (length t) (omega arith) some one in
-    let first : gathered x b (numbers b f 1) (length t) ≡ t = rw single at here in
+    let first : gathered x b (block_numbers b f 1) (length t) ≡ t = rw single at here in
     sym (gathered_first x b (nth_block b f) (length t) [] one fits) ∙ first
 
 -- ---- the parts of an image
@@ -93,12 +93,12 @@ length_superblock b sizes =
 
 pub length_block_map : (b : ℕ) (sizes : List ℕ) → length (block_map_part b sizes) ≡ 4 * directory_count b sizes
 unfolding block_map_part
-length_block_map b sizes = omega (arith, length-u32s (numbers b 2 (directory_count b sizes)), length-map-range_with_len (nth_block b) 2 (directory_count b sizes))
+length_block_map b sizes = omega (arith, length-u32s (block_numbers b 2 (directory_count b sizes)), length-map-range_with_len (nth_block b) 2 (directory_count b sizes))
 
 pub length_directory : (b : ℕ) (sizes : List ℕ) → length (directory_part b sizes) ≡ directory_len b sizes
 unfolding directory_part
 length_directory b sizes =
-    let ns = numbers b (2 + directory_count b sizes) (blocks_of_all b sizes) in
+    let ns = block_numbers b (2 + directory_count b sizes) (blocks_of_all b sizes) in
     omega (arith, length-u32s (length sizes ∷ sizes ++ ns), length-append sizes ns, length-map-range_with_len (nth_block b) (2 + directory_count b sizes) (blocks_of_all b sizes))
 
 pub front_blocks : (b : ℕ) (ts : List (List ℕ)) → IsBlockSize b → Fits b (map length ts)
@@ -125,7 +125,7 @@ all_blocks b ts size fits =
     ∙ rw (sum_by-cons (blocks_for b) bm (dir ∷ sizes), sum_by-cons (blocks_for b) dir sizes, h.0, h.1, h.2) (omega arith)
 
 -- the image, in terms of its data blocks
-pub image_is : (b : ℕ) (ts : List (List ℕ)) → image b ts ≡ laid_out b (nth_block b (data_count b (map length ts) - 1) + 1) (flat_map (filled b) (parts b ts))
+pub image_is : (b : ℕ) (ts : List (List ℕ)) → image b ts ≡ laid_out b (nth_block b (data_count b (map length ts) - 1) + 1) (flat_map (padded b) (parts b ts))
 unfolding image
 image_is b ts = refl
 
@@ -133,7 +133,7 @@ pub image_long_as_said : (b : ℕ) (ts : List (List ℕ)) → IsBlockSize b → 
 image_long_as_said b ts size fits =
     let m = data_count b (map length ts) - 1 in
     let big = big_enough b size in
-    rw (image_is b ts) (image_long b m (flat_map (filled b) (parts b ts)) big (length_parts b (parts b ts) (omega arith) ∙ rw (all_blocks b ts size fits) refl))
+    rw (image_is b ts) (image_long b m (flat_map (padded b) (parts b ts)) big (length_parts b (parts b ts) (omega arith) ∙ rw (all_blocks b ts size fits) refl))
 
 -- the superblock of an image
 pub head : (b : ℕ) (ts : List (List ℕ)) → IsBlockSize b → Fits b (map length ts) → take 56 (image b ts) ≡ superblock_part b (map length ts)
@@ -156,7 +156,7 @@ head b ts size fits =
 
 -- the block map of an image
 pub map_here : (b : ℕ) (ts : List (List ℕ)) → IsBlockSize b → Fits b (map length ts)
-    → take (4 * directory_count b (map length ts)) (drop (nth_block b 1 * b) (image b ts)) ≡ u32s (numbers b 2 (directory_count b (map length ts)))
+    → take (4 * directory_count b (map length ts)) (drop (nth_block b 1 * b) (image b ts)) ≡ u32s (block_numbers b 2 (directory_count b (map length ts)))
 unfolding parts block_map_part
 map_here b ts size fits =
     let sizes = map length ts in
@@ -179,7 +179,7 @@ map_here b ts size fits =
     rw is (rw (one, long) at e)
 
 pub directory_here : (b : ℕ) (ts : List (List ℕ)) → IsBlockSize b → Fits b (map length ts)
-    → gathered (image b ts) b (numbers b 2 (directory_count b (map length ts))) (directory_len b (map length ts)) ≡ directory_part b (map length ts)
+    → gathered (image b ts) b (block_numbers b 2 (directory_count b (map length ts))) (directory_len b (map length ts)) ≡ directory_part b (map length ts)
 unfolding parts
 directory_here b ts size fits =
     let sizes = map length ts in
@@ -258,7 +258,7 @@ map_number_back b ts k size fits lt =
     let x = image b ts in
     let big = big_enough b size in
     let h = bounds b sizes size fits in
-    let ns = numbers b 2 (directory_count b sizes) in
+    let ns = block_numbers b 2 (directory_count b sizes) in
     let at : get_or ns k 0 ≡ nth_block b (2 + k) = get_or-map-range_with_len (nth_block b) 2 (directory_count b sizes) k (2 + k) 0 lt refl in
     let below = nth_below b (data_count b sizes - 1) (2 + k) big (omega arith) in
     word_in x ns (nth_block b 1 * b) (4 * directory_count b sizes) k (map_here b ts size fits) (omega (arith, lt, length-map-range_with_len (nth_block b) 2 (directory_count b sizes))) (omega (arith, at, below, h.0)) ∙ at
@@ -270,7 +270,7 @@ dir_back b ts size fits =
     let x = image b ts in
     let big = big_enough b size in
     let d = directory_len b sizes in
-    let ns = numbers b 2 (directory_count b sizes) in
+    let ns = block_numbers b 2 (directory_count b sizes) in
     let here : gathered x b ns d ≡ directory_part b sizes = directory_here b ts size fits in
     record {
       ordinary = λ k lt.
@@ -308,9 +308,9 @@ each_listed b f n m (k ∷ ks) big some within few short s es en =
     (record {
       short = omega (arith, small);
       count = rw (bytes, es) count;
-      ordinary = All-from_get_or (IsOrdinary s.num_blocks) (numbers b f (blocks_for b k)) 0 (λ i lt.
+      ordinary = All-from_get_or (IsOrdinary s.num_blocks) (block_numbers b f (blocks_for b k)) 0 (λ i lt.
           let in' : i < blocks_for b k = omega (arith, lt, count) in
-          let at : get_or (numbers b f (blocks_for b k)) i 0 ≡ nth_block b (f + i) = get_or-map-range_with_len (nth_block b) f (blocks_for b k) i (f + i) 0 in' refl in
+          let at : get_or (block_numbers b f (blocks_for b k)) i 0 ≡ nth_block b (f + i) = get_or-map-range_with_len (nth_block b) f (blocks_for b k) i (f + i) 0 in' refl in
           let below = nth_below b m (f + i) big (omega (arith, sum, within, in')) in
           let up = nth_ge b (f + i) big in
           (omega (arith, at, up, some), omega (arith, at, below, en)));

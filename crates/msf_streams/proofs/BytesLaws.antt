@@ -14,8 +14,8 @@ use Rattle.msf_blocks.specs.Directory.{Listed, bytes_of}
 use Rattle.msf_blocks.specs.Layout.{LayoutView}
 use Rattle.msf_streams.specs.Streams.{gathered, listed_contents, stream_contents}
 use Rattle.msf_blocks.specs.FreeMap.{map_byte, map_block}
-use Rattle.msf_blocks.specs.BlockNumber.{numbers}
-use Rattle.msf_streams.specs.Image.{filled, data_block, image_block, laid_out, superblock_numbers, superblock_part, block_map_part, directory_part, directory_count, blocks_of_all, parts, image, image_blocks}
+use Rattle.msf_blocks.specs.BlockNumber.{block_numbers}
+use Rattle.msf_streams.specs.Image.{padded, data_block, image_block, laid_out, superblock_numbers, superblock_part, block_map_part, directory_part, directory_count, blocks_of_all, parts, image, image_blocks}
 use lib.ListN.{replicate}
 
 -- ---- lists of bytes
@@ -69,15 +69,15 @@ laid_are_bytes : (b n : ℕ) (bytes : List ℕ) → AreBytes bytes → AreBytes 
 unfolding laid_out
 laid_are_bytes b n bytes each = bytes_flat_map (image_block b n bytes) (range_with_len 0 n) (λ k. block_is_bytes b n bytes k each)
 
-filled_are_bytes : (b : ℕ) (part : List ℕ) → AreBytes part → AreBytes (filled b part)
-unfolding filled
+filled_are_bytes : (b : ℕ) (part : List ℕ) → AreBytes part → AreBytes (padded b part)
+unfolding padded
 filled_are_bytes b part each =
     let fill = blocks_for b (length part) * b - length part in
     bytes_append part (replicate fill 0) each (bytes_replicate fill 0 (omega arith))
 
-all_are_bytes : (b : ℕ) (ps : List (List ℕ)) → AllByRecursion AreBytes ps → AreBytes (flat_map (filled b) ps)
+all_are_bytes : (b : ℕ) (ps : List (List ℕ)) → AllByRecursion AreBytes ps → AreBytes (flat_map (padded b) ps)
 all_are_bytes b [] each = bytes_nil
-all_are_bytes b (p ∷ ps) each = bytes_append (filled b p) (flat_map (filled b) ps) (filled_are_bytes b p each.0) (all_are_bytes b ps each.1)
+all_are_bytes b (p ∷ ps) each = bytes_append (padded b p) (flat_map (padded b) ps) (filled_are_bytes b p each.0) (all_are_bytes b ps each.1)
 
 superblock_is_bytes : (b : ℕ) (sizes : List ℕ) → AreBytes (superblock_part b sizes)
 unfolding superblock_part
@@ -85,18 +85,18 @@ superblock_is_bytes b sizes = bytes_append magic (u32s (superblock_numbers b siz
 
 block_map_is_bytes : (b : ℕ) (sizes : List ℕ) → AreBytes (block_map_part b sizes)
 unfolding block_map_part
-block_map_is_bytes b sizes = u32s_are_bytes (numbers b 2 (directory_count b sizes))
+block_map_is_bytes b sizes = u32s_are_bytes (block_numbers b 2 (directory_count b sizes))
 
 directory_is_bytes : (b : ℕ) (sizes : List ℕ) → AreBytes (directory_part b sizes)
 unfolding directory_part
-directory_is_bytes b sizes = u32s_are_bytes (length sizes ∷ sizes ++ numbers b (2 + directory_count b sizes) (blocks_of_all b sizes))
+directory_is_bytes b sizes = u32s_are_bytes (length sizes ∷ sizes ++ block_numbers b (2 + directory_count b sizes) (blocks_of_all b sizes))
 
 -- the image of streams of bytes is made of bytes
 pub image_is_bytes : (b : ℕ) (contents : List (List ℕ)) → AllByRecursion AreBytes contents → AreBytes (image b contents)
 unfolding image parts
 image_is_bytes b contents each =
     let sizes = map length contents in
-    laid_are_bytes b (image_blocks b sizes) (flat_map (filled b) (parts b contents))
+    laid_are_bytes b (image_blocks b sizes) (flat_map (padded b) (parts b contents))
     (all_are_bytes b (parts b contents) (superblock_is_bytes b sizes, (block_map_is_bytes b sizes, (directory_is_bytes b sizes, each))))
 
 -- ---- a stream

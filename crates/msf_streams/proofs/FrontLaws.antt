@@ -7,7 +7,7 @@ use Rattle.std.proofs.lemmas.List.{take_more, take_more_set, take_all, map-appen
 use Rattle.byte_fields.specs.Number.{u32s}
 use Rattle.msf_blocks.specs.BlockNumber.{blocks_for, nth_block}
 use Rattle.msf_blocks.specs.Superblock.{magic}
-use Rattle.msf_blocks.specs.BlockNumber.{numbers}
+use Rattle.msf_blocks.specs.BlockNumber.{block_numbers}
 use Rattle.msf_streams.specs.Image.{blocks_of_all, directory_len, directory_count, image_blocks, superblock_part, block_map_part, directory_part}
 use Rattle.msf_streams.proofs.ImageLaws.{five_streams}
 
@@ -23,18 +23,18 @@ superblock_is b n blocks len addr sizes bytes five count all long at e =
 
 -- the block map
 pub block_map_is : (b blocks directory : ℕ) (sizes bytes : List ℕ) → length sizes ≡ 5 → blocks ≡ blocks_of_all b sizes → directory ≡ blocks_for b (4 * (6 + blocks))
-    → bytes ≡ u32s (numbers b 2 directory) → bytes ≡ block_map_part b sizes
+    → bytes ≡ u32s (block_numbers b 2 directory) → bytes ≡ block_map_part b sizes
 unfolding block_map_part
 block_map_is b blocks directory sizes bytes five all is e = e ∙ rw ((five_streams b blocks directory sizes five all is).0) refl
 
 -- the directory
 pub directory_is : (b blocks directory : ℕ) (sizes bytes : List ℕ) → length sizes ≡ 5 → blocks ≡ blocks_of_all b sizes → directory ≡ blocks_for b (4 * (6 + blocks))
-    → bytes ≡ u32s (5 ∷ sizes ++ numbers b (2 + directory) blocks) → bytes ≡ directory_part b sizes
+    → bytes ≡ u32s (5 ∷ sizes ++ block_numbers b (2 + directory) blocks) → bytes ≡ directory_part b sizes
 unfolding directory_part
 directory_is b blocks directory sizes bytes five all is e =
     let same = (five_streams b blocks directory sizes five all is).0 in
-    let numbered : numbers b (2 + directory) blocks ≡ numbers b (2 + directory_count b sizes) (blocks_of_all b sizes) = rw (same, all) refl in
-    e ∙ ap (λ (ns : List ℕ). u32s (5 ∷ sizes ++ ns)) numbered ∙ ap (λ (n : ℕ). u32s (n ∷ sizes ++ numbers b (2 + directory_count b sizes) (blocks_of_all b sizes))) (sym five)
+    let numbered : block_numbers b (2 + directory) blocks ≡ block_numbers b (2 + directory_count b sizes) (blocks_of_all b sizes) = rw (same, all) refl in
+    e ∙ ap (λ (ns : List ℕ). u32s (5 ∷ sizes ++ ns)) numbered ∙ ap (λ (n : ℕ). u32s (n ∷ sizes ++ block_numbers b (2 + directory_count b sizes) (blocks_of_all b sizes))) (sym five)
 
 -- ---- the sizes of streams
 

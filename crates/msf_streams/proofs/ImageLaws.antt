@@ -12,7 +12,7 @@ use Rattle.msf_blocks.proofs.BlockLaws.{rank_is, nth_is_data, nth_onto, nth_mono
 use Rattle.msf_blocks.proofs.SizeLaws.{size_facts, big_enough, ceil_ge, place_below}
 use Rattle.msf_streams.specs.Streams.{gathered}
 use Rattle.msf_blocks.specs.FreeMap.{map_block, map_byte}
-use Rattle.msf_streams.specs.Image.{filled, data_block, image_block, laid_out, blocks_of_all, directory_len, directory_count, data_count}
+use Rattle.msf_streams.specs.Image.{padded, data_block, image_block, laid_out, blocks_of_all, directory_len, directory_count, data_count}
 use Rattle.msf_blocks.proofs.RangeLaws.{map-same_ranges, part_by_places}
 use lib.ListN.{replicate}
 
@@ -112,33 +112,33 @@ stretch b m f len t big long within fits =
 
 -- ---- parts that are padded to whole blocks, one after the other
 
-pub length_filled : (b : ℕ) (t : List ℕ) → 0 < b → length (filled b t) ≡ blocks_for b (length t) * b
-unfolding filled
+pub length_filled : (b : ℕ) (t : List ℕ) → 0 < b → length (padded b t) ≡ blocks_for b (length t) * b
+unfolding padded
 length_filled b t pos = length-append t (replicate (blocks_for b (length t) * b - length t) 0)
     ∙ rw (length-replicate (blocks_for b (length t) * b - length t) (zero)) (omega (arith, ceil_ge b (length t) pos))
 
-pub length_parts : (b : ℕ) (ps : List (List ℕ)) → 0 < b → length (flat_map (filled b) ps) ≡ sum_by (blocks_for b) (map length ps) * b
+pub length_parts : (b : ℕ) (ps : List (List ℕ)) → 0 < b → length (flat_map (padded b) ps) ≡ sum_by (blocks_for b) (map length ps) * b
 length_parts b [] pos = omega arith
 length_parts b (p ∷ ps) pos =
-    length-append (filled b p) (flat_map (filled b) ps)
+    length-append (padded b p) (flat_map (padded b) ps)
     ∙ rw (length_filled b p pos, length_parts b ps pos, sum_by-cons (blocks_for b) (length p) (map length ps)) (omega arith)
 
 -- where a part begins in the data
 pub part_at : (b : ℕ) (front : List (List ℕ)) (t : List ℕ) (back : List (List ℕ)) → 0 < b
-    → drop (sum_by (blocks_for b) (map length front) * b) (flat_map (filled b) (front ++ t ∷ back)) ≡ filled b t ++ flat_map (filled b) back
+    → drop (sum_by (blocks_for b) (map length front) * b) (flat_map (padded b) (front ++ t ∷ back)) ≡ padded b t ++ flat_map (padded b) back
 part_at b front t back pos =
-    rw (flat_map-append (filled b) front (t ∷ back)) (drop_at (flat_map (filled b) front) (flat_map (filled b) (t ∷ back)) _ (length_parts b front pos))
+    rw (flat_map-append (padded b) front (t ∷ back)) (drop_at (flat_map (padded b) front) (flat_map (padded b) (t ∷ back)) _ (length_parts b front pos))
 
-pub bytes_back : (b : ℕ) (t rest : List ℕ) → take (length t) (filled b t ++ rest) ≡ t
-unfolding filled
+pub bytes_back : (b : ℕ) (t rest : List ℕ) → take (length t) (padded b t ++ rest) ≡ t
+unfolding padded
 bytes_back b t rest = rw (append_assoc t (replicate (blocks_for b (length t) * b - length t) 0) rest) (take_at t _ (length t) refl)
 
 -- each part of an image reads back through the blocks that follow those of the earlier parts
 pub part_back : (b m : ℕ) (front : List (List ℕ)) (t : List ℕ) (back : List (List ℕ)) → 3 < b
     → sum_by (blocks_for b) (map length (front ++ t ∷ back)) ≡ m + 1
-    → gathered (laid_out b (nth_block b m + 1) (flat_map (filled b) (front ++ t ∷ back))) b (map (nth_block b) (range_with_len (sum_by (blocks_for b) (map length front)) (blocks_for b (length t)))) (length t) ≡ t
+    → gathered (laid_out b (nth_block b m + 1) (flat_map (padded b) (front ++ t ∷ back))) b (map (nth_block b) (range_with_len (sum_by (blocks_for b) (map length front)) (blocks_for b (length t)))) (length t) ≡ t
 part_back b m front t back big count =
-    let all = flat_map (filled b) (front ++ t ∷ back) in
+    let all = flat_map (padded b) (front ++ t ∷ back) in
     let f = sum_by (blocks_for b) (map length front) in
     let long : length all ≡ (m + 1) * b = length_parts b (front ++ t ∷ back) (omega arith) ∙ rw count refl in
     let sums : sum_by (blocks_for b) (map length (front ++ t ∷ back)) ≡ f + (blocks_for b (length t) + sum_by (blocks_for b) (map length back)) =
@@ -147,7 +147,7 @@ part_back b m front t back big count =
     let within : f + blocks_for b (length t) ≤ m + 1 = omega (arith, count, sums) in
     let ends : (f + blocks_for b (length t)) * b ≤ (m + 1) * b = mul-le (f + blocks_for b (length t)) b (m + 1) b within (omega arith) in
     let fits : f * b + length t ≤ length all = omega (arith, long, ends, ceil_ge b (length t) (omega arith)) in
-    stretch b m f (length t) all big long within fits ∙ rw (part_at b front t back (omega arith)) (bytes_back b t (flat_map (filled b) back))
+    stretch b m f (length t) all big long within fits ∙ rw (part_at b front t back (omega arith)) (bytes_back b t (flat_map (padded b) back))
 
 -- ---- the length of an image
 

@@ -11,7 +11,7 @@ use Rattle.std.proofs.lemmas.Bool.{cases_lt}
 use Rattle.std.proofs.lemmas.List.{append-nil, length-append, length-take, length-drop, take-append-drop, take_rest, take-append-le, drop_more, take_more, drop_all}
 use Rattle.msf_blocks.specs.BlockNumber.{IsBlockSize, blocks_for}
 use Rattle.msf_blocks.proofs.SizeLaws.{size_facts, some_bytes, big_enough, next_row, ceil_is}
-use Rattle.msf_streams.specs.Image.{joined, filled, superblock_part, block_map_part, directory_part, parts, image, image_blocks, data_count}
+use Rattle.msf_streams.specs.Image.{joined, padded, superblock_part, block_map_part, directory_part, parts, image, image_blocks, data_count}
 use Rattle.msf_streams.specs.Put.{WriterView, IsSameImage, maps_before, woven, woven_from, room, AppendsPart, IsFront}
 use Rattle.msf_blocks.proofs.RangeLaws.{next_block, first_block}
 use Rattle.msf_streams.proofs.ImageLaws.{length_parts}
@@ -128,40 +128,40 @@ fill_count b len size =
           (rw (rest, count) (omega (arith, whole)), omega (arith, rest))
     ]
 
-pub filled_is : (b : ℕ) (part fill : List ℕ) (count : ℕ) → count ≡ blocks_for b (length part) * b - length part → fill ≡ replicate count 0 → filled b part ≡ part ++ fill
-unfolding filled
+pub filled_is : (b : ℕ) (part fill : List ℕ) (count : ℕ) → count ≡ blocks_for b (length part) * b - length part → fill ≡ replicate count 0 → padded b part ≡ part ++ fill
+unfolding padded
 filled_is b part fill count is e = rw (e, is) refl
 
 -- a padded part is the part, and then as many zeros as follow from the positions before and after the part
 pub filled_after : (w v first last : WriterView) (part fill : List ℕ) (count : ℕ) → first ≡ w → last ≡ v → IsSameImage w v → v.position ≡ w.position + length part
-    → count ≡ blocks_for last.block_size (last.position - first.position) * last.block_size - (last.position - first.position) → fill ≡ replicate count 0 → filled w.block_size part ≡ part ++ fill
+    → count ≡ blocks_for last.block_size (last.position - first.position) * last.block_size - (last.position - first.position) → fill ≡ replicate count 0 → padded w.block_size part ≡ part ++ fill
 filled_after w v first last part fill count before after same end is e =
     let size : last.block_size ≡ w.block_size = ap (λ (x : WriterView). x.block_size) after ∙ same.block_size in
     let len : last.position - first.position ≡ length part = omega (arith, ap (λ (x : WriterView). x.position) before, ap (λ (x : WriterView). x.position) after, end) in
     filled_is w.block_size part fill count (rw (size, len) at is) e
 
-pub filled_longer : (b : ℕ) (part : List ℕ) → length part ≤ length (filled b part)
-unfolding filled
+pub filled_longer : (b : ℕ) (part : List ℕ) → length part ≤ length (padded b part)
+unfolding padded
 filled_longer b part = omega (arith, length-append part (replicate (blocks_for b (length part) * b - length part) 0))
 
-woven_filled : (b n p : ℕ) (part fill : List ℕ) → filled b part ≡ part ++ fill → woven b n p (filled b part) ≡ woven b n p part ++ woven b n (p + length part) fill
+woven_filled : (b n p : ℕ) (part fill : List ℕ) → padded b part ≡ part ++ fill → woven b n p (padded b part) ≡ woven b n p part ++ woven b n (p + length part) fill
 woven_filled b n p part fill is = ap (woven b n p) is ∙ woven_parts b n p part fill
 
 -- the bytes of a part were not all taken
-pub part_fails : (old new : Option (List ℕ)) (b n p : ℕ) (part : List ℕ) → AppendsPart old new (woven b n p part) → AppendsPart old new (woven b n p (filled b part))
+pub part_fails : (old new : Option (List ℕ)) (b n p : ℕ) (part : List ℕ) → AppendsPart old new (woven b n p part) → AppendsPart old new (woven b n p (padded b part))
 part_fails old new b n p part h =
     let fill : List ℕ = replicate (blocks_for b (length part) * b - length part) 0 in
     rw (woven_filled b n p part fill (filled_is b part fill (blocks_for b (length part) * b - length part) refl refl)) (part_first old new (woven b n p part) (woven b n (p + length part) fill) h)
 
 -- the bytes of a part were all taken, and its padding was not
-pub fill_fails : (old between new : Option (List ℕ)) (b n p : ℕ) (part fill : List ℕ) → filled b part ≡ part ++ fill → Appends old between (woven b n p part)
-    → AppendsPart between new (woven b n (p + length part) fill) → AppendsPart old new (woven b n p (filled b part))
+pub fill_fails : (old between new : Option (List ℕ)) (b n p : ℕ) (part fill : List ℕ) → padded b part ≡ part ++ fill → Appends old between (woven b n p part)
+    → AppendsPart between new (woven b n (p + length part) fill) → AppendsPart old new (woven b n p (padded b part))
 fill_fails old between new b n p part fill is before h =
     rw (woven_filled b n p part fill is) (part_second old between new (woven b n p part) (woven b n (p + length part) fill) before h)
 
 -- the bytes of a part and its padding were all taken
-pub part_taken : (old between new : Option (List ℕ)) (b n p : ℕ) (part fill : List ℕ) → filled b part ≡ part ++ fill → Appends old between (woven b n p part)
-    → Appends between new (woven b n (p + length part) fill) → Appends old new (woven b n p (filled b part))
+pub part_taken : (old between new : Option (List ℕ)) (b n p : ℕ) (part fill : List ℕ) → padded b part ≡ part ++ fill → Appends old between (woven b n p part)
+    → Appends between new (woven b n (p + length part) fill) → Appends old new (woven b n p (padded b part))
 part_taken old between new b n p part fill is before h =
     rw (woven_filled b n p part fill is) (Appends-trans old between new (woven b n p part) (woven b n (p + length part) fill) before h)
 
@@ -241,43 +241,43 @@ all_taken old now w all left h none = rw (woven_done w.block_size w.num_blocks w
 
 -- the next part, padded to whole blocks, was not taken as a whole
 pub part_not_put : (old between new : Option (List ℕ)) (b : ℕ) (w : WriterView) (all part given rest : List ℕ) → w.block_size ≡ b → given ≡ part
-    → Halfway old between w all (filled b part ++ rest) → AppendsPart between new (woven_from w (filled w.block_size given)) → AppendsPart old new all
+    → Halfway old between w all (padded b part ++ rest) → AppendsPart between new (woven_from w (padded w.block_size given)) → AppendsPart old new all
 part_not_put old between new b w all part given rest size is so_far h =
-    let same : filled w.block_size given ≡ filled b part = rw (size, is) refl in
-    first_fails old between new w all (filled b part) rest so_far (rw same at h)
+    let same : padded w.block_size given ≡ padded b part = rw (size, is) refl in
+    first_fails old between new w all (padded b part) rest so_far (rw same at h)
 
 -- the next part, padded to whole blocks, was taken as a whole
 pub part_put : (old between new : Option (List ℕ)) (b : ℕ) (w v : WriterView) (all part given rest : List ℕ) → w.block_size ≡ b → given ≡ part
-    → Halfway old between w all (filled b part ++ rest) → Appends between new (woven_from w (filled w.block_size given))
-    → IsSameImage w v → v.position ≡ w.position + length (filled w.block_size given) → Halfway old new v all rest
+    → Halfway old between w all (padded b part ++ rest) → Appends between new (woven_from w (padded w.block_size given))
+    → IsSameImage w v → v.position ≡ w.position + length (padded w.block_size given) → Halfway old new v all rest
 part_put old between new b w v all part given rest size is so_far h is_same end =
-    let same : filled w.block_size given ≡ filled b part = rw (size, is) refl in
-    first_taken old between new w v all (filled b part) rest so_far (rw same at h) is_same (rw same at end)
+    let same : padded w.block_size given ≡ padded b part = rw (size, is) refl in
+    first_taken old between new w v all (padded b part) rest so_far (rw same at h) is_same (rw same at end)
 
 -- the same for the next of several streams
 pub next_not_put : {X : Type 0} (old between new : Option (List ℕ)) (h : X → List ℕ) (b : ℕ) (w : WriterView) (xs : List X) (i : ℕ) (d : X) (all : List ℕ) → i < length xs → w.block_size ≡ b
-    → Halfway old between w all (flat_map (λ x. filled b (h x)) (drop i xs)) → AppendsPart between new (woven_from w (filled w.block_size (h (get_or xs i d)))) → AppendsPart old new all
+    → Halfway old between w all (flat_map (λ x. padded b (h x)) (drop i xs)) → AppendsPart between new (woven_from w (padded w.block_size (h (get_or xs i d)))) → AppendsPart old new all
 next_not_put old between new h b w xs i d all lt size so_far part =
-    let here = part_here (λ x. filled b (h x)) xs i d lt in
-    part_not_put old between new b w all (h (get_or xs i d)) (h (get_or xs i d)) (flat_map (λ x. filled b (h x)) (drop (i + 1) xs)) size refl (rw here at so_far) part
+    let here = part_here (λ x. padded b (h x)) xs i d lt in
+    part_not_put old between new b w all (h (get_or xs i d)) (h (get_or xs i d)) (flat_map (λ x. padded b (h x)) (drop (i + 1) xs)) size refl (rw here at so_far) part
 
 pub next_put : {X : Type 0} (old between new : Option (List ℕ)) (h : X → List ℕ) (b : ℕ) (w v : WriterView) (xs : List X) (i : ℕ) (d : X) (all : List ℕ) → i < length xs → w.block_size ≡ b
-    → Halfway old between w all (flat_map (λ x. filled b (h x)) (drop i xs)) → Appends between new (woven_from w (filled w.block_size (h (get_or xs i d))))
-    → IsSameImage w v → v.position ≡ w.position + length (filled w.block_size (h (get_or xs i d))) → Halfway old new v all (flat_map (λ x. filled b (h x)) (drop (i + 1) xs))
+    → Halfway old between w all (flat_map (λ x. padded b (h x)) (drop i xs)) → Appends between new (woven_from w (padded w.block_size (h (get_or xs i d))))
+    → IsSameImage w v → v.position ≡ w.position + length (padded w.block_size (h (get_or xs i d))) → Halfway old new v all (flat_map (λ x. padded b (h x)) (drop (i + 1) xs))
 next_put old between new h b w v xs i d all lt size so_far put same end =
-    let here = part_here (λ x. filled b (h x)) xs i d lt in
-    part_put old between new b w v all (h (get_or xs i d)) (h (get_or xs i d)) (flat_map (λ x. filled b (h x)) (drop (i + 1) xs)) size refl (rw here at so_far) put same end
+    let here = part_here (λ x. padded b (h x)) xs i d lt in
+    part_put old between new b w v all (h (get_or xs i d)) (h (get_or xs i d)) (flat_map (λ x. padded b (h x)) (drop (i + 1) xs)) size refl (rw here at so_far) put same end
 
 -- ---- the parts of an image in turn
 
 -- the image, in terms of its parts
-by_parts : (b n : ℕ) (ts : List (List ℕ)) (sb bm dir : List ℕ) → IsBlockSize b → IsFront b n (map length ts) sb bm dir → image b ts ≡ woven b n 0 (flat_map (filled b) (sb ∷ bm ∷ dir ∷ ts))
+by_parts : (b n : ℕ) (ts : List (List ℕ)) (sb bm dir : List ℕ) → IsBlockSize b → IsFront b n (map length ts) sb bm dir → image b ts ≡ woven b n 0 (flat_map (padded b) (sb ∷ bm ∷ dir ∷ ts))
 unfolding parts
 by_parts b n ts sb bm dir size front = rw (front.count, front.superblock_is, front.block_map_is, front.directory_is) (image_woven b ts size front.fits)
 
 -- the padded parts are no longer than the file
 pub few_bytes : (b n : ℕ) (ts : List (List ℕ)) (sb bm dir : List ℕ) → IsBlockSize b → IsFront b n (map length ts) sb bm dir
-    → length (filled b sb) + (length (filled b bm) + (length (filled b dir) + length (flat_map (filled b) ts))) < 2 ^ 32
+    → length (padded b sb) + (length (padded b bm) + (length (padded b dir) + length (flat_map (padded b) ts))) < 2 ^ 32
 unfolding parts
 few_bytes b n ts sb bm dir size front =
     let sizes = map length ts in
@@ -285,7 +285,7 @@ few_bytes b n ts sb bm dir size front =
     let all = superblock_part b sizes ∷ block_map_part b sizes ∷ directory_part b sizes ∷ ts in
     let few = (bounds b sizes size front.fits).1 in
     let blocks = mul-le (data_count b sizes) b (image_blocks b sizes) b few (omega arith) in
-    let long : length (flat_map (filled b) (sb ∷ bm ∷ dir ∷ ts)) ≡ (data_count b sizes - 1 + 1) * b =
+    let long : length (flat_map (padded b) (sb ∷ bm ∷ dir ∷ ts)) ≡ (data_count b sizes - 1 + 1) * b =
     rw (front.superblock_is, front.block_map_is, front.directory_is) (length_parts b all (omega (arith, big)) ∙ rw (all_blocks b ts size front.fits) refl) in
     let one : data_count b sizes - 1 + 1 ≡ data_count b sizes = omega arith in
     omega (
@@ -293,14 +293,14 @@ few_bytes b n ts sb bm dir size front =
       front.fits.short,
       blocks,
       rw one at long,
-      length-append (filled b sb) (filled b bm ++ (filled b dir ++ flat_map (filled b) ts)),
-      length-append (filled b bm) (filled b dir ++ flat_map (filled b) ts),
-      length-append (filled b dir) (flat_map (filled b) ts),
+      length-append (padded b sb) (padded b bm ++ (padded b dir ++ flat_map (padded b) ts)),
+      length-append (padded b bm) (padded b dir ++ flat_map (padded b) ts),
+      length-append (padded b dir) (flat_map (padded b) ts),
     )
 
 -- what was written before the first part
 pub before_front : (old : Option (List ℕ)) (w : WriterView) (ts : List (List ℕ)) (sb bm dir : List ℕ) → IsBlockSize w.block_size → IsFront w.block_size w.num_blocks (map length ts) sb bm dir
-    → w.position ≡ 0 → Halfway old old w (image w.block_size ts) (flat_map (filled w.block_size) (sb ∷ bm ∷ dir ∷ ts))
+    → w.position ≡ 0 → Halfway old old w (image w.block_size ts) (flat_map (padded w.block_size) (sb ∷ bm ∷ dir ∷ ts))
 before_front old w ts sb bm dir size front start =
     record {
       taken = [];

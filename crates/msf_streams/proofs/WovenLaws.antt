@@ -10,7 +10,7 @@ use Rattle.msf_blocks.specs.BlockNumber.{IsBlockSize, is_map_block, nth_block}
 use Rattle.msf_blocks.proofs.SizeLaws.{size_facts, big_enough}
 use Rattle.msf_blocks.proofs.BlockLaws.{nth_first, nth_other, nth_zero, nth_is_data, map_at, rank_is, range_more}
 use Rattle.msf_blocks.specs.FreeMap.{map_block}
-use Rattle.msf_streams.specs.Image.{filled, data_block, image_block, laid_out, parts, image, image_blocks, data_count, Fits}
+use Rattle.msf_streams.specs.Image.{padded, data_block, image_block, laid_out, parts, image, image_blocks, data_count, Fits}
 use Rattle.msf_streams.specs.Put.{stretch, follows_maps, maps_of, maps_before, woven, room}
 use Rattle.msf_streams.proofs.ImageLaws.{length_parts}
 use Rattle.msf_streams.proofs.BackLaws.{all_blocks, image_is}
@@ -232,9 +232,9 @@ woven_is b m bytes big long = woven_blocks b (nth_block b m + 1) m bytes big (om
 
 -- an image is the data of its parts, with map blocks between the bytes
 pub image_woven : (b : ℕ) (ts : List (List ℕ)) → IsBlockSize b → Fits b (map length ts)
-    → image b ts ≡ woven b (image_blocks b (map length ts)) 0 (flat_map (filled b) (parts b ts))
+    → image b ts ≡ woven b (image_blocks b (map length ts)) 0 (flat_map (padded b) (parts b ts))
 image_woven b ts size fits =
     let m = data_count b (map length ts) - 1 in
     let big = big_enough b size in
-    let long : length (flat_map (filled b) (parts b ts)) ≡ (m + 1) * b = length_parts b (parts b ts) (omega (arith, big)) ∙ rw (all_blocks b ts size fits) refl in
-    image_is b ts ∙ woven_is b m (flat_map (filled b) (parts b ts)) big long
+    let long : length (flat_map (padded b) (parts b ts)) ≡ (m + 1) * b = length_parts b (parts b ts) (omega (arith, big)) ∙ rw (all_blocks b ts size fits) refl in
+    image_is b ts ∙ woven_is b m (flat_map (padded b) (parts b ts)) big long

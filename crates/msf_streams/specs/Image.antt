@@ -2,7 +2,7 @@
 use Rattle.std.specs.Prelude.{ℕ, ◌≡◌, ◌+◌, ◌-◌, ◌*◌, ◌/◌, ◌^◌, ◌<◌, ◌≤◌, if◌then◌else◌, All, List, [], ◌∷◌, ◌++◌, length, map, take, drop, slice_get}
 use Rattle.std.specs.List.{range_with_len, flat_map, sum_by}
 use Rattle.byte_fields.specs.Number.{u32s}
-use Rattle.msf_blocks.specs.BlockNumber.{blocks_for, is_map_block, nth_block, data_blocks, numbers}
+use Rattle.msf_blocks.specs.BlockNumber.{blocks_for, is_map_block, nth_block, data_blocks, block_numbers}
 use Rattle.msf_blocks.specs.FreeMap.{map_block}
 use Rattle.msf_blocks.specs.Superblock.{Fields, magic}
 use Rattle.msf_blocks.specs.Directory.{Listed}
@@ -14,8 +14,8 @@ use lib.ListN.{replicate}
 -- ---- blocks
 
 -- a part of the file, padded with zeros to whole blocks
-unfoldable pub filled : ℕ → List ℕ → List ℕ
-filled block_size part = part ++ replicate (blocks_for block_size (length part) * block_size - length part) 0
+unfoldable pub padded : ℕ → List ℕ → List ℕ
+padded block_size part = part ++ replicate (blocks_for block_size (length part) * block_size - length part) 0
 
 -- block j of the data, from 0
 unfoldable pub data_block : ℕ → List ℕ → ℕ → List ℕ
@@ -67,12 +67,12 @@ superblock_part block_size sizes = magic ++ u32s (superblock_numbers block_size 
 
 -- the block map: the numbers of the blocks of the directory
 unfoldable pub block_map_part : ℕ → List ℕ → List ℕ
-block_map_part block_size sizes = u32s (numbers block_size 2 (directory_count block_size sizes))
+block_map_part block_size sizes = u32s (block_numbers block_size 2 (directory_count block_size sizes))
 
 -- the directory: the number of streams, their sizes, and the numbers of their blocks; the streams are in consecutive data blocks
 unfoldable pub directory_part : ℕ → List ℕ → List ℕ
 directory_part block_size sizes =
-    u32s (length sizes ∷ sizes ++ numbers block_size (2 + directory_count block_size sizes) (blocks_of_all block_size sizes))
+    u32s (length sizes ∷ sizes ++ block_numbers block_size (2 + directory_count block_size sizes) (blocks_of_all block_size sizes))
 
 -- the parts of the file that holds these streams
 unfoldable pub parts : ℕ → List (List ℕ) → List (List ℕ)
@@ -82,7 +82,7 @@ parts block_size contents =
 
 -- the image of these streams
 unfoldable pub image : ℕ → List (List ℕ) → List ℕ
-image block_size contents = laid_out block_size (image_blocks block_size (map length contents)) (flat_map (filled block_size) (parts block_size contents))
+image block_size contents = laid_out block_size (image_blocks block_size (map length contents)) (flat_map (padded block_size) (parts block_size contents))
 
 -- the contents of the streams that are lent to a writer
 abbrev pub contents_of : List (Bor (List ℕ)) → List (List ℕ)
@@ -123,7 +123,7 @@ image_fields block_size sizes = record {
 unfoldable pub listed_from : ℕ → ℕ → List ℕ → List Listed
 listed_from block_size first [] = []
 listed_from block_size first (size ∷ sizes) =
-    record { size = size; blocks = numbers block_size first (blocks_for block_size size) } ∷ listed_from block_size (first + blocks_for block_size size) sizes
+    record { size = size; blocks = block_numbers block_size first (blocks_for block_size size) } ∷ listed_from block_size (first + blocks_for block_size size) sizes
 
 -- the layout of an image
 abbrev pub image_layout : ℕ → List ℕ → LayoutView

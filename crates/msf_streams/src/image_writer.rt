@@ -11,7 +11,7 @@ ghost use lib.ListN.{replicate};
 ghost use Rattle.std.specs.Io.KnownBytes.{Appends};
 ghost use Rattle.msf_blocks.specs.BlockNumber.{IsBlockSize, blocks_for};
 ghost use Rattle.msf_blocks.specs.FreeMap.{map_block};
-ghost use Rattle.msf_streams.specs.Image.{filled, joined, joined_of};
+ghost use Rattle.msf_streams.specs.Image.{padded, joined, joined_of};
 ghost use Rattle.msf_streams.specs.Put.{WriterView, IsSameImage, stretch, maps_of, maps_before, woven_from, room, AppendsPart};
 
 use byte_io::{NotTaken, Sink, put_all};
@@ -220,16 +220,16 @@ impl<A: Allocator> ImageWriter<A> {
 
     /// Puts a stream that is lent in parts, padded with zeros to whole blocks.
     fn put_stream<W: Sink>(&mut self, parts: &[&[u8]], out: &mut W) -> Result<(), NotTaken>
-        requires few { self.old.position + length (filled self.old.block_size (joined parts.now))
+        requires few { self.old.position + length (padded self.old.block_size (joined parts.now))
             < 2 ^ 33 }
         ensures same { IsSameImage self.old self.new }
         ensures end { OnOk result (self.new.position
-            ≡ self.old.position + length (filled self.old.block_size (joined parts.now))) }
+            ≡ self.old.position + length (padded self.old.block_size (joined parts.now))) }
         ensures ok { OnOk result (Appends (W.taken out.old) (W.taken out.new)
-            (woven_from self.old (filled self.old.block_size (joined parts.now)))) }
+            (woven_from self.old (padded self.old.block_size (joined parts.now)))) }
         ensures broken { OnErr result (W.is_broken out.new ≡ true) }
         ensures prefix { OnErr result (AppendsPart (W.taken out.old) (W.taken out.new)
-            (woven_from self.old (filled self.old.block_size (joined parts.now)))) }
+            (woven_from self.old (padded self.old.block_size (joined parts.now)))) }
     {
         let start = self.position;
         self.put_joined(parts, out)?;
@@ -240,15 +240,15 @@ impl<A: Allocator> ImageWriter<A> {
     /// Puts a part of the image, padded with zeros to whole blocks.
     #[tactic(auto, using(crate::proofs::PutLaws::joined_one))]
     pub(crate) fn put_part<W: Sink>(&mut self, part: &[u8], out: &mut W) -> Result<(), NotTaken>
-        requires few { self.old.position + length (filled self.old.block_size part.now) < 2 ^ 33 }
+        requires few { self.old.position + length (padded self.old.block_size part.now) < 2 ^ 33 }
         ensures same { IsSameImage self.old self.new }
         ensures end { OnOk result
-            (self.new.position ≡ self.old.position + length (filled self.old.block_size part.now)) }
+            (self.new.position ≡ self.old.position + length (padded self.old.block_size part.now)) }
         ensures ok { OnOk result (Appends (W.taken out.old) (W.taken out.new)
-            (woven_from self.old (filled self.old.block_size part.now))) }
+            (woven_from self.old (padded self.old.block_size part.now))) }
         ensures broken { OnErr result (W.is_broken out.new ≡ true) }
         ensures prefix { OnErr result (AppendsPart (W.taken out.old) (W.taken out.new)
-            (woven_from self.old (filled self.old.block_size part.now))) }
+            (woven_from self.old (padded self.old.block_size part.now))) }
     {
         self.put_stream(&[part], out)
     }
@@ -260,13 +260,13 @@ impl<A: Allocator> ImageWriter<A> {
         out: &mut W,
     ) -> Result<(), NotTaken>
         requires few { self.old.position
-            + length (flat_map (filled self.old.block_size) (joined_of streams.now)) < 2 ^ 33 }
+            + length (flat_map (padded self.old.block_size) (joined_of streams.now)) < 2 ^ 33 }
         ensures same { IsSameImage self.old self.new }
         ensures ok { OnOk result (Appends (W.taken out.old) (W.taken out.new)
-            (woven_from self.old (flat_map (filled self.old.block_size) (joined_of streams.now)))) }
+            (woven_from self.old (flat_map (padded self.old.block_size) (joined_of streams.now)))) }
         ensures broken { OnErr result (W.is_broken out.new ≡ true) }
         ensures prefix { OnErr result (AppendsPart (W.taken out.old) (W.taken out.new)
-            (woven_from self.old (flat_map (filled self.old.block_size) (joined_of streams.now)))) }
+            (woven_from self.old (flat_map (padded self.old.block_size) (joined_of streams.now)))) }
     {
         for parts in streams {
             self.put_stream(parts, out)?;

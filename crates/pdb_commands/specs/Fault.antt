@@ -13,27 +13,27 @@ use Rattle.pdb_commands.specs.declared.fault.RunFault.{RunFault}
 use Rattle.pdb_commands.specs.declared.fault.RunFault.TheVariants.{Read, Info, Pdb, Merge, Memory, Write}
 
 -- a fault of reading
-abbrev pub of_read : {A : Type 0} → ReadFault → RunFault A
-of_read reads.Memory = Memory
-of_read fault = Read fault
+abbrev pub run_from_read : {A : Type 0} → ReadFault → RunFault A
+run_from_read reads.Memory = Memory
+run_from_read fault = Read fault
 
 -- a fault of the info stream
-abbrev pub of_info : {A : Type 0} → InfoFault → RunFault A
-of_info infos.Memory = Memory
-of_info fault = Info fault
+abbrev pub run_from_info : {A : Type 0} → InfoFault → RunFault A
+run_from_info infos.Memory = Memory
+run_from_info fault = Info fault
 
 -- a fault of a file
-abbrev pub of_pdb : {A : Type 0} → PdbFault A → RunFault A
-of_pdb pdb.Memory = Memory
-of_pdb fault = Pdb fault
+abbrev pub run_from_pdb : {A : Type 0} → PdbFault A → RunFault A
+run_from_pdb pdb.Memory = Memory
+run_from_pdb fault = Pdb fault
 
 -- a fault of merging
-abbrev pub of_merge : {A : Type 0} → MergeFault A → RunFault A
-of_merge merges.Memory = Memory
-of_merge fault = Merge fault
+abbrev pub run_from_merge : {A : Type 0} → MergeFault A → RunFault A
+run_from_merge merges.Memory = Memory
+run_from_merge fault = Merge fault
 
 -- a fault of merging, or of writing the file
-abbrev pub of_out : {A : Type 0} → OutFault A → RunFault A
-of_out (outs.Merge fault) = of_merge fault
-of_out outs.Memory = Memory
-of_out outs.Write = Write
+abbrev pub run_from_out : {A : Type 0} → OutFault A → RunFault A
+run_from_out (outs.Merge fault) = run_from_merge fault
+run_from_out outs.Memory = Memory
+run_from_out outs.Write = Write

@@ -1,7 +1,7 @@
 //! Why a command is refused.
 
 ghost use Rattle.std.specs.Prelude.{◌≡◌};
-ghost use Rattle.pdb_commands.specs.Fault.{of_read, of_info, of_pdb, of_merge, of_out};
+ghost use Rattle.pdb_commands.specs.Fault.{run_from_read, run_from_info, run_from_pdb, run_from_merge, run_from_out};
 ghost use Rattle.pdb_commands.specs.declared.fault.RunFault.TheVariants.{Memory, Write};
 
 use byte_io::{NotTaken, ReadFault};
@@ -62,7 +62,7 @@ impl<A: Allocator> From<NotTaken> for RunFault<A> {
 }
 
 impl<A: Allocator> From<ReadFault> for RunFault<A> {
-    ghost from_gives = { λ inner fault. fault ≡ of_read inner };
+    ghost from_gives = { λ inner fault. fault ≡ run_from_read inner };
 
     fn from(fault: ReadFault) -> RunFault<A> {
         match fault {
@@ -73,7 +73,7 @@ impl<A: Allocator> From<ReadFault> for RunFault<A> {
 }
 
 impl<A: Allocator> From<InfoFault> for RunFault<A> {
-    ghost from_gives = { λ inner fault. fault ≡ of_info inner };
+    ghost from_gives = { λ inner fault. fault ≡ run_from_info inner };
 
     fn from(fault: InfoFault) -> RunFault<A> {
         match fault {
@@ -84,7 +84,7 @@ impl<A: Allocator> From<InfoFault> for RunFault<A> {
 }
 
 impl<A: Allocator> From<PdbFault<A>> for RunFault<A> {
-    ghost from_gives = { λ inner fault. fault ≡ of_pdb inner };
+    ghost from_gives = { λ inner fault. fault ≡ run_from_pdb inner };
 
     fn from(fault: PdbFault<A>) -> RunFault<A> {
         match fault {
@@ -95,7 +95,7 @@ impl<A: Allocator> From<PdbFault<A>> for RunFault<A> {
 }
 
 impl<A: Allocator> From<MergeFault<A>> for RunFault<A> {
-    ghost from_gives = { λ inner fault. fault ≡ of_merge inner };
+    ghost from_gives = { λ inner fault. fault ≡ run_from_merge inner };
 
     fn from(fault: MergeFault<A>) -> RunFault<A> {
         match fault {
@@ -106,7 +106,7 @@ impl<A: Allocator> From<MergeFault<A>> for RunFault<A> {
 }
 
 impl<A: Allocator> From<OutFault<A>> for RunFault<A> {
-    ghost from_gives = { λ inner fault. fault ≡ of_out inner };
+    ghost from_gives = { λ inner fault. fault ≡ run_from_out inner };
 
     fn from(fault: OutFault<A>) -> RunFault<A> {
         match fault {

@@ -10,8 +10,8 @@ use Rattle.byte_fields.specs.Number.{number_at, four_bytes, nth_u32, u32s}
 use Rattle.byte_fields.specs.Check.{first_failing}
 use Rattle.byte_fields.proofs.NumberLaws.{nth_u32-u32s, length-u32s, length-four_bytes}
 use Rattle.byte_fields.proofs.CheckLaws.{checks_below-all}
-use Rattle.pdb_info.specs.Header.{header_checks}
-use Rattle.pdb_info.specs.Names.{NamedStream, Pair, HasNames, HasName, pair_numbers, map_numbers, is_named, map_checks, pair_checks, pair_offset, present_count, size_offset, size_of, present_offset, present_words, present_of, deleted_offset, deleted_words, pairs_offset, buffer_of}
+use Rattle.pdb_info.specs.Header.{info_header_checks}
+use Rattle.pdb_info.specs.Names.{NamedStream, Pair, HasNames, HasName, pair_numbers, table_numbers, is_named, map_checks, pair_checks, pair_offset, present_count, size_offset, size_of, present_offset, present_words, present_of, deleted_offset, deleted_words, pairs_offset, buffer_of}
 use Rattle.pdb_info.specs.Info.{InfoView, HasInfo, info_checks}
 use Rattle.pdb_info.specs.declared.fault.InfoFault.{InfoFault}
 use Rattle.pdb_info.proofs.BucketLaws.{buckets_counted}
@@ -119,7 +119,7 @@ stands stream names features header h =
     let deleted = d ∷ h.deleted in
     let flat = flat_map pair_numbers h.pairs in
     let back = h.closing ++ features in
-    let numbers = map_numbers h.size h.capacity h.present h.deleted h.pairs h.closing features in
+    let numbers = table_numbers h.size h.capacity h.present h.deleted h.pairs h.closing features in
     let s = spells stream h.buffer numbers h.rest header h.short h.parts in
     let grouped : numbers ≡ front ++ (deleted ++ (flat ++ back)) = regroup front deleted flat h.closing features in
     let len : length numbers ≡ 4 + p + d + 2 * length h.pairs + length back =
@@ -186,8 +186,8 @@ pair_holds stream size buffer present deleted pairs k h each lt =
     (held_more _ _ _ (rw (h.buffer_there, h.pair_there k lt) named) refl)
 
 -- a header passes its check
-header_holds : (stream : List ℕ) → 28 ≤ length stream → first_failing (header_checks stream) ≡ None
-unfolding header_checks
+header_holds : (stream : List ℕ) → 28 ≤ length stream → first_failing (info_header_checks stream) ≡ None
+unfolding info_header_checks
 header_holds stream long = held_more _ _ _ (le_true 28 (length stream) long) refl
 
 -- a stream that is written as the format says fails no check

@@ -5,7 +5,7 @@ use Rattle.std.proofs.lemmas.List.FromFn.{map-range_with_len_more}
 use Rattle.byte_fields.specs.Number.{number_at}
 use Rattle.byte_fields.specs.Check.{Check, first_failing, checks_below}
 use Rattle.byte_fields.proofs.CheckLaws.{checks_below-each, check_held, first_failing-parts}
-use Rattle.pdb_info.specs.Names.{fits, is_named, numbers_at, pair_at, pair_checks, pair_offset, pairs_below, names_below, named_in, buffer_of, present_of, present_buckets}
+use Rattle.pdb_info.specs.Names.{field_check, is_named, numbers_at, pair_at, pair_checks, pair_offset, pairs_below, names_below, named_in, buffer_of, present_of, present_buckets}
 use Rattle.pdb_info.specs.Name.{named}
 use Rattle.pdb_info.specs.declared.names.Name.{Name}
 use Rattle.pdb_info.specs.declared.fault.InfoFault.{InfoFault}
@@ -33,5 +33,5 @@ pair_named stream count k held lt =
     let named = is_named (buffer_of stream) (number_at 4 stream offset) in
     let fault = NameOffset (get_or (present_buckets (present_of stream)) k 0) in
     let back : List (Check InfoFault) = record { holds = named; fault = fault } ∷ [] in
-    let parts = first_failing-parts (fits stream offset 8 ∷ []) back (checks_below-each (pair_checks stream) count k held lt) in
+    let parts = first_failing-parts (field_check stream offset 8 ∷ []) back (checks_below-each (pair_checks stream) count k held lt) in
     check_held named fault parts.1

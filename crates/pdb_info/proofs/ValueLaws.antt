@@ -9,7 +9,7 @@ use Rattle.std.proofs.lemmas.List.Elements.{All-from_get_or, All-same}
 use Rattle.byte_fields.specs.Number.{number_at, four_bytes, u32s}
 use Rattle.byte_fields.specs.Check.{first_failing, checks_below}
 use Rattle.byte_fields.proofs.NumberLaws.{number_at-small, four_bytes-number_at}
-use Rattle.pdb_info.specs.Names.{HasNames, IsMap, HasName, IsClosing, IsUnclosed, map_numbers, numbers_at, pair_at, pair_checks, pair_offset, pairs_below, names_below, size_offset, size_of, present_words, present_of, deleted_offset, deleted_words, pairs_offset, pairs_end, is_closed, features_offset, features_of, buffer_of}
+use Rattle.pdb_info.specs.Names.{HasNames, IsMap, HasName, IsClosing, IsUnclosed, table_numbers, numbers_at, pair_at, pair_checks, pair_offset, pairs_below, names_below, size_offset, size_of, present_words, present_of, deleted_offset, deleted_words, pairs_offset, pairs_end, is_closed, features_offset, features_of, buffer_of}
 use Rattle.pdb_info.specs.declared.map.NameMap.{NameMap}
 use Rattle.pdb_info.proofs.BucketLaws.{map_counted}
 use Rattle.pdb_info.proofs.PairLaws.{pair_named}
@@ -70,7 +70,7 @@ capacity_of stream = number_at 4 stream (size_offset stream + 4)
 
 -- all numbers that were read
 abbrev all_numbers : List ℕ → List ℕ
-all_numbers stream = map_numbers (size_of stream) (capacity_of stream) (present_of stream) (deleted_of stream) (pairs_below stream (size_of stream)) (closing_of stream) (features_of stream)
+all_numbers stream = table_numbers (size_of stream) (capacity_of stream) (present_of stream) (deleted_of stream) (pairs_below stream (size_of stream)) (closing_of stream) (features_of stream)
 
 -- all numbers that were read are one list of numbers after the buffer
 row_is : (stream : List ℕ) → all_numbers stream ≡ numbers_at stream (size_offset stream) (front_len stream + features_len stream)

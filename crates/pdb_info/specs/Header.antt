@@ -22,5 +22,5 @@ pub record HasInfoHeader (stream : List ℕ) (fields : HeaderFields) : Type 0 wh
   pub guid_is : stored_guid (take 16 (drop 12 stream)) ≡ fields.guid
 
 -- the only check of a header
-unfoldable pub header_checks : List ℕ → List (Check InfoFault)
-header_checks stream = record { holds = nat_le 28 (length stream); fault = InfoShort } ∷ []
+unfoldable pub info_header_checks : List ℕ → List (Check InfoFault)
+info_header_checks stream = record { holds = nat_le 28 (length stream); fault = InfoShort } ∷ []

@@ -1,7 +1,7 @@
 -- The whole info stream ("The PDB Info Stream").
 use Rattle.std.specs.Prelude.{ℕ, List, ◌++◌}
 use Rattle.byte_fields.specs.Check.{Check, checks_below}
-use Rattle.pdb_info.specs.Header.{HeaderFields, HasInfoHeader, header_checks}
+use Rattle.pdb_info.specs.Header.{HeaderFields, HasInfoHeader, info_header_checks}
 use Rattle.pdb_info.specs.Names.{NamedStream, HasNames, map_checks, pair_checks, size_of}
 use Rattle.pdb_info.specs.declared.fault.InfoFault.{InfoFault}
 
@@ -18,4 +18,4 @@ pub record HasInfo (stream : List ℕ) (info : InfoView) : Type 0 where
 
 -- the checks of an info stream, in order
 unfoldable pub info_checks : List ℕ → List (Check InfoFault)
-info_checks stream = header_checks stream ++ (map_checks stream ++ checks_below (size_of stream) (pair_checks stream))
+info_checks stream = info_header_checks stream ++ (map_checks stream ++ checks_below (size_of stream) (pair_checks stream))

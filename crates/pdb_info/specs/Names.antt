@@ -55,8 +55,8 @@ abbrev pub IsClosing : List ℕ → List ℕ → Type 0
 IsClosing closing features = (closing ≡ 0 ∷ []) ⊎ ((closing ≡ []) × IsUnclosed features)
 
 -- all numbers after the buffer, in order
-abbrev pub map_numbers : ℕ → ℕ → List ℕ → List ℕ → List Pair → List ℕ → List ℕ → List ℕ
-map_numbers size capacity present deleted pairs closing features =
+abbrev pub table_numbers : ℕ → ℕ → List ℕ → List ℕ → List Pair → List ℕ → List ℕ → List ℕ
+table_numbers size capacity present deleted pairs closing features =
     size ∷ capacity ∷ length present ∷ present ++ length deleted ∷ deleted ++ flat_map pair_numbers pairs ++ closing ++ features
 
 -- after the header come the length of the buffer, the buffer, the numbers of the map, the feature codes, and at most three more bytes; Size counts the present buckets, and there is a pair for each of them, in rising order
@@ -69,9 +69,9 @@ pub record HasNames (stream : List ℕ) (names : List NamedStream) (features : L
   pub pairs : List Pair
   pub closing : List ℕ
   pub rest : List ℕ
-  pub parts : drop 28 stream ≡ four_bytes (length buffer) ++ buffer ++ u32s (map_numbers size capacity present deleted pairs closing features) ++ rest
+  pub parts : drop 28 stream ≡ four_bytes (length buffer) ++ buffer ++ u32s (table_numbers size capacity present deleted pairs closing features) ++ rest
   pub short : length buffer < 2 ^ 32
-  pub small : All (λ number. number < 2 ^ 32) (map_numbers size capacity present deleted pairs closing features)
+  pub small : All (λ number. number < 2 ^ 32) (table_numbers size capacity present deleted pairs closing features)
   pub few : length rest < 4
   pub counted : present_count present ≡ size
   pub paired : length pairs ≡ length (present_buckets present)
@@ -82,8 +82,8 @@ pub record HasNames (stream : List ℕ) (names : List NamedStream) (features : L
 -- ---- the checks, by the offsets of the fields
 
 -- a field of `count` bytes fits at an offset
-abbrev pub fits : List ℕ → ℕ → ℕ → Check InfoFault
-fits stream offset count = record { holds = nat_le (offset + count) (length stream); fault = NamesShort offset }
+abbrev pub field_check : List ℕ → ℕ → ℕ → Check InfoFault
+field_check stream offset count = record { holds = nat_le (offset + count) (length stream); fault = NamesShort offset }
 
 -- the offset of Size, which follows the buffer
 unfoldable pub size_offset : List ℕ → ℕ
@@ -128,14 +128,14 @@ buffer_of stream = take (number_at 4 stream 28) (drop 32 stream)
 -- the checks of the fields before the pairs, in order
 unfoldable pub map_checks : List ℕ → List (Check InfoFault)
 map_checks stream =
-    fits stream 28 4
-    ∷ fits stream 32 (number_at 4 stream 28)
-    ∷ fits stream (size_offset stream) 4
-    ∷ fits stream (size_offset stream + 4) 4
-    ∷ fits stream (size_offset stream + 8) 4
-    ∷ fits stream (present_offset stream) (4 * present_words stream)
-    ∷ fits stream (deleted_offset stream) 4
-    ∷ fits stream (deleted_offset stream + 4) (4 * deleted_words stream)
+    field_check stream 28 4
+    ∷ field_check stream 32 (number_at 4 stream 28)
+    ∷ field_check stream (size_offset stream) 4
+    ∷ field_check stream (size_offset stream + 4) 4
+    ∷ field_check stream (size_offset stream + 8) 4
+    ∷ field_check stream (present_offset stream) (4 * present_words stream)
+    ∷ field_check stream (deleted_offset stream) 4
+    ∷ field_check stream (deleted_offset stream + 4) (4 * deleted_words stream)
     ∷ record { holds = size_of stream == present_count (present_of stream); fault = NamesCount (size_of stream) (present_count (present_of stream)) }
     ∷ []
 
@@ -150,7 +150,7 @@ is_named buffer offset = list_any (λ byte. byte == 0) (drop offset buffer)
 -- the checks of the k-th pair: it fits, and its name has an end
 unfoldable pub pair_checks : List ℕ → ℕ → List (Check InfoFault)
 pair_checks stream k =
-    fits stream (pair_offset stream k) 8
+    field_check stream (pair_offset stream k) 8
     ∷ record { holds = is_named (buffer_of stream) (number_at 4 stream (pair_offset stream k)); fault = NameOffset (get_or (present_buckets (present_of stream)) k 0) }
     ∷ []
 

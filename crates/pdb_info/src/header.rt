@@ -4,7 +4,7 @@ ghost use Rattle.std.specs.Prelude.{◌≡◌, ◌≢◌, ◌≤◌, [], ◌∷�
 ghost use Rattle.byte_fields.specs.Check.{Makes};
 ghost use Rattle.byte_fields.specs.Number.{u32s};
 ghost use Rattle.pdb_info.specs.Guid.{stored_guid};
-ghost use Rattle.pdb_info.specs.Header.{HeaderFields, HasInfoHeader, header_checks};
+ghost use Rattle.pdb_info.specs.Header.{HeaderFields, HasInfoHeader, info_header_checks};
 
 use crate::fault::InfoFault;
 use crate::guid::guid_of;
@@ -65,12 +65,12 @@ impl InfoHeader {
     ///
     /// The only fault is `InfoShort`: the stream has fewer than 28 bytes. The values are not
     /// checked. This does not allocate. ("The PDB Info Stream", "Stream Header".)
-    #[tactic(auto, unfolding(crate::specs::Header::header_checks))]
+    #[tactic(auto, unfolding(crate::specs::Header::info_header_checks))]
     pub fn read(stream: &[u8]) -> Result<InfoHeader, InfoFault>
         ensures value { IfOk result (HasInfoHeader stream.now) }
         // A stream that has a header is never refused.
         ensures found { (fields : HeaderFields) → HasInfoHeader stream.now fields → IsOk result }
-        ensures first { Makes result (header_checks stream.now) }
+        ensures first { Makes result (info_header_checks stream.now) }
         ensures checked { IfErr result (λ fault. fault ≢ InfoFault.Memory) }
     {
         if stream.len() < HEADER_LENGTH {

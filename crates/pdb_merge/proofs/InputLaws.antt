@@ -9,7 +9,7 @@ use Rattle.byte_io.specs.declared.inputs.Opened.{Opened}
 use Rattle.byte_io.specs.declared.inputs.InputFault.{InputFault}
 use Rattle.byte_io.specs.declared.inputs.InputFault.TheVariants as inputs
 use Rattle.byte_io.specs.declared.input.ReadFault.TheVariants as reads
-use Rattle.pdb_merge.specs.Fault.{of_input, of_add, AddNamesFault, NamesFault}
+use Rattle.pdb_merge.specs.Fault.{merge_from_input, merge_from_add, AddNamesFault, NamesFault}
 use Rattle.pdb_merge.specs.Union.{ReadsFirst}
 use Rattle.pdb_merge.specs.declared.fault.AddFault.{AddFault}
 use Rattle.pdb_merge.specs.declared.fault.AddFault.TheVariants as add
@@ -49,7 +49,7 @@ is_unread (Some each) i fault is = inl is
 
 -- inputs that give files are not read only when out of memory
 pub given_unread : {A : Type 0} (known : Option (List (Result (List ℕ) InputFault))) (files : List (List ℕ)) (i : ℕ) (inner : InputFault) (outer : MergeFault A) → Give known files
-    → IsUnread known i inner → outer ≡ of_input i inner → outer ≡ merge.Memory
+    → IsUnread known i inner → outer ≡ merge_from_input i inner → outer ≡ merge.Memory
 given_unread known files i inner outer given is made = elim (rw given at is) [
   | inl there ↦ let bad = (file_read files i (Err inner) there).1 in absurd cc
   | inr memory ↦ rw (made, memory) refl
@@ -78,7 +78,7 @@ more_read (Some each) i before now = λ k below. elim (cases_lt k i) [
 
 -- the fault of an input that is not read, where those before it are
 pub unread_first : {A : Type 0} (known : Option (List (Result (List ℕ) InputFault))) (i : ℕ) (inner : InputFault) (outer : MergeFault A) → IfSome known (λ each. CanRead each i)
-    → IsUnread known i inner → outer ≡ of_input i inner → IfSome known (λ each. ReadsFirst each outer)
+    → IsUnread known i inner → outer ≡ merge_from_input i inner → IfSome known (λ each. ReadsFirst each outer)
 unread_first None i inner outer before is made = tt
 unread_first (Some each) i inputs.Open outer before (inl is) made = rw made (before, is)
 unread_first (Some each) i (inputs.Read reads.Read) outer before (inl is) made = rw made (before, is)
@@ -89,7 +89,7 @@ unread_first (Some each) i (inputs.Read reads.Read) outer before (inr is) made =
 unread_first (Some each) i (inputs.Read reads.TooLong) outer before (inr is) made = absurd cc
 
 -- the fault of a file, where all are read
-pub refused_last : {A : Type 0} (known : Option (List (Result (List ℕ) InputFault))) (i : ℕ) (inner : AddFault A) (outer : MergeFault A) → IfSome known (λ each. CanRead each (length each)) → outer ≡ of_add i inner
+pub refused_last : {A : Type 0} (known : Option (List (Result (List ℕ) InputFault))) (i : ℕ) (inner : AddFault A) (outer : MergeFault A) → IfSome known (λ each. CanRead each (length each)) → outer ≡ merge_from_add i inner
     → IfSome known (λ each. ReadsFirst each outer)
 refused_last None i inner outer all made = tt
 refused_last (Some each) i (add.Refused fault) outer all made = rw made all
@@ -99,14 +99,14 @@ refused_last (Some each) i add.Memory outer all made = rw made tt
 -- ---- out of memory is never inside another fault
 
 -- nor inside a fault of reading
-pub input_named : {A : Type 0} (file : ℕ) (inner : InputFault) (outer : MergeFault A) → outer ≡ of_input file inner → NamesFault outer
+pub input_named : {A : Type 0} (file : ℕ) (inner : InputFault) (outer : MergeFault A) → outer ≡ merge_from_input file inner → NamesFault outer
 input_named file inputs.Open outer made = rw made (λ is. cc)
 input_named file (inputs.Read reads.Read) outer made = rw made (λ is. cc)
 input_named file (inputs.Read reads.TooLong) outer made = rw made (λ is. cc)
 input_named file (inputs.Read reads.Memory) outer made = rw made tt
 
 -- nor inside a fault of a file
-pub add_named : {A : Type 0} (file : ℕ) (inner : AddFault A) (outer : MergeFault A) → AddNamesFault inner → outer ≡ of_add file inner → NamesFault outer
+pub add_named : {A : Type 0} (file : ℕ) (inner : AddFault A) (outer : MergeFault A) → AddNamesFault inner → outer ≡ merge_from_add file inner → NamesFault outer
 add_named file (add.Refused fault) outer named made = rw made named
 add_named file (add.TooLarge bytes) outer named made = rw made tt
 add_named file add.Memory outer named made = rw made tt

@@ -8,7 +8,7 @@ use Rattle.msf_blocks.specs.declared.fault.MsfFault.{MsfFault}
 use Rattle.msf_blocks.specs.declared.fault.MsfFault.TheVariants as msf
 use Rattle.msf_blocks.proofs.FoundLaws.{layout_holds}
 use Rattle.msf_blocks.proofs.MemoryLaws.{layout_wants_none}
-use Rattle.pdb_merge.specs.Fault.{of_msf, of_pdb, of_join, AddNamesFault}
+use Rattle.pdb_merge.specs.Fault.{pdb_from_msf, add_from_pdb, add_from_join, AddNamesFault}
 use Rattle.pdb_merge.specs.Read.{HasPdbFault}
 use Rattle.pdb_merge.specs.Union.{IsAddFault}
 use Rattle.type_table.specs.declared.fault.JoinFault.{JoinFault}
@@ -20,12 +20,12 @@ use Rattle.pdb_merge.specs.declared.fault.PdbFault.TheVariants.{Memory}
 use Rattle.pdb_merge.specs.declared.fault.PdbFault.TheVariants as pdb
 
 -- if a fault of a container becomes out of memory for the file, it was out of memory
-of_msf_want : {A : Type 0} (inner : MsfFault) → ◌≡◌ {A = PdbFault A} (of_msf inner) Memory → inner ≡ msf.Memory
+of_msf_want : {A : Type 0} (inner : MsfFault) → ◌≡◌ {A = PdbFault A} (pdb_from_msf inner) Memory → inner ≡ msf.Memory
 of_msf_want msf.Memory is = refl
 of_msf_want inner is = absurd cc
 
 -- a container that was refused when out of memory has no fault
-pub layout_want : {A : Type 0} (file : List ℕ) (inner : MsfFault) (fault : PdbFault A) → fault ≡ of_msf inner → Refuses msf.Memory (first_failing (layout_checks file)) inner → fault ≡ Memory → first_failing (layout_checks file) ≡ None
+pub layout_want : {A : Type 0} (file : List ℕ) (inner : MsfFault) (fault : PdbFault A) → fault ≡ pdb_from_msf inner → Refuses msf.Memory (first_failing (layout_checks file)) inner → fault ≡ Memory → first_failing (layout_checks file) ≡ None
 layout_want file inner fault made (inr want) is = want.1
 layout_want file inner fault made (inl first) is = absurd (layout_wants_none file (first ∙ ap Some (of_msf_want inner (sym made ∙ is))))
 
@@ -37,16 +37,16 @@ layout_sound file layout (Err fault) bytes has = λ is. layout_holds file layout
 -- ---- the same for a file that is added
 
 -- if a fault of a file becomes out of memory for the merge, it was out of memory
-of_pdb_want : {A : Type 0} (inner : PdbFault A) → ◌≡◌ {A = AddFault A} (of_pdb inner) add.Memory → inner ≡ Memory
+of_pdb_want : {A : Type 0} (inner : PdbFault A) → ◌≡◌ {A = AddFault A} (add_from_pdb inner) add.Memory → inner ≡ Memory
 of_pdb_want pdb.Memory is = refl
 of_pdb_want inner is = absurd cc
 
 -- a file that was not listed when out of memory has no fault of its container
-pub pdb_want : {A : Type 0} (file : List ℕ) (inner : PdbFault A) (outer : AddFault A) → outer ≡ of_pdb inner → (inner ≡ Memory → first_failing (layout_checks file) ≡ None) → outer ≡ add.Memory → first_failing (layout_checks file) ≡ None
+pub pdb_want : {A : Type 0} (file : List ℕ) (inner : PdbFault A) (outer : AddFault A) → outer ≡ add_from_pdb inner → (inner ≡ Memory → first_failing (layout_checks file) ≡ None) → outer ≡ add.Memory → first_failing (layout_checks file) ≡ None
 pdb_want file inner outer made want is = want (of_pdb_want inner (sym made ∙ is))
 
 -- so where it is read by position
-pub pdb_want_at : {A : Type 0} (bytes : Bytes) (inner : PdbFault A) (outer : AddFault A) → outer ≡ of_pdb inner → (inner ≡ Memory → IfKnown bytes (λ file. first_failing (layout_checks file) ≡ None))
+pub pdb_want_at : {A : Type 0} (bytes : Bytes) (inner : PdbFault A) (outer : AddFault A) → outer ≡ add_from_pdb inner → (inner ≡ Memory → IfKnown bytes (λ file. first_failing (layout_checks file) ≡ None))
     → outer ≡ add.Memory → IfKnown bytes (λ file. first_failing (layout_checks file) ≡ None)
 pdb_want_at bytes inner outer made want is = want (of_pdb_want inner (sym made ∙ is))
 
@@ -71,10 +71,10 @@ hinders_named before limit file (Err (add.TooLarge bytes)) is = tt
 hinders_named before limit file (Err add.Memory) is = tt
 
 -- nor is a fault that is made of one of the file or of the union
-pub pdb_named : {A : Type 0} (inner : PdbFault A) (outer : AddFault A) → outer ≡ of_pdb inner → AddNamesFault outer
+pub pdb_named : {A : Type 0} (inner : PdbFault A) (outer : AddFault A) → outer ≡ add_from_pdb inner → AddNamesFault outer
 pdb_named pdb.Memory outer made = rw made tt
 pdb_named inner outer made = rw made (λ is. cc)
 
-pub join_named : {A : Type 0} (inner : JoinFault) (outer : AddFault A) → outer ≡ of_join inner → AddNamesFault outer
+pub join_named : {A : Type 0} (inner : JoinFault) (outer : AddFault A) → outer ≡ add_from_join inner → AddNamesFault outer
 join_named (join.TooLarge bytes) outer made = rw made tt
 join_named join.Memory outer made = rw made tt

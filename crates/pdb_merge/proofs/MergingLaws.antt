@@ -9,7 +9,7 @@ use Rattle.type_table.proofs.CanonTableLaws.{canon_same}
 use Rattle.byte_io.specs.At.{Bytes, IfKnown, IfOf}
 use Rattle.byte_io.specs.declared.at.AtFault.{AtFault}
 use Rattle.byte_io.specs.declared.at.AtFault.TheVariants as at
-use Rattle.pdb_merge.specs.Fault.{of_add, of_pdb}
+use Rattle.pdb_merge.specs.Fault.{merge_from_add, add_from_pdb}
 use Rattle.pdb_merge.specs.Read.{HasPdbFault}
 use Rattle.pdb_merge.specs.declared.fault.PdbFault.{PdbFault}
 use Rattle.pdb_merge.specs.declared.fault.PdbFault.TheVariants as pdb
@@ -88,14 +88,14 @@ taken_more before after files file takes within taken =
 
 -- the fault of a file that is added is the fault of the list of all files
 pub taken_stops : {A : Type 0} (before : MergeView) (files : List (List ℕ)) (file : List ℕ) (inner : AddFault A) → IsAddFault before.types before.limit file inner
-    → HasTaken before files → IsMergeFault (files ++ file ∷ []) before.limit (of_add (length files) inner)
+    → HasTaken before files → IsMergeFault (files ++ file ∷ []) before.limit (merge_from_add (length files) inner)
 taken_stops before files file inner hinders taken =
     let all = files ++ file ∷ [] in
     let last = last_file files file in
     let inside : length files < length all = omega (arith, length-append files (file ∷ [])) in
     let unites = unites_still before.types files (file ∷ []) (length files) (omega arith) taken.unites in
     let accepted = accepted_still files (file ∷ []) (length files) (omega arith) taken.accepted in
-    hindered before.types all (length files) before.limit inner (of_add (length files) inner) inside unites accepted taken.within refl (rw last hinders)
+    hindered before.types all (length files) before.limit inner (merge_from_add (length files) inner) inside unites accepted taken.within refl (rw last hinders)
 
 -- ---- all files
 
@@ -124,7 +124,7 @@ taken_after before after file (Ok done) takes within = λ files taken. taken_mor
 taken_after before after file (Err fault) takes within = tt
 
 pub stops_after : {T A : Type 0} (before : MergeView) (file : List ℕ) (answer : Result T (AddFault A)) → IfErr answer (IsAddFault before.types before.limit file)
-    → IfErr answer (λ fault. (files : List (List ℕ)) → HasTaken before files → IsMergeFault (files ++ file ∷ []) before.limit (of_add (length files) fault))
+    → IfErr answer (λ fault. (files : List (List ℕ)) → HasTaken before files → IsMergeFault (files ++ file ∷ []) before.limit (merge_from_add (length files) fault))
 stops_after before file (Ok done) hinders = tt
 stops_after before file (Err fault) hinders = λ files taken. taken_stops before files file fault hinders taken
 
@@ -136,7 +136,7 @@ alone_after before file (Err fault) hinders = λ files more taken can. taken_alo
 -- ---- one more file that is read by position
 
 -- a fault of the file hinders it
-pub pdb_hinders_at : {A : Type 0} (before : List (List ℕ)) (limit : ℕ) (file : List ℕ) (inner : PdbFault A) (outer : AddFault A) → outer ≡ of_pdb inner → HasPdbFault file inner ⊎ (inner ≡ pdb.Memory) → IsAddFault before limit file outer
+pub pdb_hinders_at : {A : Type 0} (before : List (List ℕ)) (limit : ℕ) (file : List ℕ) (inner : PdbFault A) (outer : AddFault A) → outer ≡ add_from_pdb inner → HasPdbFault file inner ⊎ (inner ≡ pdb.Memory) → IsAddFault before limit file outer
 pdb_hinders_at before limit file pdb.Memory outer made first = rw made tt
 pdb_hinders_at before limit file inner outer made (inl first) = rw made first
 pdb_hinders_at before limit file inner outer made (inr want) = absurd cc
@@ -147,7 +147,7 @@ taken_at before after bytes (Ok done) takes within = λ file is files taken. tak
 taken_at before after bytes (Err fault) takes within = tt
 
 pub stops_at : {T A : Type 0} (before : MergeView) (bytes : Bytes) (answer : Result T (AtFault (AddFault A))) → IfErr answer (IfOf (λ fault. IfKnown bytes (λ file. IsAddFault before.types before.limit file fault)))
-    → IfErr answer (IfOf (λ fault. IfKnown bytes (λ file. (files : List (List ℕ)) → HasTaken before files → IsMergeFault (files ++ file ∷ []) before.limit (of_add (length files) fault))))
+    → IfErr answer (IfOf (λ fault. IfKnown bytes (λ file. (files : List (List ℕ)) → HasTaken before files → IsMergeFault (files ++ file ∷ []) before.limit (merge_from_add (length files) fault))))
 stops_at before bytes (Ok done) hinders = tt
 stops_at before bytes (Err at.Read) hinders = tt
 stops_at before bytes (Err (at.Of fault)) hinders = λ file is files taken. taken_stops before files file fault (hinders file is) taken
@@ -163,20 +163,20 @@ split_at : (files : List (List ℕ)) (k : ℕ) → k < length files → (take k 
 split_at files k inside = rw (← take_more files k [] inside) (take-append-drop (k + 1) files)
 
 -- the fault of a file is that of the whole list
-pub stops_whole : {A : Type 0} (files : List (List ℕ)) (k limit : ℕ) (inner : AddFault A) (outer : MergeFault A) → k < length files → outer ≡ of_add k inner
-    → IsMergeFault (take k files ++ get_or files k [] ∷ []) limit (of_add (length (take k files)) inner) → IsMergeFault files limit outer
+pub stops_whole : {A : Type 0} (files : List (List ℕ)) (k limit : ℕ) (inner : AddFault A) (outer : MergeFault A) → k < length files → outer ≡ merge_from_add k inner
+    → IsMergeFault (take k files ++ get_or files k [] ∷ []) limit (merge_from_add (length (take k files)) inner) → IsMergeFault files limit outer
 stops_whole files k limit inner outer inside made stops =
     let many : length (take k files) ≡ k = length-take-le k files (omega (arith, inside)) in
-    let there = stops_still (take k files ++ get_or files k [] ∷ []) (drop (k + 1) files) limit (of_add (length (take k files)) inner) stops in
+    let there = stops_still (take k files ++ get_or files k [] ∷ []) (drop (k + 1) files) limit (merge_from_add (length (take k files)) inner) stops in
     let whole = rw (split_at files k inside, many) at there in
     rw made whole
 
 -- a file of a list that can be merged is refused only when out of memory
-pub alone_whole : {A : Type 0} (files : List (List ℕ)) (k limit : ℕ) (inner : AddFault A) (outer : MergeFault A) → k < length files → outer ≡ of_add k inner
+pub alone_whole : {A : Type 0} (files : List (List ℕ)) (k limit : ℕ) (inner : AddFault A) (outer : MergeFault A) → k < length files → outer ≡ merge_from_add k inner
     → ((more : List (List ℕ)) → CanMerge ((take k files ++ get_or files k [] ∷ []) ++ more) limit → inner ≡ add.Memory) → CanMerge files limit → outer ≡ merge.Memory
 alone_whole files k limit inner outer inside made alone can =
     let whole : CanMerge ((take k files ++ get_or files k [] ∷ []) ++ drop (k + 1) files) limit = rw (split_at files k inside) can in
-    made ∙ ap (of_add k) (alone (drop (k + 1) files) whole)
+    made ∙ ap (merge_from_add k) (alone (drop (k + 1) files) whole)
 
 -- the list that a merge ends with is that of the files that it took
 pub finished : {E : Type 0} (merge : MergeView) (answer : Result (List (List ℕ)) E) → IfOk answer (λ canon. IsCanonOf canon (IsType merge.types))

@@ -24,7 +24,7 @@ use Rattle.checked_types.specs.Check.{IsTypeFault}
 use Rattle.checked_types.specs.declared.fault.TypeFault.{TypeFault}
 use Rattle.checked_types.specs.declared.fault.TypeFault.TheVariants as types
 use Rattle.pdb_merge.specs.Read.{ListsTypes, IsAccepted, HasTypeRecords, ListsRecords, HasLongInfo, HasInfoFault, HasStreamFault, HasRecordsFault, HasPdbFault, IsLayoutFault}
-use Rattle.pdb_merge.specs.Fault.{of_msf, of_stream, of_tpi, of_type}
+use Rattle.pdb_merge.specs.Fault.{pdb_from_msf, pdb_from_stream, pdb_from_tpi, pdb_from_type}
 use Rattle.pdb_merge.specs.declared.fault.PdbFault.{PdbFault}
 use Rattle.pdb_merge.specs.declared.fault.PdbFault.TheVariants as fault
 use Rattle.msf_blocks.proofs.OneLayoutLaws.{one_layout}
@@ -42,18 +42,18 @@ info_refused file layout (fault.Type inner) has refused = absurd refused
 info_refused file layout fault.Memory has refused = absurd refused
 
 -- a fault of the bytes of stream 2 is one of stream 2
-pub stream_refused : {A : Type 0} (file : List ℕ) (layout : LayoutView) (stream : List ℕ) (inner : TpiFault) (outer : PdbFault A) → stream_contents file layout 2 ≡ Some stream → outer ≡ of_tpi inner
+pub stream_refused : {A : Type 0} (file : List ℕ) (layout : LayoutView) (stream : List ℕ) (inner : TpiFault) (outer : PdbFault A) → stream_contents file layout 2 ≡ Some stream → outer ≡ pdb_from_tpi inner
     → IsFirstFault stream inner ⊎ ((inner ≡ tpi.Memory) × ((records : List (List ℕ)) × HasRecords stream records)) → HasStreamFault file layout outer ⊎ (outer ≡ fault.Memory)
 stream_refused file layout stream tpi.Memory outer is made refused = inr made
 stream_refused file layout stream inner outer is made (inl first) = inl (rw made (stream, is, first))
-stream_refused file layout stream inner outer is made (inr want) = inr (made ∙ ap of_tpi want.0)
+stream_refused file layout stream inner outer is made (inr want) = inr (made ∙ ap pdb_from_tpi want.0)
 
 -- a fault of the records is a fault of the file
 pub type_refused : {A : Type 0} (file : List ℕ) (layout : LayoutView) (records : List (List ℕ)) (inner : TypeFault A) (outer : PdbFault A) → HasLayout file layout → HasLongInfo file layout
-    → ListsRecords file layout records → outer ≡ of_type inner → IsTypeFault records inner → HasPdbFault file outer ⊎ (outer ≡ fault.Memory)
+    → ListsRecords file layout records → outer ≡ pdb_from_type inner → IsTypeFault records inner → HasPdbFault file outer ⊎ (outer ≡ fault.Memory)
 type_refused file layout records types.Memory outer has info lists made refused = inr made
 type_refused file layout records inner outer has info lists made (inl first) = inl (rw made (records, record { layout = layout; has_layout = has; lists = lists }, info, first))
-type_refused file layout records inner outer has info lists made (inr want) = inr (made ∙ ap of_type want.0)
+type_refused file layout records inner outer has info lists made (inr want) = inr (made ∙ ap pdb_from_type want.0)
 
 -- ---- accepted files
 
@@ -146,10 +146,10 @@ ok_more P Q (Ok value) each is = each value is
 ok_more P Q (Err fault) each is = tt
 
 -- a fault of a layout that is read by position
-pub layout_refused : {A : Type 0} (file : List ℕ) (inner : MsfFault) (outer : PdbFault A) → outer ≡ of_msf inner → Refuses msf.Memory (first_failing (layout_checks file)) inner → IsLayoutFault file outer ⊎ (outer ≡ fault.Memory)
+pub layout_refused : {A : Type 0} (file : List ℕ) (inner : MsfFault) (outer : PdbFault A) → outer ≡ pdb_from_msf inner → Refuses msf.Memory (first_failing (layout_checks file)) inner → IsLayoutFault file outer ⊎ (outer ≡ fault.Memory)
 layout_refused file msf.Memory outer made refused = inr made
 layout_refused file inner outer made (inl first) = inl (rw made first)
-layout_refused file inner outer made (inr want) = inr (made ∙ ap of_msf want.0)
+layout_refused file inner outer made (inr want) = inr (made ∙ ap pdb_from_msf want.0)
 
 -- after a layout that was read, out of memory comes where the container has no fault
 pub sound_at : {T A : Type 0} (bytes : Bytes) (result : Result T (AtFault (PdbFault A))) → IfKnown bytes (λ file. first_failing (layout_checks file) ≡ None)
@@ -170,10 +170,10 @@ layout_types file inner (inl first) = absurd first
 layout_types file inner (inr want) = inr want
 
 -- a stream 2 that is not gathered
-pub gather_refused : {A : Type 0} (file : List ℕ) (layout : LayoutView) (inner : StreamFault) (outer : PdbFault A) → outer ≡ of_stream inner
+pub gather_refused : {A : Type 0} (file : List ℕ) (layout : LayoutView) (inner : StreamFault) (outer : PdbFault A) → outer ≡ pdb_from_stream inner
     → ((inner ≡ streams.NoStream 2) × (length layout.streams ≤ 2)) ⊎ ((inner ≡ streams.Memory) × (2 < length layout.streams)) → HasStreamFault file layout outer ⊎ (outer ≡ fault.Memory)
 gather_refused file layout inner outer made (inl first) = inl (rw (made, first.0) (first.1, refl))
-gather_refused file layout inner outer made (inr want) = inr (made ∙ ap of_stream want.0)
+gather_refused file layout inner outer made (inr want) = inr (made ∙ ap pdb_from_stream want.0)
 
 -- a fault of stream 2 is one on the way to the records, and on the way to the types
 pub stream_records : {A : Type 0} (file : List ℕ) (layout : LayoutView) (inner : PdbFault A) → HasLayout file layout → HasStreamFault file layout inner ⊎ (inner ≡ fault.Memory) → HasRecordsFault file inner ⊎ (inner ≡ fault.Memory)

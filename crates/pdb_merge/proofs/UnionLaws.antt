@@ -12,7 +12,7 @@ use Rattle.type_table.specs.declared.fault.JoinFault.{JoinFault}
 use Rattle.type_table.specs.declared.fault.JoinFault.TheVariants as join
 use Rattle.closed_trees.proofs.WeightLaws.{weight-none, weight_grows}
 use Rattle.pdb_merge.specs.Read.{IsAccepted}
-use Rattle.pdb_merge.specs.Fault.{of_join, of_add}
+use Rattle.pdb_merge.specs.Fault.{add_from_join, merge_from_add}
 use Rattle.pdb_merge.specs.Laws.{TypesOfFirst, TypesOfBoth, AnyOrder, RefusedInAnyOrder, OneWeight}
 use Rattle.pdb_merge.specs.Union.{FileHas, HasTypeBelow, HasType, SameFiles, AcceptedBelow, Weighs, Within, AddsFile, IsAddFault, CanMerge, CanMergeBelow, IsMergeFault, Unites}
 use Rattle.pdb_merge.specs.declared.fault.AddFault.{AddFault}
@@ -59,7 +59,7 @@ not_added added before after (inl is) none = absurd cc
 not_added added before after (inr same) none = same
 
 -- a fault of the union is a fault of the file that is added
-pub join_hinders : {A : Type 0} (before types : List (List ℕ)) (limit : ℕ) (file : List ℕ) (inner : JoinFault) (outer : AddFault A) → IsAccepted file types → outer ≡ of_join inner
+pub join_hinders : {A : Type 0} (before types : List (List ℕ)) (limit : ℕ) (file : List ℕ) (inner : JoinFault) (outer : AddFault A) → IsAccepted file types → outer ≡ add_from_join inner
     → ((bytes : ℕ) → inner ≡ join.TooLarge bytes → (limit < bytes) × ((l : List Tree) × IsUnion l before types × (weight l ≡ bytes))) → IsAddFault before limit file outer
 join_hinders before types limit file (join.TooLarge bytes) outer accepted made large =
     let u = large bytes refl in
@@ -116,7 +116,7 @@ all_merged before files k limit all unites accepted within =
 
 -- the fault of a file that is added stops the merge
 pub hindered : {A : Type 0} (before files : List (List ℕ)) (k limit : ℕ) (inner : AddFault A) (outer : MergeFault A) → k < length files → Unites before files k → AcceptedBelow files k
-    → Within (IsType before) limit → outer ≡ of_add k inner → IsAddFault before limit (get_or files k []) inner → IsMergeFault files limit outer
+    → Within (IsType before) limit → outer ≡ merge_from_add k inner → IsAddFault before limit (get_or files k []) inner → IsMergeFault files limit outer
 hindered before files k limit (add.Refused fault) outer inside unites accepted within made hinders =
     rw made (inside, merged_below before files k limit unites accepted within, hinders)
 hindered before files k limit (add.TooLarge heavy) outer inside unites accepted within made (types, has, weighs, more) =

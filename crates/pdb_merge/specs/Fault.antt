@@ -23,52 +23,52 @@ use Rattle.pdb_merge.specs.declared.fault.PdbFault.{PdbFault}
 use Rattle.pdb_merge.specs.declared.fault.PdbFault.TheVariants as fault
 
 -- a fault of the container
-abbrev pub of_msf : {A : Type 0} → MsfFault → PdbFault A
-of_msf msf.Memory = fault.Memory
-of_msf inner = fault.Msf inner
+abbrev pub pdb_from_msf : {A : Type 0} → MsfFault → PdbFault A
+pdb_from_msf msf.Memory = fault.Memory
+pdb_from_msf inner = fault.Msf inner
 
 -- a fault of its streams
-abbrev pub of_stream : {A : Type 0} → StreamFault → PdbFault A
-of_stream streams.Memory = fault.Memory
-of_stream inner = fault.Stream inner
+abbrev pub pdb_from_stream : {A : Type 0} → StreamFault → PdbFault A
+pdb_from_stream streams.Memory = fault.Memory
+pdb_from_stream inner = fault.Stream inner
 
 -- a fault of the info stream
-abbrev pub of_info : {A : Type 0} → InfoFault → PdbFault A
-of_info infos.Memory = fault.Memory
-of_info inner = fault.Info inner
+abbrev pub pdb_from_info : {A : Type 0} → InfoFault → PdbFault A
+pdb_from_info infos.Memory = fault.Memory
+pdb_from_info inner = fault.Info inner
 
 -- a fault of the TPI stream
-abbrev pub of_tpi : {A : Type 0} → TpiFault → PdbFault A
-of_tpi tpi.Memory = fault.Memory
-of_tpi inner = fault.Tpi inner
+abbrev pub pdb_from_tpi : {A : Type 0} → TpiFault → PdbFault A
+pdb_from_tpi tpi.Memory = fault.Memory
+pdb_from_tpi inner = fault.Tpi inner
 
 -- a fault of the type records
-abbrev pub of_type : {A : Type 0} → TypeFault A → PdbFault A
-of_type types.Memory = fault.Memory
-of_type inner = fault.Type inner
+abbrev pub pdb_from_type : {A : Type 0} → TypeFault A → PdbFault A
+pdb_from_type types.Memory = fault.Memory
+pdb_from_type inner = fault.Type inner
 
 -- ---- faults of one file among several
 
 -- a fault of the file that is added
-abbrev pub of_pdb : {A : Type 0} → PdbFault A → AddFault A
-of_pdb fault.Memory = add.Memory
-of_pdb inner = add.Refused inner
+abbrev pub add_from_pdb : {A : Type 0} → PdbFault A → AddFault A
+add_from_pdb fault.Memory = add.Memory
+add_from_pdb inner = add.Refused inner
 
 -- a fault of the union
-abbrev pub of_join : {A : Type 0} → JoinFault → AddFault A
-of_join (join.TooLarge bytes) = add.TooLarge bytes
-of_join join.Memory = add.Memory
+abbrev pub add_from_join : {A : Type 0} → JoinFault → AddFault A
+add_from_join (join.TooLarge bytes) = add.TooLarge bytes
+add_from_join join.Memory = add.Memory
 
 -- a fault of the file at this position of a list
-abbrev pub of_add : {A : Type 0} → ℕ → AddFault A → MergeFault A
-of_add file (add.Refused inner) = merge.Refused file inner
-of_add file (add.TooLarge bytes) = merge.TooLarge file bytes
-of_add file add.Memory = merge.Memory
+abbrev pub merge_from_add : {A : Type 0} → ℕ → AddFault A → MergeFault A
+merge_from_add file (add.Refused inner) = merge.Refused file inner
+merge_from_add file (add.TooLarge bytes) = merge.TooLarge file bytes
+merge_from_add file add.Memory = merge.Memory
 
 -- a fault of reading the file at this position of a list
-abbrev pub of_input : {A : Type 0} → ℕ → InputFault → MergeFault A
-of_input file (inputs.Read reads.Memory) = merge.Memory
-of_input file fault = merge.Input file fault
+abbrev pub merge_from_input : {A : Type 0} → ℕ → InputFault → MergeFault A
+merge_from_input file (inputs.Read reads.Memory) = merge.Memory
+merge_from_input file fault = merge.Input file fault
 
 -- ---- out of memory is never inside another fault
 

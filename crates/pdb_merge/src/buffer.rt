@@ -140,7 +140,7 @@ impl<A: Allocator + Copy> Buffer<A> {
 
     /// Drops the bytes of the buffer, and lends the records of a file whose stream 1 has a header.
     /// They are not checked yet.
-    pub(crate) fn listed<'a>(
+    pub(crate) fn list_records<'a>(
         &'a mut self,
         alloc: A,
         file: &'a [u8],

@@ -1,7 +1,7 @@
 //! Why a file is not accepted, and why files are not merged.
 
 ghost use Rattle.std.specs.Prelude.{◌≡◌};
-ghost use Rattle.pdb_merge.specs.Fault.{of_msf, of_stream, of_info, of_tpi, of_type, of_pdb, of_join};
+ghost use Rattle.pdb_merge.specs.Fault.{pdb_from_msf, pdb_from_stream, pdb_from_info, pdb_from_tpi, pdb_from_type, add_from_pdb, add_from_join};
 ghost use Rattle.pdb_merge.specs.declared.fault.PdbFault.TheVariants.{Memory};
 ghost use Rattle.pdb_merge.specs.declared.fault.OutFault.TheVariants as out;
 
@@ -49,7 +49,7 @@ impl<A: Allocator> From<AllocError> for PdbFault<A> {
 }
 
 impl<A: Allocator> From<MsfFault> for PdbFault<A> {
-    ghost from_gives = { λ inner fault. fault ≡ of_msf inner };
+    ghost from_gives = { λ inner fault. fault ≡ pdb_from_msf inner };
 
     fn from(fault: MsfFault) -> PdbFault<A> {
         match fault {
@@ -60,7 +60,7 @@ impl<A: Allocator> From<MsfFault> for PdbFault<A> {
 }
 
 impl<A: Allocator> From<StreamFault> for PdbFault<A> {
-    ghost from_gives = { λ inner fault. fault ≡ of_stream inner };
+    ghost from_gives = { λ inner fault. fault ≡ pdb_from_stream inner };
 
     fn from(fault: StreamFault) -> PdbFault<A> {
         match fault {
@@ -71,7 +71,7 @@ impl<A: Allocator> From<StreamFault> for PdbFault<A> {
 }
 
 impl<A: Allocator> From<InfoFault> for PdbFault<A> {
-    ghost from_gives = { λ inner fault. fault ≡ of_info inner };
+    ghost from_gives = { λ inner fault. fault ≡ pdb_from_info inner };
 
     fn from(fault: InfoFault) -> PdbFault<A> {
         match fault {
@@ -82,7 +82,7 @@ impl<A: Allocator> From<InfoFault> for PdbFault<A> {
 }
 
 impl<A: Allocator> From<TpiFault> for PdbFault<A> {
-    ghost from_gives = { λ inner fault. fault ≡ of_tpi inner };
+    ghost from_gives = { λ inner fault. fault ≡ pdb_from_tpi inner };
 
     fn from(fault: TpiFault) -> PdbFault<A> {
         match fault {
@@ -93,7 +93,7 @@ impl<A: Allocator> From<TpiFault> for PdbFault<A> {
 }
 
 impl<A: Allocator> From<TypeFault<A>> for PdbFault<A> {
-    ghost from_gives = { λ inner fault. fault ≡ of_type inner };
+    ghost from_gives = { λ inner fault. fault ≡ pdb_from_type inner };
 
     fn from(fault: TypeFault<A>) -> PdbFault<A> {
         match fault {
@@ -118,7 +118,7 @@ pub enum AddFault<A: Allocator = Global> {
 }
 
 impl<A: Allocator> From<PdbFault<A>> for AddFault<A> {
-    ghost from_gives = { λ inner fault. fault ≡ of_pdb inner };
+    ghost from_gives = { λ inner fault. fault ≡ add_from_pdb inner };
 
     fn from(fault: PdbFault<A>) -> AddFault<A> {
         match fault {
@@ -129,7 +129,7 @@ impl<A: Allocator> From<PdbFault<A>> for AddFault<A> {
 }
 
 impl<A: Allocator> From<JoinFault> for AddFault<A> {
-    ghost from_gives = { λ inner fault. fault ≡ of_join inner };
+    ghost from_gives = { λ inner fault. fault ≡ add_from_join inner };
 
     fn from(fault: JoinFault) -> AddFault<A> {
         match fault {

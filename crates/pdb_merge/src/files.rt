@@ -7,7 +7,7 @@ ghost use Rattle.byte_io.specs.Inputs.{Give, CanRead, HasBytes};
 ghost use Rattle.closed_trees.specs.Tree.{IsType};
 ghost use Rattle.canonical_list.specs.Finish.{IsCanonOf};
 ghost use Rattle.pdb_info.specs.Settings.{record_limit};
-ghost use Rattle.pdb_merge.specs.Fault.{of_add, of_input, AddNamesFault, NamesFault};
+ghost use Rattle.pdb_merge.specs.Fault.{merge_from_add, merge_from_input, AddNamesFault, NamesFault};
 ghost use Rattle.pdb_merge.specs.Union.{HasType, Within, SameFiles, CanMerge, IsMergeFault, ReadsFirst};
 ghost use Rattle.pdb_merge.specs.Merging.{HasTaken};
 
@@ -22,7 +22,7 @@ use type_trees::Canon;
 
 /// The fault of the file at this position.
 fn at_file<A: Allocator>(file: usize, fault: AddFault<A>) -> MergeFault<A>
-    ensures { result ≡ of_add file fault }
+    ensures { result ≡ merge_from_add file fault }
 {
     match fault {
         AddFault::Refused(fault) => MergeFault::Refused { file, fault },
@@ -32,8 +32,8 @@ fn at_file<A: Allocator>(file: usize, fault: AddFault<A>) -> MergeFault<A>
 }
 
 /// The fault of reading the file at this position.
-fn unread<A: Allocator>(file: usize, fault: InputFault) -> MergeFault<A>
-    ensures { result ≡ of_input file fault }
+fn input_fault<A: Allocator>(file: usize, fault: InputFault) -> MergeFault<A>
+    ensures { result ≡ merge_from_input file fault }
 {
     match fault {
         InputFault::Read(ReadFault::Memory) => MergeFault::Memory,
@@ -53,7 +53,7 @@ fn check_rest<I: Inputs, A: Allocator>(inputs: &I, first: usize) -> Result<(), M
 {
     for input in first..inputs.count() {
         if let Err(fault) = inputs.check(input) {
-            return Err(unread(input, fault));
+            return Err(input_fault(input, fault));
         }
     }
     Ok(())
@@ -75,7 +75,7 @@ fn add_opened<F: ReadAt + Drop, S: BuildHasher, A: Allocator + Copy>(
     ensures stops { IfErr result (IfOf (λ fault.
         (file : List ℕ) → HasBytes F.bytes opened.entry file → (files : List (List ℕ)) →
         HasTaken merge.old files →
-        IsMergeFault (files ++ file ∷ []) merge.old.limit (of_add (length files) fault))) }
+        IsMergeFault (files ++ file ∷ []) merge.old.limit (merge_from_add (length files) fault))) }
     ensures found { IfErr result (IfOf (λ fault.
         (file : List ℕ) → HasBytes F.bytes opened.entry file → (files more : List (List ℕ)) →
         HasTaken merge.old files → CanMerge ((files ++ file ∷ []) ++ more) merge.old.limit →
@@ -125,7 +125,7 @@ fn add_read<I: Inputs, S: BuildHasher, A: Allocator + Copy>(
 {
     let file = match inputs.read(input, bytes) {
         Ok(file) => file,
-        Err(fault) => return Err(unread(input, fault)),
+        Err(fault) => return Err(input_fault(input, fault)),
     };
     if let Err(fault) = merge.add(alloc, file, buffer) {
         check_rest(inputs, input + 1)?;
@@ -165,7 +165,7 @@ fn add_input<I: Inputs, S: BuildHasher, A: Allocator + Copy>(
 {
     let opened = match inputs.open(input, bytes) {
         Ok(opened) => opened,
-        Err(fault) => return Err(unread(input, fault)),
+        Err(fault) => return Err(input_fault(input, fault)),
     };
     match add_opened(alloc, opened, buffer, merge) {
         Ok(()) => Ok(()),

@@ -7,7 +7,7 @@ ghost use Rattle.msf_blocks.specs.Layout.{LayoutView, layout_checks};
 ghost use Rattle.closed_trees.specs.Types.{AreTypes};
 ghost use Rattle.closed_trees.specs.Tree.{Tree, IsType};
 ghost use Rattle.canonical_list.specs.Finish.{IsCanonOf};
-ghost use Rattle.pdb_merge.specs.Fault.{of_add, AddNamesFault};
+ghost use Rattle.pdb_merge.specs.Fault.{merge_from_add, AddNamesFault};
 ghost use Rattle.pdb_merge.specs.Union.{HasType, Within, AddsFile, AddsTexts, IsAddFault, IsAddFaultRead, IsAddFaultOfTexts, CanMerge, IsMergeFault};
 ghost use Rattle.pdb_merge.specs.Merging.{HasTaken};
 ghost use Rattle.pdb_merge.specs.Read.{ListsTypes, RecordsWereRead, ListsLongInfo};
@@ -96,7 +96,7 @@ impl<S: BuildHasher, A: Allocator + Copy> Merge<S, A> {
         ensures memory { IfErr result (λ fault.
             fault ≡ AddFault.Memory → first_failing (layout_checks file.now) ≡ None) }
     {
-        let records = buffer.listed(alloc, file)?;
+        let records = buffer.list_records(alloc, file)?;
         self.add_listed(alloc, records)
     }
 
@@ -160,7 +160,8 @@ impl<S: BuildHasher, A: Allocator + Copy> Merge<S, A> {
         // The fault is the first fault of the list of all these files.
         ensures stops { IfErr result (λ fault.
             (files : List (List ℕ)) → HasTaken self.old files →
-            IsMergeFault (files ++ file.now ∷ []) self.old.limit (of_add (length files) fault)) }
+            IsMergeFault (files ++ file.now ∷ []) self.old.limit
+                (merge_from_add (length files) fault)) }
         // A file that can be merged with them, and with others after it, is refused only when out
         // of memory.
         ensures found { IfErr result (λ fault.
@@ -213,7 +214,8 @@ impl<S: BuildHasher, A: Allocator + Copy> Merge<S, A> {
         // The fault is the first fault of the list of all these files.
         ensures stops { IfErr result (IfOf (λ fault. IfKnown (R.bytes input.old) (λ file.
             (files : List (List ℕ)) → HasTaken self.old files →
-            IsMergeFault (files ++ file ∷ []) self.old.limit (of_add (length files) fault)))) }
+            IsMergeFault (files ++ file ∷ []) self.old.limit
+                (merge_from_add (length files) fault)))) }
         // A file that can be merged with them, and with others after it, is refused only when out
         // of memory.
         ensures found { IfErr result (IfOf (λ fault. IfKnown (R.bytes input.old) (λ file.

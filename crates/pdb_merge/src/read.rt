@@ -82,6 +82,6 @@ pub fn read_types<'a, A: Allocator + Copy>(
     ensures memory { IfErr result (λ fault.
         fault ≡ PdbFault.Memory → first_failing (layout_checks file.now) ≡ None) }
 {
-    let records = buffer.listed(alloc, file)?;
+    let records = buffer.list_records(alloc, file)?;
     check_types(alloc, records)
 }

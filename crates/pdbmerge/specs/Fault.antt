@@ -6,7 +6,7 @@ use Rattle.clap.specs.declared.error.kind.ErrorKind.TheVariants.{DisplayHelp, Di
 use Rattle.pdbmerge.specs.declared.fault.LineFault.{LineFault}
 use Rattle.byte_io.specs.declared.inputs.InputFault.{InputFault}
 use Rattle.byte_io.specs.declared.inputs.InputFault.TheVariants as inputs
-use Rattle.pdb_commands.specs.Fault.{of_read}
+use Rattle.pdb_commands.specs.Fault.{run_from_read}
 use Rattle.pdbmerge.specs.declared.fault.LineFault.TheVariants.{Refused, Word, Memory}
 use Rattle.pdbmerge.specs.declared.fault.ProgramFault.{ProgramFault}
 use Rattle.pdbmerge.specs.declared.fault.ProgramFault.TheVariants.{Run, Open}
@@ -26,6 +26,6 @@ abbrev pub IsOfClap : Error → LineFault → Type 0
 IsOfClap error fault = ((kind_of error ≡ OutOfMemory) × (fault ≡ Memory)) ⊎ ((kind_of error ≢ OutOfMemory) × (fault ≡ Refused error))
 
 -- a file that was not opened or not read, as a fault of the program
-abbrev pub of_input : InputFault → ProgramFault
-of_input inputs.Open = Open
-of_input (inputs.Read fault) = Run (of_read fault)
+abbrev pub program_from_input : InputFault → ProgramFault
+program_from_input inputs.Open = Open
+program_from_input (inputs.Read fault) = Run (run_from_read fault)

@@ -1,7 +1,7 @@
 //! Why arguments are no command, and why the program did not do what they ask for.
 
 ghost use Rattle.std.specs.Prelude.{◌≡◌};
-ghost use Rattle.pdbmerge.specs.Fault.{IsStatus, IsOfClap, of_input};
+ghost use Rattle.pdbmerge.specs.Fault.{IsStatus, IsOfClap, program_from_input};
 ghost use Rattle.pdbmerge.specs.declared.fault.LineFault.TheVariants as line;
 ghost use Rattle.pdbmerge.specs.declared.fault.ProgramFault.TheVariants.{Run};
 ghost use Rattle.pdb_commands.specs.declared.fault.RunFault.TheVariants.{Memory, Write};
@@ -95,7 +95,7 @@ impl<T: Drop> From<AllocFailed<T>> for ProgramFault {
 }
 
 impl From<InputFault> for ProgramFault {
-    ghost from_gives = { λ inner fault. fault ≡ of_input inner };
+    ghost from_gives = { λ inner fault. fault ≡ program_from_input inner };
 
     fn from(fault: InputFault) -> ProgramFault {
         match fault {

@@ -60,13 +60,13 @@ impl<'a, R: Files + AllocGlobal> InputFiles<'a, R> {
             .reserve_exact(length.saturating_add(1))
             .map_err(|_| InputFault::Read(ReadFault::Memory))?;
         read_into(&mut In::new(file), self.max_bytes, buffer).map_err(InputFault::Read)?;
-        check_type_stream(self.rt.alloc(), buffer, self.max_bytes).map_err(unread)?;
+        check_type_stream(self.rt.alloc(), buffer, self.max_bytes).map_err(limit_fault)?;
         Ok(buffer)
     }
 }
 
 /// The fault of a file whose stream of types was held against the limit.
-fn unread<A: Allocator>(fault: RunFault<A>) -> InputFault {
+fn limit_fault<A: Allocator>(fault: RunFault<A>) -> InputFault {
     match fault {
         RunFault::Memory => InputFault::Read(ReadFault::Memory),
         _ => InputFault::Read(ReadFault::TooLong),
@@ -103,7 +103,7 @@ impl<R: Files + AllocGlobal> Inputs for InputFiles<'_, R> {
                 let mut file = file;
                 match check_type_stream_at(self.rt.alloc(), &mut file, self.max_bytes) {
                     Ok(()) => Ok(Opened::At(file)),
-                    Err(AtFault::Of(fault)) => Err(unread(fault)),
+                    Err(AtFault::Of(fault)) => Err(limit_fault(fault)),
                     // Where a read by position fails, the file is read whole, from its start.
                     Err(AtFault::Read) => Ok(Opened::Whole(self.read(input, buffer)?)),
                 }

@@ -26,7 +26,7 @@ fn fault_of<A: Allocator + Copy>(alloc: A, file: &[u8]) -> Option<AtFault<MsfFau
 }
 
 /// The size of a stream and its first block.
-fn listed<A: Allocator>(layout: &Layout<A>, s: u32) -> (Option<u32>, Option<u32>) {
+fn size_and_block<A: Allocator>(layout: &Layout<A>, s: u32) -> (Option<u32>, Option<u32>) {
     (layout.size(s), layout.block(s, 0))
 }
 
@@ -44,7 +44,7 @@ fn the_layout_of_the_sample(rt: HostRuntime) -> Result<(), Fail> {
         (2, (Some(80), Some(6))),
         (5, (None, None)),
     ] {
-        assert_eq!(rt; listed(&layout, s), want, "stream {s}");
+        assert_eq!(rt; size_and_block(&layout, s), want, "stream {s}");
     }
     Ok(())
 }

@@ -175,7 +175,7 @@ const HEAP: usize = 4096;
 type Answer = (Result<(), JoinFault>, Vec<u8>, Vec<u8>);
 
 /// The bytes of the canonical list of a table.
-fn listed<S: BuildHasher, A: Allocator + Copy>(
+fn list_bytes<S: BuildHasher, A: Allocator + Copy>(
     alloc: Global,
     heap: A,
     table: &Table<S, A>,
@@ -193,9 +193,9 @@ fn listed_twice<S: BuildHasher, A: Allocator + Copy>(
     types: &Types<'_, A>,
     limit: u32,
 ) -> Result<(Vec<u8>, Vec<u8>), Fail> {
-    let after = listed(alloc, heap, table)?;
+    let after = list_bytes(alloc, heap, table)?;
     add(table, heap, types, limit)?;
-    Ok((after, listed(alloc, heap, table)?))
+    Ok((after, list_bytes(alloc, heap, table)?))
 }
 
 /// Adds types to a table, up to this limit, while memory is refused.
@@ -291,9 +291,9 @@ fn listed_with<S: BuildHasher, A: Allocator + Copy>(
     table: &mut Table<S, A>,
     stream: &[u8],
 ) -> Result<(Vec<u8>, Vec<u8>), Fail> {
-    let after = listed(alloc, heap, table)?;
+    let after = list_bytes(alloc, heap, table)?;
     add_stream(table, heap, stream, LIMIT)?;
-    Ok((after, listed(alloc, heap, table)?))
+    Ok((after, list_bytes(alloc, heap, table)?))
 }
 
 /// Adds the records of a stream to a table, as they stand, while memory is refused, and then its
@@ -442,7 +442,7 @@ fn finish_twice<'h, S: BuildHasher>(
     before: Vec<u8>,
 ) -> Result<Answer, Fail> {
     let (answer, after) = outcome_of(alloc, finish_refused(table, heap, refusal), before)?;
-    let end = listed(alloc, heap, table)?;
+    let end = list_bytes(alloc, heap, table)?;
     Ok((answer, after, end))
 }
 
@@ -455,7 +455,7 @@ fn finish_with<'h, S: BuildHasher>(
     alloc: Global,
     stream: &[u8],
 ) -> Result<Answer, Fail> {
-    let before = listed(alloc, heap, table)?;
+    let before = list_bytes(alloc, heap, table)?;
     add_stream(table, heap, stream, LIMIT)?;
     finish_twice(table, heap, refusal, alloc, before)
 }

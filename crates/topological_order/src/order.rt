@@ -12,7 +12,7 @@ use crate::walk::{Mark, walk_all};
 use std::alloc::{AllocError, Allocator};
 
 /// The nodes that the walk met and did not place, in rising order.
-fn caught<A: Allocator>(alloc: A, marks: &[Mark]) -> Result<Vec<u32, A>, AllocError>
+fn caught_nodes<A: Allocator>(alloc: A, marks: &[Mark]) -> Result<Vec<u32, A>, AllocError>
     requires { length marks.now < 2 ^ 32 }
     ensures { IfOk result (λ nodes. AreCaught marks.now nodes.items) }
 {
@@ -45,7 +45,7 @@ pub fn topological_order<A: Allocator + Copy>(
     ensures fault { IfErr result (IsOrderFault graph.now) }
 {
     let walk = walk_all(alloc, graph)?;
-    let nodes = caught(alloc, &walk.marks)?;
+    let nodes = caught_nodes(alloc, &walk.marks)?;
     if !nodes.is_empty() {
         return Err(OrderFault::Cycle { nodes });
     }

@@ -39,7 +39,7 @@ fn record_len(bytes: &[u8], start: usize, index: u32) -> Result<usize, TpiFault>
 }
 
 /// The bytes of the records, which the header frames.
-pub fn framed(stream: &[u8], header: TpiHeader) -> &[u8]
+pub fn framed_bytes(stream: &[u8], header: TpiHeader) -> &[u8]
     requires { HasTpiHeader stream.now header }
     ensures value { result.now ≡ framed_bytes stream.now header }
     ensures short { length result.now < 2 ^ 32 }

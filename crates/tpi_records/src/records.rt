@@ -6,7 +6,7 @@ ghost use Rattle.tpi_records.specs.Records.{IsRecord, IsFramed, IsFirstFault, Ha
 
 use crate::cursor::Cursor;
 use crate::fault::TpiFault;
-use crate::framing::{STRIDE, check_records, framed};
+use crate::framing::{STRIDE, check_records, framed_bytes};
 use crate::header::TpiHeader;
 use crate::iter::{Iter, skip, split_first};
 use std::alloc::{Allocator, Global};
@@ -72,7 +72,7 @@ impl<'a, A: Allocator + Copy> Records<'a, A> {
         ensures few { IfOk result (λ records. 4 * length records ≤ length stream.now) }
     {
         let header = TpiHeader::read(stream)?;
-        let bytes = framed(stream, header);
+        let bytes = framed_bytes(stream, header);
         let count = header.count();
         let mut starts = Vec::new(alloc);
         let kept = check_records(bytes, count, &mut starts)?;

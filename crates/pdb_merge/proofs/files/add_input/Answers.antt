@@ -6,14 +6,14 @@ use Rattle.pdb_merge.proofs.files.add_input.Goals as goal
 
 pub returns-in-Err-clause-found : goal.returns-in-Err-clause-found
 returns-in-Err-clause-found g c = λ files given taken can.
-    given_unread (g.I.Inputs.known c.args.inputs.now) files c.args.input c.in-Err.fault c.unread.result given c.in-Err.ensures.fault c.unread.ensures
+    given_unread (g.I.Inputs.known c.args.inputs.now) files c.args.input c.in-Err.fault c.input_fault.result given c.in-Err.ensures.fault c.input_fault.ensures
 
 pub returns-in-Err-clause-first : goal.returns-in-Err-clause-first
 returns-in-Err-clause-first g c = λ files given taken.
-    rw (given_unread (g.I.Inputs.known c.args.inputs.now) files c.args.input c.in-Err.fault c.unread.result given c.in-Err.ensures.fault c.unread.ensures) tt
+    rw (given_unread (g.I.Inputs.known c.args.inputs.now) files c.args.input c.in-Err.fault c.input_fault.result given c.in-Err.ensures.fault c.input_fault.ensures) tt
 
 pub returns-in-Err-clause-named : goal.returns-in-Err-clause-named
-returns-in-Err-clause-named g c = input_named c.args.input c.in-Err.fault c.unread.result c.unread.ensures
+returns-in-Err-clause-named g c = input_named c.args.input c.in-Err.fault c.input_fault.result c.input_fault.ensures
 
 pub check_rest-requires : goal.check_rest-requires
 check_rest-requires g c =

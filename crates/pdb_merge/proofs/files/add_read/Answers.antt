@@ -6,11 +6,11 @@ use Rattle.pdb_merge.proofs.files.add_read.Goals as goal
 
 pub returns-in-Err-clause-found : goal.returns-in-Err-clause-found
 returns-in-Err-clause-found g c = λ files given taken can.
-    given_unread (g.I.Inputs.known c.args.inputs.now) files c.args.input c.in-Err.fault c.unread.result given c.in-Err.ensures.fault c.unread.ensures
+    given_unread (g.I.Inputs.known c.args.inputs.now) files c.args.input c.in-Err.fault c.input_fault.result given c.in-Err.ensures.fault c.input_fault.ensures
 
 pub returns-in-Err-clause-first : goal.returns-in-Err-clause-first
 returns-in-Err-clause-first g c = λ files given taken.
-    rw (given_unread (g.I.Inputs.known c.args.inputs.now) files c.args.input c.in-Err.fault c.unread.result given c.in-Err.ensures.fault c.unread.ensures) tt
+    rw (given_unread (g.I.Inputs.known c.args.inputs.now) files c.args.input c.in-Err.fault c.input_fault.result given c.in-Err.ensures.fault c.input_fault.ensures) tt
 
 pub check_rest-requires : goal.check_rest-requires
 check_rest-requires g c =
@@ -40,7 +40,7 @@ returns-clause-read g c =
     more_read known c.args.input c.requires.before (some_bytes known c.args.input c.in-Ok.file.now c.in-Ok.ensures.value)
 
 pub returns-in-Err-clause-named : goal.returns-in-Err-clause-named
-returns-in-Err-clause-named g c = input_named c.args.input c.in-Err.fault c.unread.result c.unread.ensures
+returns-in-Err-clause-named g c = input_named c.args.input c.in-Err.fault c.input_fault.result c.input_fault.ensures
 
 pub returns-in-Err-add-clause-named : goal.returns-in-Err-add-clause-named
 returns-in-Err-add-clause-named g c = add_named c.args.input c.in-Err-add.fault c.at_file.result c.in-Err-add.ensures.named c.at_file.ensures

@@ -1,7 +1,7 @@
 use Rattle.std.proofs.Common.{◌≡◌, ◌+◌, length, arith, ap}
 use Rattle.std.specs.Io.KnownBytes.{Appends}
 use Rattle.std.proofs.lemmas.List.{length-append}
-use Rattle.msf_streams.specs.Image.{filled, joined}
+use Rattle.msf_streams.specs.Image.{padded, joined}
 use Rattle.msf_streams.specs.Put.{WriterView, woven_from, AppendsPart}
 use Rattle.msf_streams.proofs.PutLaws.{at_err, on_ok, on_err, filled_after, filled_longer, part_fails, fill_fails, part_taken}
 use Rattle.msf_streams.proofs.image_writer.ImageWriter.put_stream.Goals as goal
@@ -15,7 +15,7 @@ returns-in_err-put_joined-clause-prefix g c =
     let bytes = joined c.args.parts.now in
     let old = g.W.Sink.taken c.args.out.now in
     let new = g.W.Sink.taken c.put_joined.new.out in
-    at_err (AppendsPart old new (woven_from w (filled w.block_size bytes))) c.from_residual.result
+    at_err (AppendsPart old new (woven_from w (padded w.block_size bytes))) c.from_residual.result
     (part_fails old new w.block_size w.num_blocks w.position bytes c.in_err-put_joined.ensures.prefix)
 
 pub fill_len-requires-clause-few : goal.fill_len-requires-clause-few
@@ -42,7 +42,7 @@ returns-clause-end g c =
     let fill = c.zeros-fill.result.now in
     let is = filled_after w v _ _ bytes fill c.fill_len.result c.self.view_is c.self-2.view_is put.same put.end c.fill_len.ensures.value c.zeros-fill.ensures in
     let end = c.put_bytes.new.self.position in
-    on_ok (end ≡ v.position + length fill) (end ≡ w.position + length (filled w.block_size bytes)) c.put_bytes.result (λ e. omega (arith, e, put.end, ap length is, length-append bytes fill)) c.put_bytes.ensures.end
+    on_ok (end ≡ v.position + length fill) (end ≡ w.position + length (padded w.block_size bytes)) c.put_bytes.result (λ e. omega (arith, e, put.end, ap length is, length-append bytes fill)) c.put_bytes.ensures.end
 
 pub returns-clause-ok : goal.returns-clause-ok
 returns-clause-ok g c =
@@ -55,7 +55,7 @@ returns-clause-ok g c =
     let old = g.W.Sink.taken c.args.out.now in
     let between = g.W.Sink.taken c.put_joined.new.out in
     let new = g.W.Sink.taken c.put_bytes.new.out in
-    let all = woven_from w (filled w.block_size bytes) in
+    let all = woven_from w (padded w.block_size bytes) in
     on_ok (Appends between new (woven_from v fill)) (Appends old new all) c.put_bytes.result
     (λ h. part_taken old between new w.block_size w.num_blocks w.position bytes fill is put.ok (rw (put.same.block_size, put.same.num_blocks, put.end) at h)) c.put_bytes.ensures.ok
 
@@ -70,6 +70,6 @@ returns-clause-prefix g c =
     let old = g.W.Sink.taken c.args.out.now in
     let between = g.W.Sink.taken c.put_joined.new.out in
     let new = g.W.Sink.taken c.put_bytes.new.out in
-    let all = woven_from w (filled w.block_size bytes) in
+    let all = woven_from w (padded w.block_size bytes) in
     on_err (AppendsPart between new (woven_from v fill)) (AppendsPart old new all) c.put_bytes.result
     (λ h. fill_fails old between new w.block_size w.num_blocks w.position bytes fill is put.ok (rw (put.same.block_size, put.same.num_blocks, put.end) at h)) c.put_bytes.ensures.prefix

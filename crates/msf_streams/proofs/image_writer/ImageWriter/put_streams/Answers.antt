@@ -1,7 +1,7 @@
 use Rattle.std.proofs.Common.{◌+◌, Bor, List, ℕ, length}
 use Rattle.std.specs.List.{flat_map}
 use Rattle.std.proofs.lemmas.List.Folds.{flat_map-map}
-use Rattle.msf_streams.specs.Image.{filled, joined}
+use Rattle.msf_streams.specs.Image.{padded, joined}
 use Rattle.msf_streams.specs.Put.{woven_from, AppendsPart}
 use Rattle.msf_streams.proofs.PutLaws.{at_err, still_same, next_place, next_fits, none_left, next_not_put, next_put, all_taken}
 use Rattle.msf_streams.proofs.image_writer.ImageWriter.put_streams.Goals as goal
@@ -13,10 +13,10 @@ put_stream-requires g c =
     let xs = c.args.streams.now in
     let i = c.loop-parts.parts-index in
     let f = λ (s : Bor (List (Bor (List ℕ)))). joined s.now in
-    let same = flat_map-map (filled w.block_size) f xs in
+    let same = flat_map-map (padded w.block_size) f xs in
     let image = c.loop-parts.invariant.0 in
-    let end = w.position + length (flat_map (λ s. filled w.block_size (f s)) xs) in
-    record { few = rw image.block_size (next_fits (λ s. filled w.block_size (f s)) xs i _ v.position end c.loop-parts-test.true c.loop-parts.invariant.1 (rw same at c.requires.few)) }
+    let end = w.position + length (flat_map (λ s. padded w.block_size (f s)) xs) in
+    record { few = rw image.block_size (next_fits (λ s. padded w.block_size (f s)) xs i _ v.position end c.loop-parts-test.true c.loop-parts.invariant.1 (rw same at c.requires.few)) }
 
 pub returns-in_err-put_stream-clause-prefix : goal.returns-in_err-put_stream-clause-prefix
 returns-in_err-put_stream-clause-prefix g c =
@@ -25,12 +25,12 @@ returns-in_err-put_stream-clause-prefix g c =
     let xs = c.args.streams.now in
     let i = c.loop-parts.parts-index in
     let f = λ (s : Bor (List (Bor (List ℕ)))). joined s.now in
-    let same = flat_map-map (filled w.block_size) f xs in
+    let same = flat_map-map (padded w.block_size) f xs in
     let image = c.loop-parts.invariant.0 in
     let old = g.W.Sink.taken c.args.out.now in
     let between = g.W.Sink.taken c.loop-parts.out in
     let new = g.W.Sink.taken c.put_stream.new.out in
-    let all = woven_from w (flat_map (λ s. filled w.block_size (f s)) xs) in
+    let all = woven_from w (flat_map (λ s. padded w.block_size (f s)) xs) in
     rw same (at_err (AppendsPart old new all) c.from_residual.result
     (next_not_put old between new f w.block_size v xs i _ all c.loop-parts-test.true image.block_size c.loop-parts.invariant.2 c.in_err-put_stream.ensures.prefix))
 
@@ -45,12 +45,12 @@ loop-parts-preserved g c =
     let old = g.W.Sink.taken c.args.out.now in
     let between = g.W.Sink.taken c.loop-parts.out in
     let new = g.W.Sink.taken c.put_stream.new.out in
-    let all = woven_from w (flat_map (λ s. filled w.block_size (f s)) xs) in
-    let end = w.position + length (flat_map (λ s. filled w.block_size (f s)) xs) in
+    let all = woven_from w (flat_map (λ s. padded w.block_size (f s)) xs) in
+    let end = w.position + length (flat_map (λ s. padded w.block_size (f s)) xs) in
     let u = c.put_stream.new.self in
     let put = c.in_ok-put_stream.ensures in (
       still_same w v u image put.same,
-      rw (put.end, image.block_size) (next_place (λ s. filled w.block_size (f s)) xs i _ v.position end c.loop-parts-test.true c.loop-parts.invariant.1),
+      rw (put.end, image.block_size) (next_place (λ s. padded w.block_size (f s)) xs i _ v.position end c.loop-parts-test.true c.loop-parts.invariant.1),
       next_put old between new f w.block_size v u xs i _ all c.loop-parts-test.true image.block_size c.loop-parts.invariant.2 put.ok put.same put.end,
     )
 
@@ -61,8 +61,8 @@ returns-clause-ok g c =
     let xs = c.args.streams.now in
     let i = c.loop-parts.parts-index in
     let f = λ (s : Bor (List (Bor (List ℕ)))). joined s.now in
-    let same = flat_map-map (filled w.block_size) f xs in
+    let same = flat_map-map (padded w.block_size) f xs in
     let old = g.W.Sink.taken c.args.out.now in
     let now = g.W.Sink.taken c.loop-parts.out in
-    let all = woven_from w (flat_map (λ s. filled w.block_size (f s)) xs) in
-    rw same (all_taken old now v all _ c.loop-parts.invariant.2 (none_left (λ s. filled w.block_size (f s)) xs i c.loop-parts-test.false))
+    let all = woven_from w (flat_map (λ s. padded w.block_size (f s)) xs) in
+    rw same (all_taken old now v all _ c.loop-parts.invariant.2 (none_left (λ s. padded w.block_size (f s)) xs i c.loop-parts-test.false))

@@ -2,7 +2,7 @@ use Rattle.std.proofs.Common.{arith, inl}
 use Rattle.std.proofs.lemmas.Result.{err_from_is_err_and}
 use Rattle.pdb_merge.proofs.ReadLaws.{info_refused}
 use Rattle.pdb_merge.proofs.MemoryLaws.{layout_want, layout_sound}
-use Rattle.pdb_merge.proofs.buffer.Buffer.listed.Goals as goal
+use Rattle.pdb_merge.proofs.buffer.Buffer.list_records.Goals as goal
 
 pub returns-in_err-layout-clause-memory : goal.returns-in_err-layout-clause-memory
 returns-in_err-layout-clause-memory g c =

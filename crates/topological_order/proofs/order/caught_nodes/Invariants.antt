@@ -1,6 +1,6 @@
 use Rattle.std.proofs.Common.{◌≡◌, take}
 use Rattle.topological_order.specs.Walk.{AreCaught}
-use Rattle.topological_order.proofs.order.caught.Given as goal
+use Rattle.topological_order.proofs.order.caught_nodes.Given as goal
 
 abbrev pub invariant-loop-mark : goal.invariant-loop-mark
 invariant-loop-mark g l = record {

@@ -2,7 +2,7 @@ use Rattle.std.proofs.Common.{arith}
 use Rattle.msf_blocks.proofs.DirectoryLaws.{list_start_upto, list_start_more}
 use Rattle.msf_blocks.proofs.LayoutLaws.{stream_is, listed_more}
 use Rattle.msf_blocks.specs.declared.layout.Stream.{Stream}
-use Rattle.msf_blocks.proofs.layout.listed.Goals as goal
+use Rattle.msf_blocks.proofs.layout.list_streams.Goals as goal
 
 pub numbers-requires : goal.numbers-requires
 numbers-requires g c =

@@ -1,7 +1,7 @@
 use Rattle.std.proofs.Common.{◌≡◌, map}
 use Rattle.msf_blocks.specs.Directory.{list_start, listed_below}
 use Rattle.msf_blocks.specs.Stream.{listed_of}
-use Rattle.msf_blocks.proofs.layout.listed.Given as goal
+use Rattle.msf_blocks.proofs.layout.list_streams.Given as goal
 
 abbrev pub invariant-loop-stream : goal.invariant-loop-stream
 invariant-loop-stream g l =

@@ -2,8 +2,8 @@ use Rattle.std.proofs.Common.{take, get_or, arith}
 use Rattle.std.proofs.lemmas.List.{take_more, take_all, length-take-le}
 use Rattle.topological_order.specs.declared.walk.Mark.TheVariants.{New}
 use Rattle.topological_order.proofs.WalkLaws.{caught_more, caught_other}
-use Rattle.topological_order.proofs.order.caught.Goals as goal
-use Rattle.topological_order.proofs.order.caught.Goals.{in-Met+in_ok-push, in_default}
+use Rattle.topological_order.proofs.order.caught_nodes.Goals as goal
+use Rattle.topological_order.proofs.order.caught_nodes.Goals.{in-Met+in_ok-push, in_default}
 
 pub loop-mark-preserved : goal.loop-mark-preserved
 loop-mark-preserved g c =
