@@ -41,32 +41,3 @@ linked_more depths newest older k d h many inside is low =
     updated : (q : ℕ) (b : Bool) → nat_eq d q ≡ b → Some (get_or (set newest d (k + 1)) q 0) ≡ cond b (Some (k + 1)) (Some (get_or newest q 0))
     updated q true e = ap Some (ap (λ (n : ℕ). get_or (set newest d (k + 1)) n 0) (sym (eqb-true d q e)) ∙ get_or-set_same newest d (k + 1) 0 low)
     updated q false e = ap Some (get_or-set_other newest d q (k + 1) 0 (λ same. eqb-false d q e (sym same)))
-
--- the levels stay right when one more depth is counted
-pub counts_more : (depths : List ℕ) (end levels : ℕ) → CountsLevels depths end levels → CountsLevels depths (end + 1) (max levels (get_or depths end 0 + 1))
-counts_more depths end levels counts = record {
-  all = λ k inside. elim (cases_lt k end) [
-    | inl old ↦ omega (arith, counts.all k old)
-    | inr new ↦ let at : k ≡ end = omega (arith, new, inside) in omega (arith, ap (λ (n : ℕ). get_or depths n 0) at)
-  ];
-  one = elim (cases_lt (get_or depths end 0 + 1) levels) [
-    | inl less ↦ elim counts.one [
-      | inl none ↦ absurd (omega (arith, none, less))
-      | inr some ↦ inr (some.0, omega (arith, some.1), omega (arith, some.2, less))
-    ]
-    | inr more ↦ inr (end, omega arith, omega (arith, more))
-  ];
-}
-
--- a table has as many levels as its depths count
-pub levels_are : (r : List (List ℕ)) (depths : List ℕ) (levels : ℕ) → IsTable r → HasDepths r depths → CountsLevels depths (length depths) levels → HasLevels r levels
-levels_are r depths levels table has counts = record {
-  all = λ i t inside stands. omega (arith, has.known.are i t (omega (arith, inside, has.many)) stands, counts.all i (omega (arith, inside, has.many)));
-  one = elim counts.one [
-    | inl none ↦ inl none
-    | inr some ↦
-        let within : some.0 < length r = omega (arith, some.1, has.many) in
-        let there = tree_there r (λ i. i) some.0 table.lower within in
-        inr (some.0, there.0, within, there.1, omega (arith, some.2, has.known.are some.0 there.0 some.1 there.1))
-  ];
-}

@@ -20,9 +20,9 @@ ghost use Rattle.closed_trees.specs.Table.{IsTable, AreNumbered, renumbered};
 ghost use Rattle.canonical_list.specs.Rows.{row, IsKeyed};
 ghost use Rattle.canonical_list.specs.Finish.{ListsBelow, AtLevel, Numbered, IsCanonOf};
 
-use crate::levels::{Levels, levels_of};
+use crate::levels::Levels;
 use crate::row::Row;
-use closed_trees::renumber_into;
+use closed_trees::{levels_of, renumber_into};
 use packed_texts::PackedTexts;
 use std::alloc::{AllocError, Allocator};
 use std::hash::BuildHasher;

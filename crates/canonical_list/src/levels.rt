@@ -34,18 +34,6 @@ impl<'a, A: Allocator> Model for Levels<'a, A> {
         × AreLinked l.depths.now l.newest.items l.older.items };
 }
 
-/// How many levels there are: one more than the greatest depth, or 0 where there are no depths.
-pub fn levels_of(depths: &[u32]) -> u32
-    requires low { AreBelow (2 ^ 31) depths.now }
-    ensures { CountsLevels depths.now (length depths.now) result }
-{
-    let mut levels = 0;
-    for position in 0..depths.len() {
-        levels = levels.max(depths[position] + 1);
-    }
-    levels
-}
-
 /// The position that a link leads to. `None` for the link 0.
 fn position_of(link: u32) -> Option<usize>
     ensures some { IfSome result (λ k. link ≡ k + 1) }

@@ -1,6 +1,6 @@
 -- The depth of a record, place by place, while its references are checked.
-use Rattle.std.proofs.Common.{◌≡◌, ◌≤◌, ◌<◌, ◌+◌, ◌-◌, ℕ, suc, max, List, [], ◌∷◌, ◌++◌, Option, Some, None, map, length, take, drop, set, replicate, get_or, refl, ◌∙◌, sym, ap, arith}
-use Rattle.std.specs.Prelude.{IfSome, IfNone}
+use Rattle.std.proofs.Common.{◌≡◌, ◌≤◌, ◌<◌, ◌+◌, ◌-◌, ◌^◌, ℕ, suc, max, List, [], ◌∷◌, ◌++◌, Option, Some, None, map, length, take, drop, set, replicate, get_or, refl, ◌∙◌, sym, ap, arith}
+use Rattle.std.specs.Prelude.{IfSome, Bool, true, false}
 use Rattle.std.specs.List.{AllByRecursion, range_with_len}
 use Rattle.std.proofs.lemmas.List.{append-nil, drop_all, drop_more, take_all}
 use Rattle.byte_fields.specs.Check.{first_failing}
@@ -10,13 +10,14 @@ use Rattle.cv_leaves.specs.References.{reference_at, references}
 use Rattle.tpi_records.specs.Header.{first_index}
 use Rattle.closed_trees.specs.Tree.{IsRanked}
 use Rattle.checked_types.specs.Graph.{graph_of}
-use Rattle.closed_trees.specs.Types.{AreTypes, NamesThere}
+use Rattle.closed_trees.specs.Types.{NamesThere}
 use Rattle.checked_types.specs.Check.{checks_of}
-use Rattle.closed_trees.specs.Depth.{height, depth_above, AreBelow, AreDepths, HasLevels}
+use Rattle.closed_trees.specs.Depth.{height, depth_above, AreBelow}
 use Rattle.closed_trees.proofs.DepthLaws.{above_step}
 use Rattle.checked_types.proofs.CheckLaws.{LowerFrom, lower_ranked, passed_checked}
 use Rattle.checked_types.proofs.OrderLaws.{stand_in_order}
-use Rattle.checked_types.proofs.MeasureLaws.{IsMeasuring, measuring_starts, measuring_more, all_measured, below_set}
+use Rattle.checked_types.specs.Measured.{AreMeasured, StoresDepth}
+use Rattle.checked_types.proofs.MeasureLaws.{IsMeasuring, measuring_starts, measuring_more, measuring_small, all_measured, below_set}
 
 -- what holds of a value that implies something else, where there is a value
 pub if_some : {X : Type 0} {P Q : X → Type 0} (o : Option X) → ((x : X) → P x → Q x) → IfSome o P → IfSome o Q
@@ -55,25 +56,20 @@ written_back old now len same all =
 
 -- ---- all records
 
--- with the records `left` from a position on, n is how many levels the records before them have
-pub record IsWalked (records : List (List ℕ)) (position : ℕ) (left : List (List ℕ)) (first depths : List ℕ) (n : ℕ) : Type 0 where
+-- with the records `left` from a position on, the depths of the records before them are known
+pub record IsWalked (records : List (List ℕ)) (position : ℕ) (left : List (List ℕ)) (first depths : List ℕ) : Type 0 where
   pub lower : LowerFrom position left → LowerFrom 0 records
-  pub measured : first ≡ replicate (length records) 0 → AreTypes records → IsOrder (graph_of records) (range_with_len 0 (length records))
-      → IsMeasuring records (range_with_len 0 (length records)) (range_with_len position (length records - position)) depths n
+  pub measured : first ≡ replicate (length records) 0 → IsOrder (graph_of records) (range_with_len 0 (length records))
+      → IsMeasuring records (range_with_len 0 (length records)) (range_with_len position (length records - position)) depths
 
 -- before the first record
-pub walk_starts : (records : List (List ℕ)) (first : List ℕ) → IsWalked records 0 records first first 0
+pub walk_starts : (records : List (List ℕ)) (first : List ℕ) → IsWalked records 0 records first first
 walk_starts records first =
     let all : length records - 0 ≡ length records = omega arith in
     record {
       lower = λ lower. lower;
-      measured = λ zeros types order. rw all (measuring_starts records (range_with_len 0 (length records)) first (length records) refl zeros);
+      measured = λ zeros order. rw all (measuring_starts records (range_with_len 0 (length records)) first (length records) refl zeros);
     }
-
--- the depth of the record at a position is stored, and these are the levels with it
-abbrev pub IsKept : Option ℕ → Option ℕ → List ℕ → List ℕ → ℕ → ℕ → Type 0
-IsKept before depth depths now position n =
-    (b : ℕ) × (d : ℕ) × (before ≡ Some b) × (depth ≡ Some d) × (position < length depths) × (now ≡ set depths position d) × (n ≡ max b (d + 1))
 
 -- after the next record the others are left
 pub next_left : (records : List (List ℕ)) (position : ℕ) (r : List ℕ) (left others : List (List ℕ)) → left ≡ r ∷ others → left ≡ drop position records → position < length records → others ≡ drop (position + 1) records
@@ -82,47 +78,46 @@ next_left records position r left others split at inside =
     cc
 
 -- one record more
-pub walk_more : (records : List (List ℕ)) (position : ℕ) (r : List ℕ) (left others : List (List ℕ)) (first depths now : List ℕ) (before depth levels : Option ℕ)
-    → left ≡ r ∷ others → left ≡ drop position records → position < length records → IfSome before (IsWalked records position left first depths)
-    → IfSome depth (λ _. NamesThere position (references r)) → IfSome depth (λ d. d ≡ depth_above (λ k. get_or depths k 0) (references r)) → IfSome depth (λ d. (bound : ℕ) → AreBelow bound depths → d ≤ bound)
-    → IfSome levels (IsKept before depth depths now position) → IfSome levels (IsWalked records (position + 1) others first now)
-walk_more records position r left others first depths now before depth None split at inside so_far lower deep bound kept = tt
-walk_more records position r left others first depths now before depth (Some n) split at inside so_far lower deep bound (b, d, was, is, room, set_is, levels) =
-    let here : IsWalked records position left first depths b = rw was at so_far in
-    let names : NamesThere position (references r) = rw is at lower in
+pub walk_more : (records : List (List ℕ)) (position d : ℕ) (r : List ℕ) (left others : List (List ℕ)) (first depths now : List ℕ) → left ≡ r ∷ others → left ≡ drop position records → position < length records
+    → IsWalked records position left first depths → NamesThere position (references r) → d ≡ depth_above (λ k. get_or depths k 0) (references r) → ((bound : ℕ) → AreBelow bound depths → d ≤ bound)
+    → StoresDepth depths now position d → IsWalked records (position + 1) others first now
+walk_more records position d r left others first depths now split at inside so_far names deep low stores =
     let cut : get_or records position [] ∷ drop (position + 1) records ≡ r ∷ others = sym (drop_more records position [] inside) ∙ sym at ∙ split in
     let own : get_or records position [] ≡ r = cc in
-    let is_deep : d ≡ depth_above (λ k. get_or depths k 0) (references r) = rw is at deep in
-    let is_low : (end : ℕ) → AreBelow end depths → d ≤ end = rw is at bound in
     let one : length records - position ≡ suc (length records - (position + 1)) = omega (arith, inside) in
     let range : range_with_len position (length records - position) ≡ position ∷ range_with_len (position + 1) (length records - (position + 1)) = rw one refl in
     record {
-      lower = λ rest. here.lower (rw split (names, rest));
-      measured = λ zeros types order.
-          rw (set_is, levels)
+      lower = λ rest. so_far.lower (rw split (names, rest));
+      measured = λ zeros order.
+          rw stores.stored
           (measuring_more records (range_with_len 0 (length records)) (range_with_len position (length records - position)) (range_with_len (position + 1) (length records - (position + 1)))
-          depths b position d types order (here.measured zeros types order) range (rw own is_deep) is_low);
+          depths position d order (so_far.measured zeros order) range (rw own deep) low);
     }
 
 -- the depths stay low
-pub low_more : (position : ℕ) (depths now : List ℕ) (before depth levels : Option ℕ) → AreBelow (position + 1) depths → IfSome depth (λ d. (bound : ℕ) → AreBelow bound depths → d ≤ bound)
-    → IfSome levels (IsKept before depth depths now position) → IfNone levels (now ≡ depths) → AreBelow (position + 1 + 1) now
-low_more position depths now before depth None low bound kept same = λ k lt. let e = same in rw e (let below : k < length depths = rw e at lt in omega (arith, low k below))
-low_more position depths now before depth (Some n) low bound (b, d, was, is, room, set_is, levels) same =
-    let is_low : (end : ℕ) → AreBelow end depths → d ≤ end = rw is at bound in
-    rw set_is (below_set (position + 1) depths position d room low (is_low (position + 1) low))
+pub low_more : (position : ℕ) (depths now : List ℕ) (depth : Option ℕ) (kept : Bool) → AreBelow (position + 1) depths → IfSome depth (λ d. (bound : ℕ) → AreBelow bound depths → d ≤ bound)
+    → (kept ≡ true → (d : ℕ) × (depth ≡ Some d) × StoresDepth depths now position d) → (kept ≡ false → now ≡ depths) → AreBelow (position + 1 + 1) now
+low_more position depths now depth false low bound stores same = λ k lt. let e = same refl in rw e (let below : k < length depths = rw e at lt in omega (arith, low k below))
+low_more position depths now depth true low bound stores same =
+    let s = stores refl in
+    let is_low : (end : ℕ) → AreBelow end depths → s.0 ≤ end = rw s.1 at bound in
+    rw s.2.stored (below_set (position + 1) depths position s.0 s.2.inside low (is_low (position + 1) low))
 
 -- after the last record
-pub walk_ends : (records left : List (List ℕ)) (position : ℕ) (first depths : List ℕ) (n : ℕ) → left ≡ [] → IsWalked records position left first depths n → IsRanked records (λ i. i)
-walk_ends records left position first depths n none walked = lower_ranked records (walked.lower (rw none tt))
+pub walk_ends : (records left : List (List ℕ)) (position : ℕ) (first depths : List ℕ) → left ≡ [] → IsWalked records position left first depths → IsRanked records (λ i. i)
+walk_ends records left position first depths none walked = lower_ranked records (walked.lower (rw none tt))
 
-pub walk_measured : (records left : List (List ℕ)) (position : ℕ) (first depths : List ℕ) (n : ℕ) → AllByRecursion IsRecord records → first_failing (checks_of records) ≡ None → left ≡ [] → position ≡ length records
-    → IsWalked records position left first depths n → first ≡ replicate (length records) 0 → (length depths ≡ length records) × AreDepths records depths × HasLevels records n
-walk_measured records left position first depths n framed held none end walked zeros =
-    let ranked = walk_ends records left position first depths n none walked in
-    let types : AreTypes records = record { framed = framed; checked = passed_checked records framed held; ranked = ((λ i. i), ranked) } in
+pub walk_measured : (records left : List (List ℕ)) (position : ℕ) (first depths : List ℕ) → AllByRecursion IsRecord records → first_failing (checks_of records) ≡ None → left ≡ [] → position ≡ length records → length records ≤ 2 ^ 30
+    → IsWalked records position left first depths → first ≡ replicate (length records) 0 → AreMeasured records (range_with_len 0 (length records)) depths
+walk_measured records left position first depths framed held none end few walked zeros =
+    let ranked = walk_ends records left position first depths none walked in
     let order = stand_in_order records ranked in
-    let m = walked.measured zeros types order in
+    let m = walked.measured zeros order in
     let over : length records - position ≡ 0 = omega (arith, end) in
-    let all = all_measured records (range_with_len 0 (length records)) (range_with_len position (length records - position)) depths n order m (rw over refl) in
-    (m.many, all.0, all.1)
+    record {
+      types = record { framed = framed; checked = passed_checked records framed held; ranked = ((λ i. i), ranked) };
+      ordered = order;
+      many = m.many;
+      measured = all_measured records (range_with_len 0 (length records)) (range_with_len position (length records - position)) depths order m (rw over refl);
+      low = let small = measuring_small records (range_with_len 0 (length records)) (range_with_len position (length records - position)) depths order m in λ k lt. omega (arith, small k lt, few);
+    }

@@ -11,13 +11,18 @@ use Rattle.std.proofs.lemmas.Map.Steps.{length-le_from_distinct_below}
 use Rattle.std.proofs.lemmas.Map.Made.{IsDistinct-from_AllPairs}
 use Rattle.std.proofs.lemmas.Map.Views.{Contains-from_any}
 use Rattle.std.proofs.lemmas.List.FromFn.{get_or-range_with_len, length-range_with_len}
+use Rattle.byte_fields.specs.Check.{first_failing}
+use Rattle.tpi_records.specs.Records.{IsRecord}
 use Rattle.topological_order.specs.Graph.{Names}
 use Rattle.topological_order.specs.Order.{IsOrder}
 use Rattle.cv_leaves.specs.References.{references}
 use Rattle.closed_trees.specs.Tree.{IsRanked}
+use Rattle.closed_trees.specs.Types.{AreTypes}
+use Rattle.checked_types.specs.Check.{checks_of}
 use Rattle.checked_types.specs.Graph.{graph_of}
 use Rattle.checked_types.specs.Order.{positions_left, EndsAt}
-use Rattle.checked_types.proofs.GraphLaws.{named_at, many_nodes, each_named, ranked_graph}
+use Rattle.checked_types.proofs.CheckLaws.{passed_checked, passed_there}
+use Rattle.checked_types.proofs.GraphLaws.{named_at, many_nodes, each_named, ranked_graph, order_ranks}
 use Rattle.closed_trees.proofs.WeightLaws.{sum_grows}
 use Rattle.tpi_records.specs.Header.{first_index}
 
@@ -93,6 +98,14 @@ stand_in_order records ranked = record {
 
     many : length (range_with_len 0 n) ≡ n
     many = length-range_with_len 0 n
+
+-- records that pass all checks and have an order are types
+pub ordered_types : (records : List (List ℕ)) (order : List ℕ) → AllByRecursion IsRecord records → first_failing (checks_of records) ≡ None → IsOrder (graph_of records) order → AreTypes records
+ordered_types records order framed held o = record {
+  framed = framed;
+  checked = passed_checked records framed held;
+  ranked = order_ranks records order (passed_there records framed held) o;
+}
 
 -- an order is no longer than the records
 pub order_short : (records : List (List ℕ)) (order : List ℕ) → IsOrder (graph_of records) order → length order ≤ length records

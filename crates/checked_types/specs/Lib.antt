@@ -2,3 +2,4 @@ pub mod Graph
 pub mod Order
 pub mod Check
 pub mod Laws
+pub mod Measured

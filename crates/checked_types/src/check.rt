@@ -10,8 +10,8 @@ ghost use Rattle.closed_trees.specs.Types.{NamesThere};
 ghost use Rattle.checked_types.specs.Check.{reference_checks, type_checks};
 ghost use Rattle.closed_trees.specs.Depth.{height, depth_above, AreBelow};
 
-use crate::depth::height;
 use crate::fault::RecordFault;
+use closed_trees::height;
 use cv_leaves::{check, places, ref_at};
 use tpi_records::FIRST_INDEX;
 

@@ -22,14 +22,13 @@
 #![tactic(auto)]
 
 mod check;
-mod depth;
 mod fault;
 mod graph;
 pub mod laws;
+mod measure;
 mod order;
 mod types;
 
-pub use depth::depth_of;
 pub use fault::TypeFault;
 pub use order::{InOrder, in_file_order, record_at};
 pub use types::Types;

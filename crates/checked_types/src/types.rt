@@ -1,21 +1,23 @@
 //! Records that were checked to be types.
 
-ghost use Rattle.std.specs.Prelude.{◌≡◌, ◌↔◌, ◌≤◌, ◌<◌, ◌+◌, ◌^◌, [], ℕ, List, IsTrue, max, set, replicate, length, option_map, slice_get, Some, IfOk, IfErr, IfSome, IfNone};
-ghost use Rattle.std.specs.List.{AllByRecursion, concat};
+ghost use Rattle.std.specs.Prelude.{◌≡◌, ◌↔◌, ◌≤◌, ◌<◌, ◌+◌, ◌^◌, [], ℕ, List, IsTrue, true, false, replicate, length, option_map, slice_get, Some, IfOk, IfErr, IfSome, IfNone};
+ghost use Rattle.std.specs.List.{AllByRecursion, concat, range_with_len};
 ghost use Rattle.byte_fields.specs.Check.{Makes};
 ghost use Rattle.tpi_records.specs.Records.{IsRecord};
 ghost use Rattle.cv_leaves.specs.Place.{IsChecked};
 ghost use Rattle.topological_order.specs.Order.{IsOrder};
 ghost use Rattle.closed_trees.specs.Tree.{Tree, IsTreeAt, IsRanked};
 ghost use Rattle.checked_types.specs.Graph.{graph_of};
-ghost use Rattle.closed_trees.specs.Depth.{depth, AreBelow, AreDepths, HasLevels};
+ghost use Rattle.closed_trees.specs.Depth.{depth, AreBelow, HasLevels};
 ghost use Rattle.closed_trees.specs.Types.{AreTypes};
 ghost use Rattle.checked_types.specs.Check.{checks_of, IsTypeFault};
+ghost use Rattle.checked_types.specs.Measured.{AreMeasured, StoresDepth};
 
 use crate::check::check_record;
-use crate::depth::measure;
 use crate::fault::{RecordFault, TypeFault};
+use crate::measure::measure;
 use crate::order::{InOrder, Order, arrange};
+use closed_trees::levels_of;
 use std::alloc::{Allocator, Global};
 use std::marker::Model;
 use tpi_records::Records;
@@ -30,76 +32,61 @@ pub struct Types<'a, A: Allocator = Global> {
     records: Records<'a, A>,
     order: Order<A>,
     depths: Vec<u32, A>,
-    levels: u32,
 }
 
 impl<'a, A: Allocator> Model for Types<'a, A> {
-    ghost use Rattle.std.specs.Prelude.{List, ℕ, ◌≡◌, length};
-    ghost use Rattle.topological_order.specs.Order.{IsOrder};
-    ghost use Rattle.checked_types.specs.Graph.{graph_of};
-    ghost use Rattle.closed_trees.specs.Types.{AreTypes};
+    ghost use Rattle.std.specs.Prelude.{List, ℕ, length};
     ghost use Rattle.checked_types.specs.Order.{order_list};
-    ghost use Rattle.closed_trees.specs.Depth.{AreDepths, HasLevels};
+    ghost use Rattle.checked_types.specs.Measured.{AreMeasured};
 
     ghost Value = { List (List ℕ) };
 
     ghost view = { λ t. t.records };
 
     ghost invariant = { λ t.
-        AreTypes t.records × IsOrder (graph_of t.records) (order_list (length t.records) t.order)
-        × (length t.depths.items ≡ length t.records) × AreDepths t.records t.depths.items
-        × HasLevels t.records t.levels };
+        AreMeasured t.records (order_list (length t.records) t.order) t.depths.items };
 }
 
-/// Stores the depth of the record at a position. Returns how many levels there are with it. `None`
-/// where a depth was not known before, is not known now, or has no room.
-fn keep_depth(
-    depths: &mut [u32],
-    position: usize,
-    levels: Option<u32>,
-    depth: Option<u32>,
-) -> Option<u32>
-    requires { IfSome depth (λ d. d < 2 ^ 31) }
-    ensures some { IfSome result (λ n.
-        (before : ℕ) × (d : ℕ) × (levels ≡ Some before) × (depth ≡ Some d)
-        × (position < length depths.old) × (depths.new ≡ set depths.old position d)
-        × (n ≡ max before (d + 1))) }
-    ensures none { IfNone result (depths.new ≡ depths.old) }
+/// Stores the depth of the record at a position. Returns whether it is known and has room.
+fn keep_depth(depths: &mut [u32], position: usize, depth: Option<u32>) -> bool
+    ensures kept { result ≡ true →
+        (d : ℕ) × (depth ≡ Some d) × StoresDepth depths.old depths.new position d }
+    ensures same { result ≡ false → depths.new ≡ depths.old }
 {
-    let before = levels?;
-    let depth = depth?;
+    let Some(depth) = depth else {
+        return false;
+    };
     if position >= depths.len() {
-        return None;
+        return false;
     }
     depths[position] = depth;
-    Some(before.max(depth + 1))
+    true
 }
 
-/// Checks all records, in order, and measures their depths in the same walk. Returns how many
-/// levels there are. `None` where a record names itself or a later one, or where there is no room
-/// for the depths.
+/// Checks all records, in order, and measures their depths in the same walk. Returns whether all
+/// depths are known: not where a record names itself or a later one, or where there is no room for
+/// them.
 fn check_all<A: Allocator>(
     records: &Records<'_, A>,
     depths: &mut [u32],
-) -> Result<Option<u32>, RecordFault>
+) -> Result<bool, RecordFault>
     requires { AreBelow 1 depths.old }
     ensures framed { AllByRecursion IsRecord records.now }
     ensures first { Makes result (checks_of records.now) }
-    ensures lower { IfOk result (λ levels. IfSome levels (λ _. IsRanked records.now (λ i. i))) }
-    ensures measured { IfOk result (λ levels. IfSome levels (λ n.
+    ensures lower { IfOk result (λ all. all ≡ true → IsRanked records.now (λ i. i)) }
+    ensures measured { IfOk result (λ all. all ≡ true →
         depths.old ≡ replicate (length records.now) 0 →
-        (length depths.new ≡ length records.now) × AreDepths records.now depths.new
-        × HasLevels records.now n)) }
+        AreMeasured records.now (range_with_len 0 (length records.now)) depths.new) }
 {
     let many = records.len();
     let mut position = 0;
-    let mut levels = Some(0);
+    let mut all = true;
     for bytes in records.iter() {
         let depth = check_record(many, position, bytes, depths)?;
-        levels = keep_depth(depths, position, levels, depth);
+        all &= keep_depth(depths, position, depth);
         position += 1;
     }
-    Ok(levels)
+    Ok(all)
 }
 
 impl<'a, A: Allocator + Copy> Types<'a, A> {
@@ -131,22 +118,20 @@ impl<'a, A: Allocator + Copy> Types<'a, A> {
             check_all(&records, &mut [])?;
             return Err(TypeFault::Memory);
         };
-        if let Some(levels) = check_all(&records, &mut depths)? {
+        if check_all(&records, &mut depths)? {
             return Ok(Types {
                 records,
                 order: Order::InFileOrder,
                 depths,
-                levels,
             });
         }
         drop(depths);
         let order = arrange(alloc, &records)?;
-        let (depths, levels) = measure(alloc, &records, &order)?;
+        let depths = measure(alloc, &records, &order)?;
         Ok(Types {
             records,
             order,
             depths,
-            levels,
         })
     }
 }
@@ -211,11 +196,11 @@ impl<'a, A: Allocator> Types<'a, A> {
     }
 
     /// How many levels the types have: one more than the greatest depth, or 0 where there are no
-    /// types.
+    /// types. This goes over all depths.
     pub fn levels(&self) -> u32
         ensures { HasLevels self.now result }
     {
-        self.levels
+        levels_of(&self.depths)
     }
 
     /// How many bytes the records have together, with their length fields.

@@ -6,7 +6,7 @@ use Rattle.std.specs.List.{AllByRecursion}
 use Rattle.cv_leaves.specs.Checks.{places_of}
 use Rattle.cv_leaves.specs.References.{reference_at, references}
 use Rattle.closed_trees.specs.Tree.{Tree, Branches, tree, no_branch, simple, branch, IsTreeAt, AreBranches, IsRanked, NamesLower}
-use Rattle.closed_trees.specs.Depth.{depth, depth_over, height, depth_above, AreDepths}
+use Rattle.closed_trees.specs.Depth.{depth, depth_over, height, depth_above, AreDepths, CountsLevels, HasLevels}
 use Rattle.tpi_records.specs.Header.{first_index}
 
 -- ---- Heights
@@ -169,3 +169,35 @@ next_record records k left others r is split = elim (cases_lt k (length records)
 -- all records were read when none is left
 pub all_records : (records : List (List ℕ)) (k : ℕ) (left : List (List ℕ)) → left ≡ drop k records → left ≡ [] → k ≤ length records → k ≡ length records
 all_records records k left is none le = omega (arith, le, length-drop k records, ap length (sym is ∙ none))
+
+-- ---- Levels
+
+-- the levels stay right when one more depth is counted
+pub counts_more : (depths : List ℕ) (end levels : ℕ) → CountsLevels depths end levels → CountsLevels depths (end + 1) (max levels (get_or depths end 0 + 1))
+counts_more depths end levels counts = record {
+  all = λ k inside. elim (cases_lt k end) [
+    | inl old ↦ omega (arith, counts.all k old)
+    | inr new ↦ let at : k ≡ end = omega (arith, new, inside) in omega (arith, ap (λ (n : ℕ). get_or depths n 0) at)
+  ];
+  one = elim (cases_lt (get_or depths end 0 + 1) levels) [
+    | inl less ↦ elim counts.one [
+      | inl none ↦ absurd (omega (arith, none, less))
+      | inr some ↦ inr (some.0, omega (arith, some.1), omega (arith, some.2, less))
+    ]
+    | inr more ↦ inr (end, omega arith, omega (arith, more))
+  ];
+}
+
+-- records have as many levels as their depths count
+pub levels_counted : (records : List (List ℕ)) (depths : List ℕ) (levels : ℕ) → ((i : ℕ) → i < length records → (t : Tree) × IsTreeAt records i t) → length depths ≡ length records → AreDepths records depths
+    → CountsLevels depths (length depths) levels → HasLevels records levels
+levels_counted records depths levels there many are counts = record {
+  all = λ i t inside stands. omega (arith, are i t (omega (arith, inside, many)) stands, counts.all i (omega (arith, inside, many)));
+  one = elim counts.one [
+    | inl none ↦ inl none
+    | inr some ↦
+        let within : some.0 < length records = omega (arith, some.1, many) in
+        let t = there some.0 within in
+        inr (some.0, t.0, within, t.1, omega (arith, some.2, are some.0 t.0 some.1 t.1))
+  ];
+}

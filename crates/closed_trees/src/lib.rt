@@ -12,7 +12,9 @@
 //! depth in the order of the bytes of their records. The records name each other by their positions
 //! in the list. The *weight* of a list is the number of bytes of its records.
 //!
-//! [`renumber_into`] makes a record that names the same types by other type indices.
+//! [`depth_of`] computes the depth of a record, from the depths of those that it names, and
+//! [`levels_of`] counts the levels. [`renumber_into`] makes a record that names the same types by
+//! other type indices.
 //!
 //! What is proved: a renumbered record is the record with the new type index at each place. It is
 //! made only where each reference is simple or has a number, and always where these numbers are
@@ -24,7 +26,9 @@
 //! few lines.
 #![tactic(auto)]
 
+mod depth;
 pub mod laws;
 mod renumber;
 
+pub use depth::{depth_of, height, levels_of};
 pub use renumber::{number_for, renumber_into};

@@ -76,17 +76,14 @@ pub struct Table<S: BuildHasher, A: Allocator = Global> {
 }
 
 impl<S: BuildHasher, A: Allocator> Model for Table<S, A> {
-    ghost use Rattle.std.specs.Prelude.{List, ℕ, ◌<◌, ◌^◌, length};
-    ghost use Rattle.std.specs.List.{concat};
-    ghost use Rattle.closed_trees.specs.Depth.{HasDepths};
-    ghost use Rattle.closed_trees.specs.Table.{IsTable};
+    ghost use Rattle.std.specs.Prelude.{List, ℕ};
+    ghost use Rattle.type_table.specs.MeasuredTable.{IsMeasuredTable};
 
     ghost Value = { List (List ℕ) };
 
     ghost view = { λ t. t.texts };
 
-    ghost invariant = { λ t.
-        IsTable t.texts × (length (concat t.texts) < 2 ^ 32) × HasDepths t.texts t.depths.items };
+    ghost invariant = { λ t. IsMeasuredTable t.texts t.depths.items };
 }
 
 impl<S: BuildHasher, A: Allocator + Copy> Table<S, A> {

@@ -5,7 +5,7 @@ ghost use Rattle.closed_trees.specs.Depth.{KnowsDepths, HasDepths};
 ghost use Rattle.type_table.specs.Merge.{StartsWith};
 ghost use Rattle.closed_trees.specs.Table.{IsTable};
 
-use checked_types::depth_of;
+use closed_trees::depth_of;
 use std::alloc::{AllocError, Allocator};
 use std::hash::BuildHasher;
 use text_set::TextSet;

@@ -1,5 +1,4 @@
-use Rattle.std.proofs.Common.{◌≡◌, ◌≤◌, ◌+◌, ◌^◌, length, drop}
-use Rattle.std.specs.Prelude.{IfSome}
+use Rattle.std.proofs.Common.{◌≡◌, ◌≤◌, ◌+◌, ◌^◌, true, length, drop}
 use Rattle.std.specs.List.{AllByRecursion}
 use Rattle.byte_fields.specs.Check.{first_failing}
 use Rattle.tpi_records.specs.Records.{IsRecord}
@@ -15,5 +14,5 @@ invariant-loop-bytes g l = record {
   few : (l.position + length l.bytes-iterator ≡ l.many) × (l.many ≤ 2 ^ 30);
   left : l.bytes-iterator ≡ drop l.position l.records;
   low : AreBelow (l.position + 1) l.depths;
-  walked : IfSome l.levels (IsWalked l.records l.position l.bytes-iterator l.initial.depths l.depths);
+  walked : l.all ≡ true → IsWalked l.records l.position l.bytes-iterator l.initial.depths l.depths;
 }

@@ -36,4 +36,4 @@ invariant_of-result g c =
     let canon = c.args.canon.now in
     let last : c.loop-position.position ≡ length canon = search rules in
     let whole : c.loop-position.texts ≡ canon = whole_taken canon c.loop-position.texts c.loop-position.position c.loop-position.invariant last in
-    (rw whole c.len-position-end.ensures.canon.table, rw whole (canon_short canon c.len-position-end.ensures.canon), c.in_ok-measure_new.ensures.ok)
+    record { table = rw whole c.len-position-end.ensures.canon.table; short = rw whole (canon_short canon c.len-position-end.ensures.canon); measured = c.in_ok-measure_new.ensures.ok }

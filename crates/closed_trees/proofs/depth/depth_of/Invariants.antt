@@ -2,7 +2,7 @@ use Rattle.std.proofs.Common.{◌≡◌, ◌≤◌, ◌<◌, ◌+◌, ℕ, max, 
 use Rattle.std.specs.List.{AllByRecursion}
 use Rattle.cv_leaves.specs.References.{reference_at, references}
 use Rattle.closed_trees.specs.Depth.{depth_above, AreBelow}
-use Rattle.checked_types.proofs.depth.depth_of.Given as goal
+use Rattle.closed_trees.proofs.depth.depth_of.Given as goal
 use Rattle.tpi_records.specs.Header.{first_index}
 
 abbrev pub invariant-loop-place : goal.invariant-loop-place

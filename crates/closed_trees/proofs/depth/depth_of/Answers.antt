@@ -2,7 +2,7 @@ use Rattle.std.proofs.Common.{◌≡◌, ◌≤◌, ◌+◌, ◌<◌, ◌∷◌,
 use Rattle.cv_leaves.specs.References.{reference_at}
 use Rattle.closed_trees.proofs.WalkLaws.{own_fit, each_other}
 use Rattle.closed_trees.proofs.DepthLaws.{above_all, lower_own, above_step, above_whole}
-use Rattle.checked_types.proofs.depth.depth_of.Goals as goal
+use Rattle.closed_trees.proofs.depth.depth_of.Goals as goal
 use Rattle.tpi_records.specs.Header.{first_index}
 
 pub loop-place-init : goal.loop-place-init
