@@ -1,4 +1,4 @@
-//! Sizes and numbers of blocks, and the blocks of the two free block maps.
+//! Numbers of blocks, and the blocks of the two free block maps.
 //!
 //! A container is cut into intervals. An interval has as many blocks as a block has bytes. The
 //! second and the third block of each interval belong to the free block maps, and all other blocks
@@ -12,26 +12,17 @@
 
 ghost use Rattle.std.specs.Prelude.{◌≡◌, ◌^◌, ◌<◌, ◌≤◌, length, map, false};
 ghost use Rattle.std.specs.List.{range_with_len};
-ghost use Rattle.msf_blocks.specs.BlockNumber.{IsBlockSize, blocks_for, is_block_size, is_ordinary, is_map_block, nth_block, data_blocks};
+ghost use Rattle.msf_blocks.specs.BlockNumber.{IsBlockSize, blocks_for, is_ordinary, is_map_block, nth_block, data_blocks};
 
-/// Whether blocks may have this size, in bytes: 512, 1,024, 2,048, 4,096, 8,192, 16,384 or 32,768.
-///
-/// This does not allocate. ("The MSF File Format", "The Superblock".)
-#[tactic(auto, unfolding(crate::specs::BlockNumber::is_block_size))]
-pub fn is_block_size(size: u32) -> bool
-    ensures { result ≡ is_block_size size }
-{
-    matches!(size, 512 | 1024 | 2048 | 4096 | 8192 | 16384 | 32768)
-}
+use crate::block_size::BlockSize;
 
 /// How many blocks of `block_size` bytes hold `bytes` bytes. This does not allocate.
-#[tactic(auto, using(crate::proofs::SizeLaws::size_facts, crate::proofs::SizeLaws::ceil_is, crate::proofs::SizeLaws::few_for))]
 pub fn blocks_for(block_size: u32, bytes: u32) -> u32
     requires { IsBlockSize block_size }
     ensures value { result ≡ blocks_for block_size bytes }
     ensures few { result ≤ 2 ^ 23 }
 {
-    bytes.div_ceil(block_size)
+    BlockSize::of(block_size).blocks_for(bytes)
 }
 
 /// Whether a block may hold the bytes of a stream, in a file of `num_blocks` blocks.
@@ -45,28 +36,11 @@ pub fn is_ordinary(num_blocks: u32, block: u32) -> bool
 ///
 /// `block_size` is in bytes, and `n` counts from 0. This does not allocate. ("The MSF File Format",
 /// "The Free Block Map".)
-#[tactic(auto, using(crate::proofs::SizeLaws::size_facts))]
 pub fn is_map_block(block_size: u32, n: u32) -> bool
     requires { IsBlockSize block_size }
     ensures { result ≡ is_map_block block_size n }
 {
-    matches!(n % block_size, 1 | 2)
-}
-
-/// The number of the `j`-th block that is not a map block, by the formula.
-#[tactic(auto, using(crate::proofs::SizeLaws::size_facts), unfolding(crate::specs::BlockNumber::nth_block))]
-fn nth_by_formula(block_size: u32, j: u32) -> u32
-    requires size { IsBlockSize block_size }
-    requires fits { nth_block block_size j < 2 ^ 32 }
-    ensures { result ≡ nth_block block_size j }
-{
-    // All but two blocks of each interval hold data.
-    let data = block_size - 2;
-    let first = j / data * block_size;
-    match j % data {
-        0 => first,
-        others => first + others + 2,
-    }
+    BlockSize::of(block_size).is_map_block(n)
 }
 
 /// The number of the `j`-th block that is not a map block, from 0.
@@ -82,5 +56,5 @@ pub fn nth_block(block_size: u32, j: u32) -> u32
         ≡ map (nth_block block_size) (range_with_len 0 j) }
     ensures count { length (data_blocks block_size result) ≡ j }
 {
-    nth_by_formula(block_size, j)
+    BlockSize::of(block_size).nth_block(j)
 }

@@ -8,7 +8,8 @@ ghost use Rattle.byte_fields.specs.Check.{Makes, checks_below};
 ghost use Rattle.msf_blocks.specs.BlockNumber.{IsBlockSize, block_numbers};
 ghost use Rattle.msf_blocks.specs.Directory.{IsReadable, map_number, directory_blocks, directory_block_checks, directory_contents, bytes_of, stream_blocks, list_start, length_checks, stream_checks};
 
-use crate::block_number::{blocks_for, is_ordinary, nth_block};
+use crate::block_number::{blocks_for, is_ordinary};
+use crate::block_size::BlockSize;
 use crate::fault::MsfFault;
 use crate::superblock::Superblock;
 use byte_fields::{push_u32, u32_at};
@@ -288,17 +289,16 @@ fn push_numbers<A: Allocator>(bytes: &mut Vec<u8, A>, numbers: &[u32]) -> Result
 #[tactic(auto, using(crate::proofs::WrittenLaws::small_number))]
 fn push_blocks<A: Allocator>(
     bytes: &mut Vec<u8, A>,
-    block_size: u32,
+    block_size: BlockSize,
     first: u32,
     count: u32,
 ) -> Result<(), AllocError>
-    requires size { IsBlockSize block_size }
-    requires few { first + count < 2 ^ 28 }
+    requires { first + count < 2 ^ 28 }
     ensures { OnOk result
         (bytes.new.items ≡ bytes.old.items ++ u32s (block_numbers block_size first count)) }
 {
     for j in 0..count {
-        push_u32(bytes, nth_block(block_size, first + j))?;
+        push_u32(bytes, block_size.nth_block(first + j))?;
     }
     Ok(())
 }
@@ -318,7 +318,7 @@ pub fn block_map_bytes<A: Allocator>(
     ensures { IfOk result (λ v. v.items ≡ u32s (block_numbers block_size 2 directory_blocks)) }
 {
     let mut bytes = Vec::with_capacity(alloc, 4 * directory_blocks as usize)?;
-    push_blocks(&mut bytes, block_size, 2, directory_blocks)?;
+    push_blocks(&mut bytes, BlockSize::of(block_size), 2, directory_blocks)?;
     Ok(bytes)
 }
 
@@ -343,6 +343,11 @@ pub fn directory_bytes<A: Allocator>(
     let mut bytes = Vec::with_capacity(alloc, 4 * (6 + blocks as usize))?;
     push_u32(&mut bytes, 5)?;
     push_numbers(&mut bytes, sizes)?;
-    push_blocks(&mut bytes, block_size, 2 + directory_blocks, blocks)?;
+    push_blocks(
+        &mut bytes,
+        BlockSize::of(block_size),
+        2 + directory_blocks,
+        blocks,
+    )?;
     Ok(bytes)
 }

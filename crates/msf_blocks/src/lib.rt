@@ -9,8 +9,8 @@
 //!   is the number of a block of the file, so the crates above need no check of their own.
 //! - [`Superblock::read_at`] and [`Layout::read_at`] do the same by position, and [`read_blocks`]
 //!   reads the bytes in a list of blocks. Of a file they read no more than they need.
-//! - [`is_block_size`] says which sizes a block may have, and [`blocks_for`] how many blocks hold a
-//!   number of bytes.
+//! - [`BlockSize`] is a size that a block may have. [`is_block_size`] says which sizes these are,
+//!   and [`blocks_for`] how many blocks hold a number of bytes.
 //! - [`superblock_bytes`], [`block_map_bytes`], [`directory_bytes`] and [`fill_map_block`] write the
 //!   parts of an image that are not streams.
 //! - [`nth_block`] and [`is_map_block`] tell map blocks from other blocks, and [`free_bit`] reads
@@ -25,6 +25,7 @@
 #![tactic(auto)]
 
 mod block_number;
+mod block_size;
 mod blocks;
 mod directory;
 mod directory_at;
@@ -34,7 +35,8 @@ pub mod laws;
 mod layout;
 mod superblock;
 
-pub use block_number::{blocks_for, is_block_size, is_map_block, nth_block};
+pub use block_number::{blocks_for, is_map_block, nth_block};
+pub use block_size::{BlockSize, is_block_size};
 pub use blocks::read_blocks;
 pub use byte_io::{In, NotTaken, Out, Sink, Source, put_all};
 pub use directory::{block_map_bytes, directory_bytes};

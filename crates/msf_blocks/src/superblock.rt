@@ -8,7 +8,8 @@ ghost use Rattle.byte_fields.specs.Number.{u32s};
 ghost use Rattle.msf_blocks.specs.BlockNumber.{IsBlockSize, IsOrdinary, blocks_for};
 ghost use Rattle.msf_blocks.specs.Superblock.{Fields, IsFit, IsSuperblock, fields_of, magic, front_checks, superblock_checks, HasFront, FrontRefuses};
 
-use crate::block_number::{blocks_for, is_block_size, is_ordinary};
+use crate::block_number::is_ordinary;
+use crate::block_size::BlockSize;
 use crate::fault::MsfFault;
 use byte_fields::u32_at;
 use byte_io::{AtFault, ReadAt};
@@ -38,7 +39,7 @@ const BLOCK_MAP_ADDR: usize = 52;
 /// Made by [`Superblock::read`]. ("The MSF File Format", "The Superblock".)
 #[derive(Clone, Copy, Debug)]
 pub struct Superblock {
-    block_size: u32,
+    block_size: BlockSize,
     free_map_block: u32,
     num_blocks: u32,
     directory_bytes: u32,
@@ -94,23 +95,23 @@ impl Superblock {
         if !front.starts_with(&MAGIC) {
             return Err(MsfFault::Magic);
         }
-        let block_size = u32_at(front, BLOCK_SIZE);
-        if !is_block_size(block_size) {
-            return Err(MsfFault::BlockSize(block_size));
-        }
+        let bytes = u32_at(front, BLOCK_SIZE);
+        let Some(block_size) = BlockSize::new(bytes) else {
+            return Err(MsfFault::BlockSize(bytes));
+        };
         let free_map_block = u32_at(front, FREE_MAP_BLOCK);
         if free_map_block != 1 && free_map_block != 2 {
             return Err(MsfFault::FreeMapBlock(free_map_block));
         }
         let num_blocks = u32_at(front, NUM_BLOCKS);
-        let need = u64::from(num_blocks) * u64::from(block_size);
+        let need = u64::from(num_blocks) * u64::from(bytes);
         if have < need {
             return Err(MsfFault::FileSize { need, have });
         }
         let directory_bytes = u32_at(front, DIRECTORY_BYTES);
         // The block map is one block, and each of its numbers has four bytes.
-        let most_blocks = block_size / 4;
-        if directory_bytes % 4 != 0 || blocks_for(block_size, directory_bytes) > most_blocks {
+        let most_blocks = bytes / 4;
+        if directory_bytes % 4 != 0 || block_size.blocks_for(directory_bytes) > most_blocks {
             return Err(MsfFault::DirectorySize(directory_bytes));
         }
         let block_map_addr = u32_at(front, BLOCK_MAP_ADDR);
@@ -195,7 +196,7 @@ impl Superblock {
         // One block can list the blocks of the directory.
         ensures listed { blocks_for result self.now.directory_bytes ≤ result / 4 }
     {
-        self.block_size
+        self.block_size.bytes()
     }
 
     /// The number of the first block of the free block map in force: 1 or 2.

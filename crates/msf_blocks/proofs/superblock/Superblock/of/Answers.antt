@@ -1,12 +1,11 @@
 use Rattle.std.proofs.Common.{arith}
 use Rattle.std.proofs.lemmas.Grind.{common_steps}
-use Rattle.msf_blocks.proofs.SizeLaws.{size_decides}
 use Rattle.msf_blocks.proofs.SuperblockLaws.{magic_from_starts_with}
 use Rattle.msf_blocks.proofs.superblock.Superblock.of.Goals as goal
 
 pub invariant_of-result : goal.invariant_of-result
 invariant_of-result c = record {
-  block_size_fits = (size_decides _).0 (grind (arith, common_steps));
+  block_size_fits = grind (arith, common_steps);
   free_map_block_fits = grind (arith, common_steps);
   directory_multiple = grind (arith, common_steps);
   directory_fits = grind (arith, common_steps);
@@ -18,7 +17,7 @@ returns-clause-magical c = magic_from_starts_with c.args.front.now (grind arith)
 
 pub returns-clause-fit : goal.returns-clause-fit
 returns-clause-fit c = record {
-  block_size_fits = (size_decides _).0 (grind (arith, common_steps));
+  block_size_fits = grind (arith, common_steps);
   free_map_block_fits = grind (arith, common_steps);
   directory_multiple = grind (arith, common_steps);
   directory_fits = grind (arith, common_steps);
