@@ -271,22 +271,22 @@ next_put old between new h b w v xs i d all lt size so_far put same end =
 -- ---- the parts of an image in turn
 
 -- the image, in terms of its parts
-by_parts : (b n : ℕ) (ts : List (List ℕ)) (sb bm dir : List ℕ) → IsBlockSize b → IsFront b n (map length ts) sb bm dir → image b ts ≡ woven b n 0 (flat_map (padded b) (sb ∷ bm ∷ dir ∷ ts))
+by_parts : (b n : ℕ) (ts : List (List ℕ)) (sb bm dir : List ℕ) → IsFront b n (map length ts) sb bm dir → image b ts ≡ woven b n 0 (flat_map (padded b) (sb ∷ bm ∷ dir ∷ ts))
 unfolding parts
-by_parts b n ts sb bm dir size front = rw (front.count, front.superblock_is, front.block_map_is, front.directory_is) (image_woven b ts size front.fits)
+by_parts b n ts sb bm dir front = rw (front.count, front.superblock_is, front.block_map_is, front.directory_is) (image_woven b ts front.size front.fits)
 
 -- the padded parts are no longer than the file
-pub few_bytes : (b n : ℕ) (ts : List (List ℕ)) (sb bm dir : List ℕ) → IsBlockSize b → IsFront b n (map length ts) sb bm dir
+pub few_bytes : (b n : ℕ) (ts : List (List ℕ)) (sb bm dir : List ℕ) → IsFront b n (map length ts) sb bm dir
     → length (padded b sb) + (length (padded b bm) + (length (padded b dir) + length (flat_map (padded b) ts))) < 2 ^ 32
 unfolding parts
-few_bytes b n ts sb bm dir size front =
+few_bytes b n ts sb bm dir front =
     let sizes = map length ts in
-    let big = big_enough b size in
+    let big = big_enough b front.size in
     let all = superblock_part b sizes ∷ block_map_part b sizes ∷ directory_part b sizes ∷ ts in
-    let few = (bounds b sizes size front.fits).1 in
+    let few = (bounds b sizes front.size front.fits).1 in
     let blocks = mul-le (data_count b sizes) b (image_blocks b sizes) b few (omega arith) in
     let long : length (flat_map (padded b) (sb ∷ bm ∷ dir ∷ ts)) ≡ (data_count b sizes - 1 + 1) * b =
-    rw (front.superblock_is, front.block_map_is, front.directory_is) (length_parts b all (omega (arith, big)) ∙ rw (all_blocks b ts size front.fits) refl) in
+    rw (front.superblock_is, front.block_map_is, front.directory_is) (length_parts b all (omega (arith, big)) ∙ rw (all_blocks b ts front.size front.fits) refl) in
     let one : data_count b sizes - 1 + 1 ≡ data_count b sizes = omega arith in
     omega (
       arith,
@@ -299,12 +299,12 @@ few_bytes b n ts sb bm dir size front =
     )
 
 -- what was written before the first part
-pub before_front : (old : Option (List ℕ)) (w : WriterView) (ts : List (List ℕ)) (sb bm dir : List ℕ) → IsBlockSize w.block_size → IsFront w.block_size w.num_blocks (map length ts) sb bm dir
+pub before_front : (old : Option (List ℕ)) (w : WriterView) (ts : List (List ℕ)) (sb bm dir : List ℕ) → IsFront w.block_size w.num_blocks (map length ts) sb bm dir
     → w.position ≡ 0 → Halfway old old w (image w.block_size ts) (flat_map (padded w.block_size) (sb ∷ bm ∷ dir ∷ ts))
-before_front old w ts sb bm dir size front start =
+before_front old w ts sb bm dir front start =
     record {
       taken = [];
-      split = by_parts w.block_size w.num_blocks ts sb bm dir size front ∙ rw start refl;
+      split = by_parts w.block_size w.num_blocks ts sb bm dir front ∙ rw start refl;
       appends = Appends-nil old;
     }
 

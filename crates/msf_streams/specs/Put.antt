@@ -33,11 +33,6 @@ pub record WriterView : Type 0 where
   pub num_blocks : ℕ
   pub position : ℕ
 
--- what holds of each writer: its blocks have one of the seven sizes, and its page has one block
-pub record IsWriter (block_size : ℕ) (page : List ℕ) : Type 0 where
-  pub size : IsBlockSize block_size
-  pub long : length page ≡ block_size
-
 -- a writer of the same image: only its position may be another
 pub record IsSameImage (old new : WriterView) : Type 0 where
   pub block_size : new.block_size ≡ old.block_size
@@ -55,8 +50,9 @@ room block_size p = if nat_lt p block_size then block_size - p else stretch bloc
 abbrev pub AppendsPart : Option (List ℕ) → Option (List ℕ) → List ℕ → Type 0
 AppendsPart old new bytes = (count : ℕ) × (count < length bytes) × Appends old new (take count bytes)
 
--- streams of these sizes fit in a file of `num_blocks` blocks, and these are the parts of its image before the streams
+-- blocks may have this size, streams of these sizes fit in a file of `num_blocks` blocks, and these are the parts of its image before the streams
 pub record IsFront (block_size num_blocks : ℕ) (sizes superblock block_map directory : List ℕ) : Type 0 where
+  pub size : IsBlockSize block_size
   pub fits : Fits block_size sizes
   pub count : num_blocks ≡ image_blocks block_size sizes
   pub superblock_is : superblock ≡ superblock_part block_size sizes

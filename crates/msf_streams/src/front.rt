@@ -1,12 +1,11 @@
 //! The parts of an image before its streams: the superblock, the block map and the directory.
 
 ghost use Rattle.std.specs.Prelude.{◌≡◌, IfOk};
-ghost use Rattle.msf_blocks.specs.BlockNumber.{IsBlockSize};
 ghost use Rattle.msf_streams.specs.Image.{Fits, image_blocks};
 ghost use Rattle.msf_streams.specs.Put.{IsFront};
 
 use crate::image::{directory_blocks, directory_len, stream_blocks};
-use msf_blocks::{block_map_bytes, directory_bytes, nth_block, superblock_bytes};
+use msf_blocks::{BlockSize, block_map_bytes, directory_bytes, superblock_bytes};
 use std::alloc::{AllocError, Allocator};
 
 /// The parts of an image before its streams.
@@ -22,11 +21,10 @@ impl<A: Allocator + Copy> Front<A> {
     /// blocks.
     pub(crate) fn new(
         alloc: A,
-        block_size: u32,
+        block_size: BlockSize,
         num_blocks: u32,
         sizes: &[u32; 5],
     ) -> Result<Front<A>, AllocError>
-        requires size { IsBlockSize block_size }
         requires fits { Fits block_size sizes.now }
         requires count { num_blocks ≡ image_blocks block_size sizes.now }
         ensures { IfOk result (λ f.
@@ -35,7 +33,8 @@ impl<A: Allocator + Copy> Front<A> {
     {
         let blocks = stream_blocks(block_size, sizes);
         let directory_blocks = directory_blocks(block_size, blocks);
-        let block_map_addr = nth_block(block_size, 1);
+        let block_map_addr = block_size.nth_block(1);
+        let block_size = block_size.bytes();
         let superblock = superblock_bytes(
             block_size,
             num_blocks,

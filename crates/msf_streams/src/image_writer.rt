@@ -9,34 +9,34 @@ ghost use Rattle.std.specs.Prelude.{◌≡◌, ◌<◌, ◌≤◌, ◌^◌, ◌+
 ghost use Rattle.std.specs.List.{flat_map};
 ghost use lib.ListN.{replicate};
 ghost use Rattle.std.specs.Io.KnownBytes.{Appends};
-ghost use Rattle.msf_blocks.specs.BlockNumber.{IsBlockSize, blocks_for};
+ghost use Rattle.msf_blocks.specs.BlockNumber.{blocks_for};
 ghost use Rattle.msf_blocks.specs.FreeMap.{map_block};
 ghost use Rattle.msf_streams.specs.Image.{padded, joined, joined_of};
 ghost use Rattle.msf_streams.specs.Put.{WriterView, IsSameImage, stretch, maps_of, maps_before, woven_from, room, AppendsPart};
 
 use byte_io::{NotTaken, Sink, put_all};
-use msf_blocks::fill_map_block;
+use msf_blocks::{BlockSize, fill_map_block};
 use std::alloc::{AllocError, Allocator};
 use std::marker::Model;
 
 /// The length of a stretch: how many bytes of data are between the map blocks of one interval and
 /// the map blocks of the next.
 #[tactic(auto, using(msf_blocks::proofs::SizeLaws::big_enough, crate::proofs::WovenLaws::stretch_long), unfolding(crate::specs::Put::stretch))]
-fn stretch(block_size: u32) -> usize
-    requires { IsBlockSize block_size }
+fn stretch(block_size: BlockSize) -> usize
     ensures value { result ≡ stretch block_size }
     ensures long { 4 * block_size ≤ result }
 {
-    block_size as usize * (block_size as usize - 2)
+    let size = block_size.bytes() as usize;
+    size * (size - 2)
 }
 
 /// How many bytes of data follow a position in the file before the next map blocks.
-#[tactic(auto, using(msf_blocks::proofs::SizeLaws::some_bytes), unfolding(crate::specs::Put::room))]
-fn room(block_size: u32, position: usize) -> usize
-    requires { IsBlockSize block_size }
-    ensures { result ≡ room block_size position }
+#[tactic(auto, using(msf_blocks::proofs::SizeLaws::big_enough), unfolding(crate::specs::Put::room))]
+fn room(block_size: BlockSize, position: usize) -> usize
+    ensures value { result ≡ room block_size position }
+    ensures big { 3 < block_size }
 {
-    let first = block_size as usize;
+    let first = block_size.bytes() as usize;
     if position < first {
         return first - position;
     }
@@ -57,13 +57,12 @@ fn zeros(count: usize) -> &'static [u8]
 
 /// How many zeros pad `len` bytes to whole blocks.
 #[tactic(auto, using(crate::proofs::PutLaws::fill_count, msf_blocks::proofs::SizeLaws::some_bytes))]
-fn fill_len(block_size: u32, len: usize) -> usize
-    requires size { IsBlockSize block_size }
-    requires few { len < 2 ^ 33 }
+fn fill_len(block_size: BlockSize, len: usize) -> usize
+    requires { len < 2 ^ 33 }
     ensures value { result ≡ blocks_for block_size len * block_size - len }
     ensures few { result ≤ 32768 }
 {
-    let size = block_size as usize;
+    let size = block_size.bytes() as usize;
     (size - len % size) % size
 }
 
@@ -75,31 +74,32 @@ fn fill_len(block_size: u32, len: usize) -> usize
 /// completed. The position then says nothing.
 #[derive(Drop)]
 pub(crate) struct ImageWriter<A: Allocator> {
-    block_size: u32,
+    block_size: BlockSize,
     num_blocks: u32,
     position: usize,
     page: Vec<u8, A>,
 }
 
 impl<A: Allocator> Model for ImageWriter<A> {
-    ghost use Rattle.msf_streams.specs.Put.{WriterView, IsWriter};
+    ghost use Rattle.std.specs.Prelude.{◌≡◌, length};
+    ghost use Rattle.msf_streams.specs.Put.{WriterView};
 
     ghost Value = { WriterView };
 
     ghost view = { λ w.
         record { block_size = w.block_size; num_blocks = w.num_blocks; position = w.position } };
 
-    ghost invariant = { λ w. IsWriter w.block_size w.page.items };
+    // A page has the bytes of one block.
+    ghost invariant = { λ w. length w.page.items ≡ w.block_size };
 }
 
 impl<A: Allocator> ImageWriter<A> {
     /// Makes a writer of an image whose file has `num_blocks` blocks. The next byte is its first.
     pub(crate) fn new(
         alloc: A,
-        block_size: u32,
+        block_size: BlockSize,
         num_blocks: u32,
     ) -> Result<ImageWriter<A>, AllocError>
-        requires { IsBlockSize block_size }
         ensures { IfOk result (λ w.
             w ≡ record { block_size = block_size; num_blocks = num_blocks; position = 0 }) }
     {
@@ -107,7 +107,7 @@ impl<A: Allocator> ImageWriter<A> {
             block_size,
             num_blocks,
             position: 0,
-            page: vec![in alloc; 0; block_size as usize]?,
+            page: vec![in alloc; 0; block_size.bytes() as usize]?,
         })
     }
 
@@ -120,7 +120,7 @@ impl<A: Allocator> ImageWriter<A> {
         ensures prefix { OnErr result (AppendsPart (W.taken out.old) (W.taken out.new)
             (map_block self.old.block_size self.old.num_blocks k)) }
     {
-        fill_map_block(self.block_size, self.num_blocks, k, &mut self.page);
+        fill_map_block(self.block_size.bytes(), self.num_blocks, k, &mut self.page);
         put_all(out, &self.page)
     }
 
@@ -134,7 +134,7 @@ impl<A: Allocator> ImageWriter<A> {
         ensures prefix { OnErr result (AppendsPart (W.taken out.old) (W.taken out.new)
             (maps_of self.old.block_size self.old.num_blocks interval)) }
     {
-        let start = interval * self.block_size;
+        let start = interval * self.block_size.bytes();
         self.put_map(start + 1, out)?;
         self.put_map(start + 2, out)
     }
@@ -150,7 +150,7 @@ impl<A: Allocator> ImageWriter<A> {
         ensures prefix { OnErr result (AppendsPart (W.taken out.old) (W.taken out.new)
             (maps_before self.old.block_size self.old.num_blocks self.old.position)) }
     {
-        let first = self.block_size as usize;
+        let first = self.block_size.bytes() as usize;
         let position = self.position;
         let stretch = stretch(self.block_size);
         if position < first || (position - first) % stretch != 0 {

@@ -11,6 +11,7 @@ use crate::front::Front;
 use crate::image::image_len;
 use crate::image_writer::ImageWriter;
 use byte_io::{NotTaken, Sink};
+use msf_blocks::BlockSize;
 use std::alloc::Allocator;
 
 /// The length of some bytes. `None` where it does not fit in a `u32`.
@@ -57,7 +58,6 @@ fn put_image<W: Sink, A: Allocator>(
     streams: &[&[&[u8]]; 5],
     out: &mut W,
 ) -> Result<(), NotTaken>
-    requires size { IsBlockSize writer.old.block_size }
     requires start { writer.old.position ≡ 0 }
     requires front { IsFront writer.old.block_size writer.old.num_blocks
         (map length (joined_of streams.now))
@@ -153,6 +153,7 @@ pub fn write_parts_len<W: Sink, A: Allocator + Copy>(
         return Err(WriteFault::Image);
     };
     let num_blocks = len / block_size;
+    let block_size = BlockSize::of(block_size);
     let front = Front::new(alloc, block_size, num_blocks, &sizes)?;
     let mut writer = ImageWriter::new(alloc, block_size, num_blocks)?;
     put_image(&mut writer, &front, streams, out)?;

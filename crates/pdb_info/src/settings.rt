@@ -5,7 +5,7 @@ ghost use Rattle.byte_fields.specs.Bytes.{AreBytes};
 ghost use Rattle.msf_blocks.specs.BlockNumber.{IsBlockSize};
 ghost use Rattle.pdb_info.specs.Settings.{SettingsView, AreSettings, RecordsFit, limit_of_records, record_limit, room_for_records};
 
-use msf_blocks::is_block_size;
+use msf_blocks::BlockSize;
 use std::marker::Model;
 use uuid::Uuid;
 
@@ -19,7 +19,7 @@ pub struct Settings {
     guid: Uuid,
     age: u32,
     limit: u32,
-    block_size: u32,
+    block_size: BlockSize,
 }
 
 impl Model for Settings {
@@ -45,11 +45,10 @@ fn are_bytes(bytes: &[u8])
 
 /// How many bytes of records a file with blocks of this size can have, so that the block map can
 /// list the blocks of its directory.
-fn room_for_records(block_size: u32) -> u64
-    requires { IsBlockSize block_size }
+fn room_for_records(block_size: BlockSize) -> u64
     ensures { result ≡ room_for_records block_size }
 {
-    let size = u64::from(block_size);
+    let size = u64::from(block_size.bytes());
     // One block lists the blocks of the directory. The directory has a number for each block of
     // records, and seven other numbers. The header of the records has 56 bytes.
     (size * size / 16 - 7) * size - 56
@@ -66,7 +65,8 @@ impl Settings {
             s ≡ record { guid = guid; age = age; limit = limit; block_size = block_size }) }
         ensures some { IsSome result ↔ ((limit ≤ 1073741824) × IsBlockSize block_size) }
     {
-        if limit > MOST_BYTES || !is_block_size(block_size) {
+        let block_size = BlockSize::new(block_size)?;
+        if limit > MOST_BYTES {
             return None;
         }
         // This call tells the proof that a GUID has 16 bytes.
@@ -107,7 +107,7 @@ impl Settings {
         ensures value { result ≡ self.now.block_size }
         ensures settings { AreSettings self.now }
     {
-        self.block_size
+        self.block_size.bytes()
     }
 
     /// The most bytes that the records of the file may have together: the limit that was set, or

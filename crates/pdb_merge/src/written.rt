@@ -5,12 +5,12 @@ ghost use Rattle.std.specs.List.{concat};
 ghost use Rattle.std.specs.Io.KnownBytes.{Appends};
 ghost use Rattle.msf_streams.specs.Image.{Writable, image};
 ghost use Rattle.msf_streams.specs.Put.{AppendsPart};
-ghost use Rattle.msf_blocks.specs.BlockNumber.{IsBlockSize};
 ghost use Rattle.pdb_info.specs.Settings.{AreSettings, record_limit};
 ghost use Rattle.tpi_records.specs.Written.{header_bytes};
 ghost use Rattle.pdb_merge.specs.Merged.{parts_contents, merged_contents, merged_file};
 
 use byte_io::Sink;
+use msf_blocks::BlockSize;
 use msf_streams::{WriteFault, write_parts_len};
 use pdb_info::{Settings, info_bytes};
 use std::alloc::Allocator;
@@ -30,13 +30,12 @@ fn header_of<A: Allocator>(canon: &Canon<A>) -> [u8; 56]
 /// its length in bytes.
 fn write_streams<'a, W: Sink, A: Allocator + Copy>(
     alloc: A,
-    block_size: u32,
+    block_size: BlockSize,
     info: &'a [u8],
     header: &'a [u8],
     records: &'a [u8],
     out: &mut W,
 ) -> Result<u32, WriteFault>
-    requires { IsBlockSize block_size }
     ensures value { OnOk result (Appends (W.taken out.old) (W.taken out.new)
         (image block_size (parts_contents info.now header.now records.now))) }
     ensures len { IfOk result (λ len.
@@ -57,7 +56,7 @@ fn write_streams<'a, W: Sink, A: Allocator + Copy>(
 {
     write_parts_len(
         alloc,
-        block_size,
+        block_size.bytes(),
         &[&[], &[info], &[header, records], &[], &[]],
         out,
     )
@@ -89,7 +88,7 @@ pub(crate) fn write_merged_len<W: Sink, A: Allocator + Copy>(
         × AppendsPart (W.taken out.old) (W.taken out.new) (merged_file settings.now canon.now)) }
     ensures untouched { IfErr result (λ fault. fault ≢ WriteFault.Write → out.new ≡ out.old) }
 {
-    let block_size = settings.block_size();
+    let block_size = BlockSize::of(settings.block_size());
     let info = info_bytes(settings);
     let header = header_of(canon);
     write_streams(alloc, block_size, &info, &header, canon.bytes(), out)

@@ -15,6 +15,6 @@ returns-clause-prefix g c =
     let old = g.W.Sink.taken c.args.out.now in
     let between = g.W.Sink.taken c.put_map.new.out in
     let new = g.W.Sink.taken c.put_map-2.new.out in
-    let before : Appends old between first = rw size at c.in_ok-put_map.ensures.ok in
+    let before : Appends old between first = rw (c.bytes.ensures.value, size) at c.in_ok-put_map.ensures.ok in
     on_err (AppendsPart between new second) (AppendsPart old new (maps_of w.block_size w.num_blocks c.args.interval)) c.put_map-2.result (part_second old between new first second before)
-    (rw (c.put_map.ensures.same, size) at c.put_map-2.ensures.prefix)
+    (rw (c.put_map.ensures.same, c.bytes.ensures.value, size) at c.put_map-2.ensures.prefix)

@@ -18,8 +18,8 @@ returns-in_err-put_joined-clause-prefix g c =
     at_err (AppendsPart old new (woven_from w (padded w.block_size bytes))) c.from_residual.result
     (part_fails old new w.block_size w.num_blocks w.position bytes c.in_err-put_joined.ensures.prefix)
 
-pub fill_len-requires-clause-few : goal.fill_len-requires-clause-few
-fill_len-requires-clause-few g c =
+pub fill_len-requires : goal.fill_len-requires
+fill_len-requires g c =
     let end = ap (λ (v : WriterView). v.position) c.self-2.view_is in
     omega (arith, end, c.in_ok-put_joined.ensures.end, c.requires.few, filled_longer c.args.self.now.block_size (joined c.args.parts.now))
 
