@@ -13,7 +13,7 @@ use Rattle.msf_blocks.specs.BlockNumber.{IsBlockSize}
 use Rattle.msf_blocks.specs.Blocks.{AreInside, in_blocks}
 use Rattle.msf_blocks.specs.Directory.{map_number, map_numbers, number_check, number_checks, directory_blocks, directory_block_check, directory_block_checks, directory_contents, length_checks, list_start}
 use Rattle.msf_blocks.specs.declared.fault.MsfFault.TheVariants.{Short, DirectoryShort}
-use Rattle.msf_blocks.specs.Superblock.{Fields, IsFit, IsSuperblock, magic, fields_of, superblock_checks, front_checks}
+use Rattle.msf_blocks.specs.Superblock.{HoldsBlocks, Fields, IsFit, IsSuperblock, magic, fields_of, superblock_checks, front_checks}
 use Rattle.msf_blocks.proofs.RangeLaws.{map-same_ranges}
 use Rattle.msf_blocks.proofs.SizeLaws.{some_bytes, place_below}
 use Rattle.msf_blocks.proofs.DirectoryLaws.{map_is_ordinary}
@@ -109,7 +109,7 @@ number_is file bytes offset stands four =
     rw here at (number_read file bytes offset 0 stands (omega (arith, four)))
 
 -- a block map that was read is that of the file
-pub block_map_stands : (file bytes : List ℕ) (fields : Fields) (addr size n : ℕ) → addr ≡ fields.block_map_addr → size ≡ fields.block_size → addr < fields.num_blocks → fields.num_blocks * fields.block_size ≤ length file
+pub block_map_stands : (file bytes : List ℕ) (fields : Fields) (addr size n : ℕ) → addr ≡ fields.block_map_addr → size ≡ fields.block_size → addr < fields.num_blocks → HoldsBlocks file fields
     → n ≤ size → length bytes ≡ n → bytes ≡ take n (drop (addr * size) file) → StandsAt file (fields.block_map_addr * fields.block_size) bytes
 block_map_stands file bytes fields addr size n at long below whole few many is =
     let rows : (addr + 1) * size ≤ fields.num_blocks * fields.block_size = rw (← long) (mul-le (addr + 1) size fields.num_blocks size (omega (arith, below)) (omega arith)) in
@@ -151,7 +151,7 @@ map_contents file fields size =
     rw (same, at) refl)
 
 -- these blocks are in the file
-pub map_inside : (file : List ℕ) (fields : Fields) → first_failing (directory_block_checks file fields) ≡ None → fields.num_blocks * fields.block_size ≤ length file
+pub map_inside : (file : List ℕ) (fields : Fields) → first_failing (directory_block_checks file fields) ≡ None → HoldsBlocks file fields
     → AreInside file fields.block_size (map_numbers file fields)
 map_inside file fields held whole k lt =
     let count = directory_blocks fields in

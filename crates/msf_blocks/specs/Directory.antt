@@ -6,7 +6,7 @@ use Rattle.byte_fields.specs.Check.{Check, Refuses, checks_below, first_failing}
 use Rattle.byte_io.specs.At.{Bytes, AreGiven}
 use Rattle.msf_blocks.specs.BlockNumber.{blocks_for, IsOrdinary, is_ordinary}
 use Rattle.msf_blocks.specs.Blocks.{AreGivenIn}
-use Rattle.msf_blocks.specs.Superblock.{Fields}
+use Rattle.msf_blocks.specs.Superblock.{HoldsBlocks, Fields}
 use Rattle.msf_blocks.specs.declared.fault.MsfFault.{MsfFault}
 use Rattle.msf_blocks.specs.declared.fault.MsfFault.TheVariants.{DirectoryBlock, DirectoryShort, StreamBlock, Memory}
 use Rattle.msf_blocks.specs.declared.directory.Place.{Place}
@@ -98,7 +98,7 @@ pub record DirectoryView : Type 0 where
 
 -- the blocks of the directory are in the file
 pub record IsReadable (file : List ℕ) (fields : Fields) : Type 0 where
-  pub whole : fields.num_blocks * fields.block_size ≤ length file
+  pub whole : HoldsBlocks file fields
   pub blocks : first_failing (directory_block_checks file fields) ≡ None
 
 -- the contents of a directory, which are in the blocks of a file or in a buffer

@@ -29,6 +29,10 @@ pub record IsFit (fields : Fields) : Type 0 where
   pub directory_fits : blocks_for fields.block_size fields.directory_bytes ≤ fields.block_size / 4
   pub block_map_fits : IsOrdinary fields.num_blocks fields.block_map_addr
 
+-- the file has all the blocks that the superblock counts
+abbrev pub HoldsBlocks : List ℕ → Fields → Type 0
+HoldsBlocks file fields = fields.num_blocks * fields.block_size ≤ length file
+
 -- the file begins with a superblock with these fields, and has the blocks that it announces
 pub record IsSuperblock (file : List ℕ) (fields : Fields) : Type 0 where
   pub long : 56 ≤ length file
@@ -39,7 +43,7 @@ pub record IsSuperblock (file : List ℕ) (fields : Fields) : Type 0 where
   pub directory_bytes_is : number_at 4 file 44 ≡ fields.directory_bytes
   pub unknown_is : number_at 4 file 48 ≡ fields.unknown
   pub block_map_addr_is : number_at 4 file 52 ≡ fields.block_map_addr
-  pub whole : fields.num_blocks * fields.block_size ≤ length file
+  pub whole : HoldsBlocks file fields
   pub fit : IsFit fields
 
 -- the numbers at the offsets of the fields of a superblock

@@ -7,6 +7,7 @@ ghost use Rattle.byte_fields.specs.Bytes.{AreBytes};
 ghost use Rattle.byte_fields.specs.Check.{Makes, checks_below};
 ghost use Rattle.msf_blocks.specs.BlockNumber.{IsBlockSize, block_numbers};
 ghost use Rattle.msf_blocks.specs.Directory.{IsReadable, map_number, directory_blocks, directory_block_checks, directory_contents, bytes_of, stream_blocks, list_start, length_checks, stream_checks};
+ghost use Rattle.msf_blocks.specs.Superblock.{HoldsBlocks};
 
 use crate::block_number::{blocks_for, is_ordinary};
 use crate::block_size::BlockSize;
@@ -57,7 +58,7 @@ impl<'a> Model for Directory<'a> {
 /// The number at a position of the block map.
 #[tactic(auto, unfolding(crate::specs::Directory::map_number))]
 fn map_number(file: &[u8], superblock: &Superblock, position: u32) -> u32
-    requires whole { superblock.now.num_blocks * superblock.now.block_size ≤ length file.now }
+    requires whole { HoldsBlocks file.now superblock.now }
     requires below { position < directory_blocks superblock.now }
     ensures { result ≡ map_number file.now superblock.now position }
 {
@@ -68,7 +69,7 @@ fn map_number(file: &[u8], superblock: &Superblock, position: u32) -> u32
 /// Checks the numbers in the block map.
 #[tactic(auto, unfolding(crate::specs::Directory::directory_block_checks))]
 fn check_block_map(file: &[u8], superblock: &Superblock) -> Result<(), MsfFault>
-    requires { superblock.now.num_blocks * superblock.now.block_size ≤ length file.now }
+    requires { HoldsBlocks file.now superblock.now }
     ensures { Makes result (directory_block_checks file.now superblock.now) }
 {
     for at in 0..blocks_for(superblock.block_size(), superblock.directory_bytes()) {
@@ -100,7 +101,7 @@ impl<'a> Directory<'a> {
     /// the directory's blocks.
     #[tactic(auto, using(crate::proofs::DirectoryLaws::contents_length))]
     pub fn find(file: &'a [u8], superblock: Superblock) -> Result<Directory<'a>, MsfFault>
-        requires { superblock.num_blocks * superblock.block_size ≤ length file.now }
+        requires { HoldsBlocks file.now superblock }
         ensures superblock { IfOk result (λ d. d.superblock ≡ superblock) }
         ensures contents { IfOk result (λ d. d.contents ≡ directory_contents file.now superblock) }
         ensures short { IfOk result (λ d. length d.contents < 2 ^ 32) }

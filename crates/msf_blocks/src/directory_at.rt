@@ -7,6 +7,7 @@ ghost use Rattle.byte_fields.specs.Number.{number_at, four_bytes, nth_u32};
 ghost use Rattle.byte_fields.specs.Check.{Makes, first_failing, checks_below};
 ghost use Rattle.byte_io.specs.At.{AreGiven, Breaks, IfKnown, IfOf};
 ghost use Rattle.msf_blocks.specs.Directory.{AreMapNumbers, HasContents, IsBlockMap, IsNumberGiven, IsDirectoryNumber, IsReadable, IsDirectoryFault, HasSize, HasSizes, HasRoom, LacksRoom, HasBlocks, HasLists, HasBlockMap, BlockMapRefuses, ListRefuses, ContentsRefuse, DirectoryRefuses, map_number, map_start, map_numbers, number_checks, directory_blocks, directory_block_checks, directory_checks, directory_contents, list_start, length_checks, stream_blocks, stream_checks};
+ghost use Rattle.msf_blocks.specs.Superblock.{HoldsBlocks};
 
 use crate::block_number::{blocks_for, is_ordinary};
 use crate::blocks::read_blocks;
@@ -45,8 +46,7 @@ fn read_number<R: ReadAt>(input: &mut R, offset: u64) -> Option<u32>
 /// The number at a position of the block map.
 #[tactic(auto, unfolding(crate::specs::Directory::map_number))]
 fn read_map_number<R: ReadAt>(input: &mut R, superblock: &Superblock, position: u32) -> Option<u32>
-    requires whole { IfKnown (R.bytes input.old) (λ file.
-        superblock.now.num_blocks * superblock.now.block_size ≤ length file) }
+    requires whole { IfKnown (R.bytes input.old) (λ file. HoldsBlocks file superblock.now) }
     requires below { position < directory_blocks superblock.now }
     ensures keeps { R.bytes input.new ≡ R.bytes input.old }
     ensures value { IfSome result (λ n.
@@ -61,8 +61,7 @@ fn read_map_number<R: ReadAt>(input: &mut R, superblock: &Superblock, position: 
 
 /// Checks the numbers in the block map.
 fn check_map<R: ReadAt>(input: &mut R, superblock: &Superblock) -> Result<(), AtFault<MsfFault>>
-    requires whole { IfKnown (R.bytes input.old) (λ file.
-        superblock.now.num_blocks * superblock.now.block_size ≤ length file) }
+    requires whole { IfKnown (R.bytes input.old) (λ file. HoldsBlocks file superblock.now) }
     ensures keeps { R.bytes input.new ≡ R.bytes input.old }
     ensures held { OnOk result (IfKnown (R.bytes input.old) (λ file.
         first_failing (directory_block_checks file superblock.now) ≡ None)) }
@@ -407,8 +406,7 @@ fn check_directory<R: ReadAt>(
 /// The fault of a directory for which memory was refused. This does not allocate: it checks one
 /// number at a time, and `Memory` is left where all checks hold.
 fn fault_without_memory<R: ReadAt>(input: &mut R, superblock: &Superblock) -> AtFault<MsfFault>
-    requires { IfKnown (R.bytes input.old) (λ file.
-        superblock.now.num_blocks * superblock.now.block_size ≤ length file) }
+    requires { IfKnown (R.bytes input.old) (λ file. HoldsBlocks file superblock.now) }
     ensures keeps { R.bytes input.new ≡ R.bytes input.old }
     ensures first { IfOf
         (λ fault.
@@ -446,8 +444,7 @@ fn read_map<R: ReadAt, A: Allocator + Copy>(
     input: &mut R,
     superblock: &Superblock,
 ) -> Result<Vec<u32, A>, ReadFault>
-    requires { IfKnown (R.bytes input.old) (λ file.
-        superblock.now.num_blocks * superblock.now.block_size ≤ length file) }
+    requires { IfKnown (R.bytes input.old) (λ file. HoldsBlocks file superblock.now) }
     ensures keeps { R.bytes input.new ≡ R.bytes input.old }
     ensures len { IfOk result (λ v. length v.items ≡ directory_blocks superblock.now) }
     ensures value { IfOk result (λ v.
@@ -486,8 +483,7 @@ fn read_numbers<R: ReadAt, A: Allocator + Copy>(
     input: &mut R,
     superblock: &Superblock,
 ) -> Result<Vec<u32, A>, AtFault<MsfFault>>
-    requires { IfKnown (R.bytes input.old) (λ file.
-        superblock.now.num_blocks * superblock.now.block_size ≤ length file) }
+    requires { IfKnown (R.bytes input.old) (λ file. HoldsBlocks file superblock.now) }
     ensures keeps { R.bytes input.new ≡ R.bytes input.old }
     ensures value { IfOk result (λ v.
         IfKnown (R.bytes input.old) (λ file. v.items ≡ map_numbers file superblock.now)) }
@@ -521,8 +517,7 @@ pub fn read_contents<R: ReadAt, A: Allocator + Copy>(
     input: &mut R,
     superblock: &Superblock,
 ) -> Result<Vec<u8, A>, AtFault<MsfFault>>
-    requires { IfKnown (R.bytes input.old) (λ file.
-        superblock.now.num_blocks * superblock.now.block_size ≤ length file) }
+    requires { IfKnown (R.bytes input.old) (λ file. HoldsBlocks file superblock.now) }
     ensures keeps { R.bytes input.new ≡ R.bytes input.old }
     ensures value { IfOk result (λ contents. IfKnown (R.bytes input.old) (λ file.
         contents.items ≡ directory_contents file superblock.now)) }

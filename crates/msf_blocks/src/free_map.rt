@@ -4,6 +4,7 @@
 ghost use Rattle.std.specs.Prelude.{◌≡◌, ◌⊎◌, ◌<◌, ◌≤◌, ◌+◌, ◌*◌, ◌/◌, ◌%◌, ◌^◌, ◌↔◌, length, IsTrue, IfSome, IfNone};
 ghost use Rattle.msf_blocks.specs.BlockNumber.{IsBlockSize};
 ghost use Rattle.msf_blocks.specs.FreeMap.{is_free, map_block_of, map_byte, map_block};
+ghost use Rattle.msf_blocks.specs.Superblock.{HoldsBlocks};
 
 use crate::superblock::Superblock;
 
@@ -21,7 +22,7 @@ fn is_set(byte: u8, bit: u32) -> bool
 /// the file. This does not allocate. ("The MSF File Format", "The Free Block Map".)
 #[tactic(auto, using(crate::proofs::SizeLaws::size_facts))]
 pub fn free_bit(file: &[u8], superblock: &Superblock, n: u32) -> Option<bool>
-    requires { superblock.now.num_blocks * superblock.now.block_size ≤ length file.now }
+    requires { HoldsBlocks file.now superblock.now }
     ensures value { IfSome result (λ free. free ≡ is_free file.now superblock.now n) }
     ensures inside { IfSome result (λ _. (n < superblock.now.num_blocks)
         × (map_block_of superblock.now n < superblock.now.num_blocks)) }

@@ -1,5 +1,5 @@
 -- A stream that is read by position.
-use Rattle.std.proofs.Common.{◌≡◌, ◌∙◌, ℕ, ◌+◌, ◌*◌, ◌≤◌, List, Some, length, get_or, ap, refl, arith}
+use Rattle.std.proofs.Common.{◌≡◌, ◌∙◌, ℕ, ◌+◌, List, Some, length, get_or, ap, refl, arith}
 use Rattle.std.specs.Prelude.{slice_get, option_map}
 use Rattle.std.proofs.lemmas.Nat.{mul-le}
 use Rattle.std.proofs.lemmas.List.Elements.{All-get_or}
@@ -7,13 +7,14 @@ use Rattle.byte_io.specs.At.{Bytes}
 use Rattle.msf_blocks.specs.BlockNumber.{IsOrdinary, blocks_for}
 use Rattle.msf_blocks.specs.Blocks.{AreGivenIn, AreInside, in_blocks}
 use Rattle.msf_blocks.specs.Layout.{LayoutView}
+use Rattle.msf_blocks.specs.Superblock.{HoldsBlocks}
 use Rattle.msf_streams.specs.Streams.{WasRead, gathered, stream_contents}
 use Rattle.msf_streams.proofs.LentLaws.{IsSized}
 
 -- the blocks of a stream, and what is in them
 pub record AreBlocks (layout : LayoutView) (s size : ℕ) (blocks : List ℕ) : Type 0 where
   pub count : length blocks ≡ blocks_for layout.superblock.block_size size
-  pub inside : (file : List ℕ) → layout.superblock.num_blocks * layout.superblock.block_size ≤ length file → AreInside file layout.superblock.block_size blocks
+  pub inside : (file : List ℕ) → HoldsBlocks file layout.superblock → AreInside file layout.superblock.block_size blocks
   pub contents : (file : List ℕ) → stream_contents file layout s ≡ Some (in_blocks file layout.superblock.block_size blocks size)
 
 pub are_blocks : (layout : LayoutView) (s size : ℕ) (blocks : List ℕ) → IsSized layout s size → Some blocks ≡ option_map (λ l. l.blocks) (slice_get layout.streams s) → AreBlocks layout s size blocks

@@ -12,6 +12,7 @@ use Rattle.msf_blocks.specs.Layout.{LayoutView, IsLayout, block_of}
 use Rattle.msf_blocks.proofs.SizeLaws.{some_bytes, ceil_ge, place_below}
 use Rattle.msf_streams.specs.Streams.{gathered, blocks_in, stream_contents, AreConsecutive}
 use Rattle.msf_blocks.proofs.RangeLaws.{map-same_ranges, part_by_places}
+use Rattle.msf_blocks.specs.Superblock.{HoldsBlocks}
 use Rattle.msf_streams.proofs.PieceLaws.{none_for, no_stream, stream_at}
 
 -- the contents in consecutive blocks are the bytes from the first of them on
@@ -79,7 +80,7 @@ pub record IsLentAt (file : List ℕ) (layout : LayoutView) (s size first : ℕ)
   pub inside : first * layout.superblock.block_size + size ≤ length file
   pub contents : stream_contents file layout s ≡ Some (take size (drop (first * layout.superblock.block_size) file))
 
-pub is_lent_at : (file : List ℕ) (layout : LayoutView) (s size first : ℕ) → IsLayout layout → layout.superblock.num_blocks * layout.superblock.block_size ≤ length file
+pub is_lent_at : (file : List ℕ) (layout : LayoutView) (s size first : ℕ) → IsLayout layout → HoldsBlocks file layout.superblock
     → option_map (λ l. bytes_of l.size) (slice_get layout.streams s) ≡ Some size → block_of layout.streams s 0 ≡ Some first → AreConsecutive (blocks_in (slice_get layout.streams s)) → IsLentAt file layout s size first
 is_lent_at file layout s size first holds whole e there each =
     let sized = is_sized layout s size holds e in

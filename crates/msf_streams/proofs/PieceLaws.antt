@@ -10,7 +10,7 @@ use Rattle.std.proofs.lemmas.List.{append-nil, drop_more, drop_all, nil_from_len
 use Rattle.std.proofs.lemmas.List.Elements.{All-head, All-tail, All-get_or, All-from_get_or}
 use Rattle.msf_blocks.specs.BlockNumber.{IsBlockSize, IsOrdinary, blocks_for}
 use Rattle.msf_blocks.proofs.SizeLaws.{size_facts, some_bytes, few_for}
-use Rattle.msf_blocks.specs.Superblock.{Fields}
+use Rattle.msf_blocks.specs.Superblock.{HoldsBlocks, Fields}
 use Rattle.msf_blocks.specs.Directory.{Listed, IsListed, bytes_of}
 use Rattle.msf_blocks.specs.Layout.{LayoutView, IsLayout, block_in, block_of}
 use Rattle.msf_streams.specs.Streams.{FirstIsLong, gathered, pieces, blocks_in, pieces_from, stream_pieces, stream_contents}
@@ -170,13 +170,13 @@ listed_block layout s position block holds e = elim (cases_lt s (length layout.s
 ]
 
 -- an ordinary block is in the file as a whole
-pub block_fits : (file : List ℕ) (fields : Fields) (block : ℕ) → fields.num_blocks * fields.block_size ≤ length file → IsOrdinary fields.num_blocks block
+pub block_fits : (file : List ℕ) (fields : Fields) (block : ℕ) → HoldsBlocks file fields → IsOrdinary fields.num_blocks block
     → block * fields.block_size + fields.block_size ≤ length file
 block_fits file fields block whole ordinary =
     let le : (block + 1) * fields.block_size ≤ fields.num_blocks * fields.block_size = mul-le _ _ _ _ (omega (arith, ordinary.1)) (omega arith) in omega (arith, le)
 
 -- each block of a stream is in the file as a whole
-blocks_fit : (file : List ℕ) (fields : Fields) (stream : Listed) → fields.num_blocks * fields.block_size ≤ length file → IsListed fields stream → All (IsWhole file fields.block_size) stream.blocks
+blocks_fit : (file : List ℕ) (fields : Fields) (stream : Listed) → HoldsBlocks file fields → IsListed fields stream → All (IsWhole file fields.block_size) stream.blocks
 blocks_fit file fields stream whole fits = All-from_get_or (IsWhole file fields.block_size) stream.blocks 0 (λ i below.
     let ordinary = All-get_or (IsOrdinary fields.num_blocks) stream.blocks i 0 below fits.ordinary in
     let inside = block_fits file fields (get_or stream.blocks i 0) whole ordinary in omega (arith, inside))
@@ -185,7 +185,7 @@ blocks_fit file fields stream whole fits = All-from_get_or (IsWhole file fields.
 
 -- the joined pieces of a stream are its contents
 pub pieces_bytes : (file : List ℕ) (layout : LayoutView) (s : ℕ) (found : Option (List (List ℕ))) → IsLayout layout
-    → layout.superblock.num_blocks * layout.superblock.block_size ≤ length file → found ≡ stream_pieces file layout s → IfSome found (λ p. stream_contents file layout s ≡ Some (concat p))
+    → HoldsBlocks file layout.superblock → found ≡ stream_pieces file layout s → IfSome found (λ p. stream_contents file layout s ≡ Some (concat p))
 pieces_bytes file layout s found holds whole e = elim (cases_lt s (length layout.streams)) [
   | inl below ↦
       let stream = get_or layout.streams s no_stream in
@@ -215,7 +215,7 @@ first_long file block_size size (block ∷ blocks) is long whole =
 
 -- the first piece of a stream has at least 512 bytes, or all of them
 pub pieces_first : (file : List ℕ) (layout : LayoutView) (s : ℕ) (found : Option (List (List ℕ))) → IsLayout layout
-    → layout.superblock.num_blocks * layout.superblock.block_size ≤ length file → found ≡ stream_pieces file layout s → IfSome found FirstIsLong
+    → HoldsBlocks file layout.superblock → found ≡ stream_pieces file layout s → IfSome found FirstIsLong
 pieces_first file layout s found holds whole e = elim (cases_lt s (length layout.streams)) [
   | inl below ↦
       let stream = get_or layout.streams s no_stream in

@@ -2,6 +2,7 @@
 
 ghost use Rattle.std.specs.Prelude.{◌≡◌, ◌⊎◌, ◌≤◌, ◌<◌, ◌*◌, length, Some, OnOk, IfErr};
 ghost use Rattle.byte_io.specs.At.{Breaks, IfKnown, IfOf};
+ghost use Rattle.msf_blocks.specs.Superblock.{HoldsBlocks};
 ghost use Rattle.msf_streams.specs.Streams.{WasRead, stream_contents};
 
 use crate::fault::StreamFault;
@@ -22,8 +23,7 @@ pub fn gather_at<R: ReadAt, A: Allocator, L: Allocator>(
     s: u32,
     buffer: &mut Vec<u8, A>,
 ) -> Result<(), AtFault<StreamFault>>
-    requires { IfKnown (R.bytes input.old) (λ file.
-        layout.now.superblock.num_blocks * layout.now.superblock.block_size ≤ length file) }
+    requires { IfKnown (R.bytes input.old) (λ file. HoldsBlocks file layout.now.superblock) }
     ensures keeps { R.bytes input.new ≡ R.bytes input.old }
     ensures value { OnOk result (IfKnown (R.bytes input.old) (λ file.
         stream_contents file layout.now s ≡ Some buffer.new.items)) }

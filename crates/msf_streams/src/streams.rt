@@ -18,6 +18,7 @@ ghost use Rattle.std.specs.Iterator.{YieldsFirstRef, item_count};
 ghost use Rattle.msf_blocks.specs.BlockNumber.{blocks_for};
 ghost use Rattle.msf_blocks.specs.Directory.{bytes_of};
 ghost use Rattle.msf_blocks.specs.Layout.{IsLayout, block_of};
+ghost use Rattle.msf_blocks.specs.Superblock.{HoldsBlocks};
 ghost use Rattle.msf_streams.specs.Streams.{AreConsecutive, FirstIsLong, IsOnePart, blocks_in, stream_pieces, stream_contents, pieces_from};
 
 use crate::fault::StreamFault;
@@ -37,8 +38,7 @@ pub fn pieces<'a, A: Allocator>(
     layout: &'a Layout<A>,
     s: u32,
 ) -> Option<StreamPieces<'a, A>>
-    requires { layout.now.superblock.num_blocks * layout.now.superblock.block_size
-        ≤ length file.now }
+    requires { HoldsBlocks file.now layout.now.superblock }
     ensures value { result ≡ stream_pieces file.now layout.now s }
     ensures bytes { IfSome result (λ p. stream_contents file.now layout.now s ≡ Some (concat p)) }
     ensures count { IfSome result (λ p. IfSome (slice_get layout.now.streams s) (λ stream.
@@ -66,8 +66,7 @@ pub fn gather<A: Allocator + Copy, L: Allocator>(
     layout: &Layout<L>,
     s: u32,
 ) -> Result<Vec<u8, A>, StreamFault>
-    requires { layout.now.superblock.num_blocks * layout.now.superblock.block_size
-        ≤ length file.now }
+    requires { HoldsBlocks file.now layout.now.superblock }
     ensures value { IfOk result (λ v. stream_contents file.now layout.now s ≡ Some v.items) }
     ensures found { s < length layout.now.streams →
         IfErr result (λ fault. fault ≡ StreamFault.Memory) }
@@ -106,8 +105,7 @@ fn are_consecutive<A: Allocator>(layout: &Layout<A>, s: u32, first: u32, count: 
 /// the stream's list. A nil stream and an empty stream give an empty part. `layout` has to be the
 /// layout of `file`. This does not allocate. ("The MSF File Format", "The Stream Directory".)
 pub fn lent<'a, A: Allocator>(file: &'a [u8], layout: &Layout<A>, s: u32) -> Option<&'a [u8]>
-    requires { layout.now.superblock.num_blocks * layout.now.superblock.block_size
-        ≤ length file.now }
+    requires { HoldsBlocks file.now layout.now.superblock }
     ensures value { IfSome result (λ part. stream_contents file.now layout.now s ≡ Some part.now) }
     ensures some { IfSome result (λ _. IsOnePart layout.now s) }
     ensures none { IfNone result (IsOnePart layout.now s → ⊥) }
@@ -136,8 +134,7 @@ pub fn contents<'a, A: Allocator + Copy, L: Allocator>(
     s: u32,
     buffer: &'a mut Vec<u8, A>,
 ) -> Result<&'a [u8], StreamFault>
-    requires { layout.now.superblock.num_blocks * layout.now.superblock.block_size
-        ≤ length file.now }
+    requires { HoldsBlocks file.now layout.now.superblock }
     ensures value { IfOk result (λ bytes. stream_contents file.now layout.now s ≡ Some bytes.now) }
     ensures found { s < length layout.now.streams →
         IfErr result (λ fault. fault ≡ StreamFault.Memory) }
@@ -168,23 +165,21 @@ pub struct StreamPieces<'a, A: Allocator = Global> {
 }
 
 impl<'a, A: Allocator> Model for StreamPieces<'a, A> {
-    ghost use Rattle.std.specs.Prelude.{ℕ, ◌*◌, ◌≤◌, List, length};
+    ghost use Rattle.std.specs.Prelude.{ℕ, List};
+    ghost use Rattle.msf_blocks.specs.Superblock.{HoldsBlocks};
     ghost use Rattle.msf_streams.specs.Streams.{pieces_from};
 
     ghost Value = { List (List ℕ) };
 
     ghost view = { λ p. pieces_from p.file.now p.layout.now p.stream p.position p.left };
 
-    ghost invariant = { λ p.
-        p.layout.now.superblock.num_blocks * p.layout.now.superblock.block_size
-        ≤ length p.file.now };
+    ghost invariant = { λ p. HoldsBlocks p.file.now p.layout.now.superblock };
 }
 
 impl<'a, A: Allocator> StreamPieces<'a, A> {
     /// All the pieces of the `s`-th stream.
     fn new(file: &'a [u8], layout: &'a Layout<A>, s: u32) -> Option<StreamPieces<'a, A>>
-        requires { layout.now.superblock.num_blocks * layout.now.superblock.block_size
-            ≤ length file.now }
+        requires { HoldsBlocks file.now layout.now.superblock }
         ensures value { result ≡ stream_pieces file.now layout.now s }
         ensures fits { IsLayout layout.now }
     {
@@ -232,8 +227,7 @@ fn piece<'a, A: Allocator>(
     position: u32,
     left: u32,
 ) -> Option<&'a [u8]>
-    requires { layout.now.superblock.num_blocks * layout.now.superblock.block_size
-        ≤ length file.now }
+    requires { HoldsBlocks file.now layout.now.superblock }
     ensures some { IfSome result (λ p.
         pieces_from file.now layout.now s position left
         ≡ p.now ∷ pieces_from file.now layout.now s (position + 1)

@@ -5,6 +5,7 @@ ghost use Rattle.byte_io.specs.At.{Breaks, IfKnown};
 ghost use Rattle.msf_blocks.specs.BlockNumber.{IsBlockSize};
 ghost use Rattle.msf_blocks.specs.FreeMap.{is_free, map_block_of, blocks_per_map_block};
 ghost use Rattle.msf_blocks.specs.Layout.{HasLayout};
+ghost use Rattle.msf_blocks.specs.Superblock.{HoldsBlocks};
 ghost use Rattle.pdb_commands.specs.Show.{Answers, AnswersAt};
 ghost use Rattle.pdb_commands.specs.Streams.{HasLayoutFault, HasMap, IsFreeCount, IsMapGiven, IsMark, RefusesStreams, RefusesStreamsRead, ShowsStreams, ShowsStreamsRead, bit_of, free_blocks, is_free_by};
 
@@ -18,7 +19,7 @@ use std::alloc::Allocator;
 
 /// Whether a block of the file is free, by the map that the superblock names.
 fn is_free(file: &[u8], superblock: &Superblock, block: u32) -> bool
-    requires whole { superblock.now.num_blocks * superblock.now.block_size ≤ length file.now }
+    requires whole { HoldsBlocks file.now superblock.now }
     requires below { block < superblock.now.num_blocks }
     ensures { result ≡ is_free file.now superblock.now block }
 {
@@ -32,7 +33,7 @@ fn is_free(file: &[u8], superblock: &Superblock, block: u32) -> bool
 /// How many blocks of the file are free, by the map that the superblock names.
 #[tactic(auto, using(crate::proofs::StreamsLaws::count_yes, crate::proofs::StreamsLaws::count_no), unfolding(crate::specs::Streams::free_blocks))]
 fn free_blocks(file: &[u8], superblock: &Superblock) -> u32
-    requires { superblock.now.num_blocks * superblock.now.block_size ≤ length file.now }
+    requires { HoldsBlocks file.now superblock.now }
     ensures { result ≡ free_blocks file.now superblock.now }
 {
     let mut free = 0;
@@ -80,8 +81,7 @@ fn read_map<R: ReadAt>(
     block: u32,
     page: &mut [u8],
 ) -> Option<()>
-    requires whole { IfKnown (R.bytes input.old) (λ file.
-        superblock.now.num_blocks * superblock.now.block_size ≤ length file) }
+    requires whole { IfKnown (R.bytes input.old) (λ file. HoldsBlocks file superblock.now) }
     requires room { length page.old ≡ superblock.now.block_size }
     ensures keeps { R.bytes input.new ≡ R.bytes input.old }
     ensures room { length page.new ≡ superblock.now.block_size }
@@ -107,8 +107,7 @@ fn turn_page<R: ReadAt>(
     block: u32,
     page: &mut [u8],
 ) -> Option<()>
-    requires whole { IfKnown (R.bytes input.old) (λ file.
-        superblock.now.num_blocks * superblock.now.block_size ≤ length file) }
+    requires whole { IfKnown (R.bytes input.old) (λ file. HoldsBlocks file superblock.now) }
     requires room { length page.old ≡ superblock.now.block_size }
     requires map { IfKnown (R.bytes input.old) (λ file.
         (block % blocks_per_map_block superblock.now ≡ 0 → ⊥) →
@@ -136,8 +135,7 @@ fn is_free_at<R: ReadAt>(
     block: u32,
     page: &mut [u8],
 ) -> Option<bool>
-    requires whole { IfKnown (R.bytes input.old) (λ file.
-        superblock.now.num_blocks * superblock.now.block_size ≤ length file) }
+    requires whole { IfKnown (R.bytes input.old) (λ file. HoldsBlocks file superblock.now) }
     requires room { length page.old ≡ superblock.now.block_size }
     requires map { IfKnown (R.bytes input.old) (λ file.
         (block % blocks_per_map_block superblock.now ≡ 0 → ⊥) →
@@ -163,8 +161,7 @@ fn is_free_at<R: ReadAt>(
 /// How many blocks of a file that is read by position are free, by the map that the superblock
 /// names. Of the file only this map is read, a block at a time into the page.
 fn free_blocks_at<R: ReadAt>(input: &mut R, superblock: &Superblock, page: &mut [u8]) -> Option<u32>
-    requires whole { IfKnown (R.bytes input.old) (λ file.
-        superblock.now.num_blocks * superblock.now.block_size ≤ length file) }
+    requires whole { IfKnown (R.bytes input.old) (λ file. HoldsBlocks file superblock.now) }
     requires room { length page.old ≡ superblock.now.block_size }
     ensures keeps { R.bytes input.new ≡ R.bytes input.old }
     ensures value { IfSome result (λ free.

@@ -5,6 +5,7 @@ ghost use Rattle.byte_fields.specs.Bytes.{AreBytes};
 ghost use Rattle.byte_fields.specs.Check.{first_failing};
 ghost use Rattle.byte_io.specs.At.{Breaks, IfKnown, IfOf};
 ghost use Rattle.msf_blocks.specs.Layout.{LayoutView, HasLayout, HasTexts, layout_checks};
+ghost use Rattle.msf_blocks.specs.Superblock.{HoldsBlocks};
 ghost use Rattle.pdb_merge.specs.Read.{RecordsWereRead, ListsLongInfo, ListsTypes, HasPdbFault, HasTypeRecords, ListsRecords, HasRecordsFault, HasStreamFault, HasLongInfo, HasInfoFault, IsLayoutFault, HasInfoFaultRead, HasStreamFaultRead, HasPdbFaultRead, IsLayoutFaultRead, HasFaultOfTexts};
 
 use crate::fault::PdbFault;
@@ -111,8 +112,7 @@ impl<A: Allocator + Copy> Buffer<A> {
         file: &'a [u8],
         layout: &Layout<A>,
     ) -> Result<Records<'a, A>, PdbFault<A>>
-        requires { layout.now.superblock.num_blocks * layout.now.superblock.block_size
-            ≤ length file.now }
+        requires { HoldsBlocks file.now layout.now.superblock }
         ensures value { IfOk result (ListsRecords file.now layout.now) }
         ensures first { IfErr result (λ fault.
             HasStreamFault file.now layout.now fault ⊎ (fault ≡ PdbFault.Memory)) }
@@ -168,8 +168,7 @@ impl<A: Allocator + Copy> Buffer<A> {
         input: &mut R,
         layout: &Layout<A>,
     ) -> Result<Records<'a, A>, AtFault<PdbFault<A>>>
-        requires { IfKnown (R.bytes input.old) (λ file.
-            layout.now.superblock.num_blocks * layout.now.superblock.block_size ≤ length file) }
+        requires { IfKnown (R.bytes input.old) (λ file. HoldsBlocks file layout.now.superblock) }
         ensures keeps { R.bytes input.new ≡ R.bytes input.old }
         ensures value { IfOk result (λ records.
             IfKnown (R.bytes input.old) (λ file. ListsRecords file layout.now records)) }

@@ -161,7 +161,7 @@ impl<S: BuildHasher, A: Allocator + Copy> Merge<S, A> {
         ensures stops { IfErr result (λ fault.
             (files : List (List ℕ)) → HasTaken self.old files →
             IsMergeFault (files ++ file.now ∷ []) self.old.limit
-                (merge_from_add (length files) fault)) }
+            (merge_from_add (length files) fault)) }
         // A file that can be merged with them, and with others after it, is refused only when out
         // of memory.
         ensures found { IfErr result (λ fault.
@@ -215,7 +215,7 @@ impl<S: BuildHasher, A: Allocator + Copy> Merge<S, A> {
         ensures stops { IfErr result (IfOf (λ fault. IfKnown (R.bytes input.old) (λ file.
             (files : List (List ℕ)) → HasTaken self.old files →
             IsMergeFault (files ++ file ∷ []) self.old.limit
-                (merge_from_add (length files) fault)))) }
+            (merge_from_add (length files) fault)))) }
         // A file that can be merged with them, and with others after it, is refused only when out
         // of memory.
         ensures found { IfErr result (IfOf (λ fault. IfKnown (R.bytes input.old) (λ file.
