@@ -101,15 +101,20 @@ pub record IsReadable (file : List ℕ) (fields : Fields) : Type 0 where
   pub whole : HoldsBlocks file fields
   pub blocks : first_failing (directory_block_checks file fields) ≡ None
 
+-- the superblock of a file whose directory is in its blocks or in a buffer
+abbrev pub superblock_in : Place → Fields
+superblock_in (Blocks file) = file.superblock
+superblock_in (Gathered fields contents) = fields
+
 -- the contents of a directory, which are in the blocks of a file or in a buffer
-abbrev pub contents_in : Place → Fields → List ℕ
-contents_in (Blocks file) fields = directory_contents file.now fields
-contents_in (Gathered contents) fields = contents.now
+abbrev pub contents_in : Place → List ℕ
+contents_in (Blocks file) = directory_contents file.bytes file.superblock
+contents_in (Gathered fields contents) = contents.now
 
 -- the directory is there as a whole
-abbrev pub IsThere : Place → Fields → Type 0
-IsThere (Blocks file) fields = IsReadable file.now fields
-IsThere (Gathered contents) fields = length contents.now ≡ fields.directory_bytes
+abbrev pub IsThere : Place → Type 0
+IsThere (Blocks file) = IsReadable file.bytes file.superblock
+IsThere (Gathered fields contents) = length contents.now ≡ fields.directory_bytes
 
 -- the numbers of the blocks of the directory
 abbrev pub map_numbers : List ℕ → Fields → List ℕ

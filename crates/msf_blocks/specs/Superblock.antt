@@ -33,6 +33,11 @@ pub record IsFit (fields : Fields) : Type 0 where
 abbrev pub HoldsBlocks : List ℕ → Fields → Type 0
 HoldsBlocks file fields = fields.num_blocks * fields.block_size ≤ length file
 
+-- contracts see a file with its superblock as its bytes and the fields of the superblock
+pub record BlockFileView : Type 0 where
+  pub bytes : List ℕ
+  pub superblock : Fields
+
 -- the file begins with a superblock with these fields, and has the blocks that it announces
 pub record IsSuperblock (file : List ℕ) (fields : Fields) : Type 0 where
   pub long : 56 ≤ length file

@@ -7,8 +7,8 @@ ghost use Rattle.byte_fields.specs.Bytes.{AreBytes};
 ghost use Rattle.byte_fields.specs.Check.{Makes, checks_below};
 ghost use Rattle.msf_blocks.specs.BlockNumber.{IsBlockSize, block_numbers};
 ghost use Rattle.msf_blocks.specs.Directory.{IsReadable, map_number, directory_blocks, directory_block_checks, directory_contents, bytes_of, stream_blocks, list_start, length_checks, stream_checks};
-ghost use Rattle.msf_blocks.specs.Superblock.{HoldsBlocks};
 
+use crate::block_file::BlockFile;
 use crate::block_number::{blocks_for, is_ordinary};
 use crate::block_size::BlockSize;
 use crate::fault::MsfFault;
@@ -28,12 +28,12 @@ pub fn bytes_of(size: u32) -> u32
 }
 
 /// Where the bytes of a directory are.
-#[derive(Clone, Copy)]
+#[derive(Drop)]
 pub enum Place<'a> {
     /// In the blocks of this file that the block map lists.
-    Blocks(&'a [u8]),
-    /// In this buffer, one after the other.
-    Gathered(&'a [u8]),
+    Blocks(BlockFile<'a>),
+    /// In this buffer, one after the other. The file begins with this superblock.
+    Gathered(Superblock, &'a [u8]),
 }
 
 /// A stream directory. Contracts see it as the values of the superblock and the contents of the
@@ -41,39 +41,38 @@ pub enum Place<'a> {
 #[derive(Drop)]
 pub struct Directory<'a> {
     place: Place<'a>,
-    superblock: Superblock,
 }
 
 impl<'a> Model for Directory<'a> {
-    ghost use Rattle.msf_blocks.specs.Directory.{DirectoryView, IsThere, contents_in};
+    ghost use Rattle.msf_blocks.specs.Directory.{DirectoryView, IsThere, contents_in, superblock_in};
 
     ghost Value = { DirectoryView };
 
     ghost view = { λ d.
-        record { superblock = d.superblock; contents = contents_in d.place d.superblock } };
+        record { superblock = superblock_in d.place; contents = contents_in d.place } };
 
-    ghost invariant = { λ d. IsThere d.place d.superblock };
+    ghost invariant = { λ d. IsThere d.place };
 }
 
 /// The number at a position of the block map.
 #[tactic(auto, unfolding(crate::specs::Directory::map_number))]
-fn map_number(file: &[u8], superblock: &Superblock, position: u32) -> u32
-    requires whole { HoldsBlocks file.now superblock.now }
-    requires below { position < directory_blocks superblock.now }
-    ensures { result ≡ map_number file.now superblock.now position }
+fn map_number(file: &BlockFile<'_>, position: u32) -> u32
+    requires { position < directory_blocks file.now.superblock }
+    ensures { result ≡ map_number file.now.bytes file.now.superblock position }
 {
+    let superblock = file.superblock();
     let start = superblock.block_map_addr() as usize * superblock.block_size() as usize;
-    u32_at(file, start + 4 * position as usize)
+    u32_at(file.bytes(), start + 4 * position as usize)
 }
 
 /// Checks the numbers in the block map.
 #[tactic(auto, unfolding(crate::specs::Directory::directory_block_checks))]
-fn check_block_map(file: &[u8], superblock: &Superblock) -> Result<(), MsfFault>
-    requires { HoldsBlocks file.now superblock.now }
-    ensures { Makes result (directory_block_checks file.now superblock.now) }
+fn check_block_map(file: &BlockFile<'_>) -> Result<(), MsfFault>
+    ensures { Makes result (directory_block_checks file.now.bytes file.now.superblock) }
 {
+    let superblock = file.superblock();
     for at in 0..blocks_for(superblock.block_size(), superblock.directory_bytes()) {
-        let n = map_number(file, superblock, at);
+        let n = map_number(file, at);
         if !is_ordinary(superblock.num_blocks(), n) {
             return Err(MsfFault::DirectoryBlock { at, n });
         }
@@ -83,34 +82,33 @@ fn check_block_map(file: &[u8], superblock: &Superblock) -> Result<(), MsfFault>
 
 /// The number at a position of a directory in the blocks of a file.
 #[tactic(auto, using(crate::proofs::DirectoryLaws::contents_length, crate::proofs::DirectoryLaws::nth_u32_is, crate::proofs::DirectoryLaws::nth_u32_block, crate::proofs::DirectoryLaws::nth_u32_fits, crate::proofs::SizeLaws::size_facts))]
-fn number_in_blocks(file: &[u8], superblock: &Superblock, position: u32) -> u32
-    requires readable { IsReadable file.now superblock.now }
-    requires inside { 4 * position + 4 ≤ length (directory_contents file.now superblock.now) }
-    ensures { result ≡ nth_u32 (directory_contents file.now superblock.now) position }
+fn number_in_blocks(file: &BlockFile<'_>, position: u32) -> u32
+    requires readable { IsReadable file.now.bytes file.now.superblock }
+    requires inside { 4 * position + 4
+        ≤ length (directory_contents file.now.bytes file.now.superblock) }
+    ensures { result ≡ nth_u32 (directory_contents file.now.bytes file.now.superblock) position }
 {
-    let block_size = superblock.block_size();
+    let block_size = file.superblock().block_size();
     let offset = 4 * position;
-    let block = map_number(file, superblock, offset / block_size);
+    let block = map_number(file, offset / block_size);
     let start = block as usize * block_size as usize;
     // The size of a block is a multiple of four, so no number crosses the end of a block.
-    u32_at(file, start + (offset % block_size) as usize)
+    u32_at(file.bytes(), start + (offset % block_size) as usize)
 }
 
 impl<'a> Directory<'a> {
-    /// Finds the directory of a file that begins with this superblock, and checks the numbers of
-    /// the directory's blocks.
+    /// Finds the directory of a file, and checks the numbers of the directory's blocks.
     #[tactic(auto, using(crate::proofs::DirectoryLaws::contents_length))]
-    pub fn find(file: &'a [u8], superblock: Superblock) -> Result<Directory<'a>, MsfFault>
-        requires { HoldsBlocks file.now superblock }
-        ensures superblock { IfOk result (λ d. d.superblock ≡ superblock) }
-        ensures contents { IfOk result (λ d. d.contents ≡ directory_contents file.now superblock) }
+    pub fn find(file: BlockFile<'a>) -> Result<Directory<'a>, MsfFault>
+        ensures superblock { IfOk result (λ d. d.superblock ≡ file.entry.superblock) }
+        ensures contents { IfOk result (λ d.
+            d.contents ≡ directory_contents file.entry.bytes file.entry.superblock) }
         ensures short { IfOk result (λ d. length d.contents < 2 ^ 32) }
-        ensures first { Makes result (directory_block_checks file.now superblock) }
+        ensures first { Makes result (directory_block_checks file.entry.bytes file.entry.superblock) }
     {
-        check_block_map(file, &superblock)?;
+        check_block_map(&file)?;
         Ok(Directory {
             place: Place::Blocks(file),
-            superblock,
         })
     }
 
@@ -123,8 +121,7 @@ impl<'a> Directory<'a> {
         ensures small { AreBytes contents.now }
     {
         Directory {
-            place: Place::Gathered(contents),
-            superblock,
+            place: Place::Gathered(superblock, contents),
         }
     }
 
@@ -134,7 +131,10 @@ impl<'a> Directory<'a> {
         ensures value { result ≡ self.now.superblock }
         ensures len { length self.now.contents ≡ result.directory_bytes }
     {
-        self.superblock
+        match &self.place {
+            Place::Blocks(file) => *file.superblock(),
+            Place::Gathered(superblock, _) => *superblock,
+        }
     }
 
     /// The number at a position of the directory. The directory is a list of four-byte numbers.
@@ -143,9 +143,9 @@ impl<'a> Directory<'a> {
         requires { 4 * position + 4 ≤ length self.now.contents }
         ensures { result ≡ nth_u32 self.now.contents position }
     {
-        match self.place {
-            Place::Blocks(file) => number_in_blocks(file, &self.superblock, position),
-            Place::Gathered(contents) => u32_at(contents, 4 * position as usize),
+        match &self.place {
+            Place::Blocks(file) => number_in_blocks(file, position),
+            Place::Gathered(_, contents) => u32_at(contents, 4 * position as usize),
         }
     }
 

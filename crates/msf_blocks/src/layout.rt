@@ -10,6 +10,7 @@ ghost use Rattle.msf_blocks.specs.Directory.{directory_contents, list_start, lis
 ghost use Rattle.msf_blocks.specs.Layout.{LayoutView, HasLayout, HasTexts, TextsRefuse, IsLayout, block_of, layout_checks};
 ghost use Rattle.msf_blocks.specs.Stream.{listed_of};
 
+use crate::block_file::BlockFile;
 use crate::directory::{Directory, bytes_of};
 use crate::directory_at::read_contents;
 use crate::fault::MsfFault;
@@ -66,7 +67,7 @@ fn check(file: &[u8]) -> Result<(Directory<'_>, u32), MsfFault>
     ensures first { Makes result (layout_checks file.now) }
 {
     let superblock = Superblock::read(file)?;
-    let directory = Directory::find(file, superblock)?;
+    let directory = Directory::find(BlockFile::new(file, superblock))?;
     let streams = directory.check_length()?;
     directory.check_streams(streams)?;
     Ok((directory, streams))

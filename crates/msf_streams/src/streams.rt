@@ -22,7 +22,7 @@ ghost use Rattle.msf_blocks.specs.Superblock.{HoldsBlocks};
 ghost use Rattle.msf_streams.specs.Streams.{AreConsecutive, FirstIsLong, IsOnePart, blocks_in, stream_pieces, stream_contents, pieces_from};
 
 use crate::fault::StreamFault;
-use msf_blocks::{Layout, blocks_for};
+use msf_blocks::{Container, Layout, blocks_for};
 use std::alloc::{Allocator, Global};
 use std::marker::Model;
 
@@ -47,7 +47,7 @@ pub fn pieces<'a, A: Allocator>(
     ensures first { IfSome result FirstIsLong }
     ensures none { IsNone result ↔ (length layout.now.streams ≤ s) }
 {
-    StreamPieces::new(file, layout, s)
+    StreamPieces::new(Container::new(file, layout), s)
 }
 
 /// All the bytes of the `s`-th stream, from 0, copied out of `file` into one buffer.
@@ -155,8 +155,7 @@ pub fn contents<'a, A: Allocator + Copy, L: Allocator>(
 /// from the file, so they may outlive this iterator.
 #[derive(Drop)]
 pub struct StreamPieces<'a, A: Allocator = Global> {
-    file: &'a [u8],
-    layout: &'a Layout<A>,
+    container: Container<'a, 'a, A>,
     stream: u32,
     /// The position of the next block in the stream's list.
     position: u32,
@@ -166,27 +165,23 @@ pub struct StreamPieces<'a, A: Allocator = Global> {
 
 impl<'a, A: Allocator> Model for StreamPieces<'a, A> {
     ghost use Rattle.std.specs.Prelude.{ℕ, List};
-    ghost use Rattle.msf_blocks.specs.Superblock.{HoldsBlocks};
     ghost use Rattle.msf_streams.specs.Streams.{pieces_from};
 
     ghost Value = { List (List ℕ) };
 
-    ghost view = { λ p. pieces_from p.file.now p.layout.now p.stream p.position p.left };
-
-    ghost invariant = { λ p. HoldsBlocks p.file.now p.layout.now.superblock };
+    ghost view = { λ p.
+        pieces_from p.container.file p.container.layout p.stream p.position p.left };
 }
 
 impl<'a, A: Allocator> StreamPieces<'a, A> {
     /// All the pieces of the `s`-th stream.
-    fn new(file: &'a [u8], layout: &'a Layout<A>, s: u32) -> Option<StreamPieces<'a, A>>
-        requires { HoldsBlocks file.now layout.now.superblock }
-        ensures value { result ≡ stream_pieces file.now layout.now s }
-        ensures fits { IsLayout layout.now }
+    fn new(container: Container<'a, 'a, A>, s: u32) -> Option<StreamPieces<'a, A>>
+        ensures value { result ≡ stream_pieces container.entry.file container.entry.layout s }
+        ensures fits { IsLayout container.entry.layout }
     {
-        let left = layout.size(s)?;
+        let left = container.layout().size(s)?;
         Some(StreamPieces {
-            file,
-            layout,
+            container,
             stream: s,
             position: 0,
             left,
@@ -202,17 +197,11 @@ impl<'a, A: Allocator> Iterator for StreamPieces<'a, A> {
     ghost remaining = { item_count (λ s. s) };
 
     fn next(&mut self) -> Option<&'a [u8]> {
-        let piece = piece(
-            self.file,
-            self.layout,
-            self.stream,
-            self.position,
-            self.left,
-        )?;
+        let piece = piece(&self.container, self.stream, self.position, self.left)?;
         self.position += 1;
         self.left = self
             .left
-            .saturating_sub(self.layout.superblock().block_size());
+            .saturating_sub(self.container.layout().superblock().block_size());
         Some(piece)
     }
 }
@@ -221,23 +210,23 @@ impl<'a, A: Allocator> Iterator for StreamPieces<'a, A> {
 /// still to come. `None` where the list has no such position.
 #[tactic(auto, using(crate::proofs::PieceLaws::piece_none, crate::proofs::PieceLaws::listed_block, crate::proofs::PieceLaws::block_fits))]
 fn piece<'a, A: Allocator>(
-    file: &'a [u8],
-    layout: &Layout<A>,
+    container: &Container<'a, '_, A>,
     s: u32,
     position: u32,
     left: u32,
 ) -> Option<&'a [u8]>
-    requires { HoldsBlocks file.now layout.now.superblock }
     ensures some { IfSome result (λ p.
-        pieces_from file.now layout.now s position left
-        ≡ p.now ∷ pieces_from file.now layout.now s (position + 1)
-        (left - layout.now.superblock.block_size)) }
+        pieces_from container.now.file container.now.layout s position left
+        ≡ p.now ∷ pieces_from container.now.file container.now.layout s (position + 1)
+        (left - container.now.layout.superblock.block_size)) }
     ensures few { IfSome result (λ _. position < 2 ^ 23) }
-    ensures none { IfNone result (pieces_from file.now layout.now s position left ≡ []) }
+    ensures none { IfNone result
+        (pieces_from container.now.file container.now.layout s position left ≡ []) }
 {
+    let layout = container.layout();
     let block = layout.block(s, position)?;
     let block_size = layout.superblock().block_size();
     let start = block as usize * block_size as usize;
     let len = block_size.min(left) as usize;
-    Some(&file[start..start + len])
+    Some(&container.file()[start..start + len])
 }

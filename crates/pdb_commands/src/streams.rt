@@ -13,17 +13,16 @@ use crate::command::{Show, ShowAt, run, run_at};
 use crate::fault::RunFault;
 use byte_io::{AtFault, ReadAt, Sink, Source};
 use command_texts::layout_text;
-use msf_blocks::{Layout, MsfFault, Superblock, free_bit};
+use msf_blocks::{Container, Layout, MsfFault, Superblock, free_bit};
 use pdb_merge::PdbFault;
 use std::alloc::Allocator;
 
 /// Whether a block of the file is free, by the map that the superblock names.
-fn is_free(file: &[u8], superblock: &Superblock, block: u32) -> bool
-    requires whole { HoldsBlocks file.now superblock.now }
-    requires below { block < superblock.now.num_blocks }
-    ensures { result ≡ is_free file.now superblock.now block }
+fn is_free<A: Allocator>(container: &Container<'_, '_, A>, block: u32) -> bool
+    requires { block < container.now.layout.superblock.num_blocks }
+    ensures { result ≡ is_free container.now.file container.now.layout.superblock block }
 {
-    match free_bit(file, superblock, block) {
+    match free_bit(container.file(), container.layout().superblock(), block) {
         Some(free) => free,
         // No map block in the file has a bit for it.
         None => false,
@@ -32,13 +31,12 @@ fn is_free(file: &[u8], superblock: &Superblock, block: u32) -> bool
 
 /// How many blocks of the file are free, by the map that the superblock names.
 #[tactic(auto, using(crate::proofs::StreamsLaws::count_yes, crate::proofs::StreamsLaws::count_no), unfolding(crate::specs::Streams::free_blocks))]
-fn free_blocks(file: &[u8], superblock: &Superblock) -> u32
-    requires { HoldsBlocks file.now superblock.now }
-    ensures { result ≡ free_blocks file.now superblock.now }
+fn free_blocks<A: Allocator>(container: &Container<'_, '_, A>) -> u32
+    ensures { result ≡ free_blocks container.now.file container.now.layout.superblock }
 {
     let mut free = 0;
-    for block in 0..superblock.num_blocks() {
-        if is_free(file, superblock, block) {
+    for block in 0..container.layout().superblock().num_blocks() {
+        if is_free(container, block) {
             free += 1;
         }
     }
@@ -199,7 +197,7 @@ impl<A: Allocator + Copy> Show<A> for Streams {
 
     fn text(&self, alloc: A, file: &[u8]) -> Result<String<A>, RunFault<A>> {
         let layout = read_layout(alloc, file)?;
-        let free = free_blocks(file, layout.superblock());
+        let free = free_blocks(&Container::new(file, &layout));
         Ok(layout_text(alloc, free, &layout)?)
     }
 }

@@ -10,7 +10,7 @@ ghost use Rattle.pdb_merge.specs.Read.{RecordsWereRead, ListsLongInfo, ListsType
 
 use crate::fault::PdbFault;
 use byte_io::{AtFault, ReadAt};
-use msf_blocks::Layout;
+use msf_blocks::{Container, Layout};
 use msf_streams::{StreamFault, contents, gather_at};
 use pdb_info::InfoFault;
 use std::alloc::{Allocator, Global};
@@ -104,20 +104,25 @@ impl<A: Allocator + Copy> Buffer<A> {
         self.bytes = Vec::new(self.alloc);
     }
 
-    /// Lends the records of stream 2 of a file with this layout. The buffer takes the bytes of the
+    /// Lends the records of stream 2 of a container. The buffer takes the bytes of the
     /// stream only where its blocks are not consecutive.
     fn stream_records<'a>(
         &'a mut self,
         alloc: A,
-        file: &'a [u8],
-        layout: &Layout<A>,
+        container: &Container<'a, '_, A>,
     ) -> Result<Records<'a, A>, PdbFault<A>>
-        requires { HoldsBlocks file.now layout.now.superblock }
-        ensures value { IfOk result (ListsRecords file.now layout.now) }
+        ensures value { IfOk result (ListsRecords container.now.file container.now.layout) }
         ensures first { IfErr result (λ fault.
-            HasStreamFault file.now layout.now fault ⊎ (fault ≡ PdbFault.Memory)) }
+            HasStreamFault container.now.file container.now.layout fault
+            ⊎ (fault ≡ PdbFault.Memory)) }
     {
-        let stream = contents(self.alloc, file, layout, TPI_STREAM, &mut self.bytes)?;
+        let stream = contents(
+            self.alloc,
+            container.file(),
+            container.layout(),
+            TPI_STREAM,
+            &mut self.bytes,
+        )?;
         Ok(Records::read(alloc, stream)?)
     }
 
@@ -135,7 +140,7 @@ impl<A: Allocator + Copy> Buffer<A> {
     {
         self.clear();
         let layout = Layout::read(alloc, file)?;
-        self.stream_records(alloc, file, &layout)
+        self.stream_records(alloc, &Container::new(file, &layout))
     }
 
     /// Drops the bytes of the buffer, and lends the records of a file whose stream 1 has a header.
@@ -154,7 +159,7 @@ impl<A: Allocator + Copy> Buffer<A> {
         self.clear();
         let layout = Layout::read(alloc, file)?;
         check_info(&layout)?;
-        let records = self.stream_records(alloc, file, &layout)?;
+        let records = self.stream_records(alloc, &Container::new(file, &layout))?;
         Ok(records)
     }
 }

@@ -8,8 +8,8 @@ use Rattle.msf_blocks.proofs.directory.check_block_map.Goals as goal
 pub returns-then-not-is_ordinary : goal.returns-then-not-is_ordinary
 unfolding directory_block_checks
 returns-then-not-is_ordinary c =
-    let file = c.args.file.now in
-    let fields = c.args.superblock.now in
+    let file = c.args.file.now.bytes in
+    let fields = c.args.file.now.superblock in
     let at = c.loop-at.at in
     checks_below-stop (directory_block_check file fields) at (directory_blocks fields) (DirectoryBlock at c.map_number-n.result) c.loop-at.invariant
     (check_fails (is_ordinary fields.num_blocks (map_number file fields at)) _ _ (grind arith) (ap (DirectoryBlock at) (sym c.map_number-n.ensures)))
@@ -17,8 +17,8 @@ returns-then-not-is_ordinary c =
 
 pub loop-at-preserved : goal.loop-at-preserved
 loop-at-preserved c =
-    let file = c.args.file.now in
-    let fields = c.args.superblock.now in
+    let file = c.args.file.now.bytes in
+    let fields = c.args.file.now.superblock in
     let at = c.loop-at.at in
     checks_below-more (directory_block_check file fields) at c.loop-at.invariant
     (check_holds (is_ordinary fields.num_blocks (map_number file fields at)) _ (grind arith))

@@ -6,6 +6,6 @@ use Rattle.pdb_commands.proofs.streams.free_blocks.Goals as goal
 
 pub returns : goal.returns
 unfolding free_blocks
-returns c =
-    let superblock = c.args.superblock.now in
-    count_whole (is_free c.args.file.now superblock) superblock.num_blocks c.loop-block.block c.loop-block.free c.loop-block.invariant.counted (grind arith)
+returns g c =
+    let superblock = c.args.container.now.layout.superblock in
+    count_whole (is_free c.args.container.now.file superblock) superblock.num_blocks c.loop-block.block c.loop-block.free c.loop-block.invariant.counted (grind arith)

@@ -24,6 +24,6 @@ pub returns-clause-value : goal.returns-clause-value
 returns-clause-value g c =
     record {
       bytes = λ i. omega (arith, c.type_inv.file i);
-      has = record { layout = c.in_ok-layout.layout; has_layout = c.in_ok-layout.ensures.value; lists = c.in_ok-records.ensures.value };
+      has = record { layout = c.in_ok-layout.layout; has_layout = c.in_ok-layout.ensures.value; lists = rw (c.new.ensures.file, c.new.ensures.layout) at c.in_ok-records.ensures.value };
       info = c.in_ok-check_info.ensures.value c.args.file.now;
     }
