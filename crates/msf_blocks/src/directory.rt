@@ -104,7 +104,8 @@ impl<'a> Directory<'a> {
         ensures contents { IfOk result (λ d.
             d.contents ≡ directory_contents file.entry.bytes file.entry.superblock) }
         ensures short { IfOk result (λ d. length d.contents < 2 ^ 32) }
-        ensures first { Makes result (directory_block_checks file.entry.bytes file.entry.superblock) }
+        ensures first { Makes result
+            (directory_block_checks file.entry.bytes file.entry.superblock) }
     {
         check_block_map(&file)?;
         Ok(Directory {
