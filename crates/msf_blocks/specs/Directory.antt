@@ -113,7 +113,7 @@ contents_in (Gathered fields contents) = contents.now
 
 -- the directory is there as a whole
 abbrev pub IsThere : Place → Type 0
-IsThere (Blocks file) = IsReadable file.bytes file.superblock
+IsThere (Blocks file) = first_failing (directory_block_checks file.bytes file.superblock) ≡ None
 IsThere (Gathered fields contents) = length contents.now ≡ fields.directory_bytes
 
 -- the numbers of the blocks of the directory

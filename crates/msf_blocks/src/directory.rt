@@ -1,12 +1,12 @@
 //! The stream directory and the block map: reads both, and writes those of an image.
 
-ghost use Rattle.std.specs.Prelude.{IfOk, OnOk, map, ◌^◌, ◌≡◌, ◌+◌, ◌*◌, ◌<◌, ◌≤◌, ◌∷◌, ◌++◌, length};
+ghost use Rattle.std.specs.Prelude.{None, IfOk, OnOk, map, ◌^◌, ◌≡◌, ◌+◌, ◌*◌, ◌<◌, ◌≤◌, ◌∷◌, ◌++◌, length};
 ghost use Rattle.std.specs.List.{range_with_len};
 ghost use Rattle.byte_fields.specs.Number.{nth_u32, u32s};
 ghost use Rattle.byte_fields.specs.Bytes.{AreBytes};
-ghost use Rattle.byte_fields.specs.Check.{Makes, checks_below};
+ghost use Rattle.byte_fields.specs.Check.{Makes, checks_below, first_failing};
 ghost use Rattle.msf_blocks.specs.BlockNumber.{IsBlockSize, block_numbers};
-ghost use Rattle.msf_blocks.specs.Directory.{IsReadable, map_number, directory_blocks, directory_block_checks, directory_contents, bytes_of, stream_blocks, list_start, length_checks, stream_checks};
+ghost use Rattle.msf_blocks.specs.Directory.{map_number, directory_blocks, directory_block_checks, directory_contents, bytes_of, stream_blocks, list_start, length_checks, stream_checks};
 
 use crate::block_file::BlockFile;
 use crate::block_number::{blocks_for, is_ordinary};
@@ -83,7 +83,8 @@ fn check_block_map(file: &BlockFile<'_>) -> Result<(), MsfFault>
 /// The number at a position of a directory in the blocks of a file.
 #[tactic(auto, using(crate::proofs::DirectoryLaws::contents_length, crate::proofs::DirectoryLaws::nth_u32_is, crate::proofs::DirectoryLaws::nth_u32_block, crate::proofs::DirectoryLaws::nth_u32_fits, crate::proofs::SizeLaws::size_facts))]
 fn number_in_blocks(file: &BlockFile<'_>, position: u32) -> u32
-    requires readable { IsReadable file.now.bytes file.now.superblock }
+    requires blocks { first_failing (directory_block_checks file.now.bytes file.now.superblock)
+        ≡ None }
     requires inside { 4 * position + 4
         ≤ length (directory_contents file.now.bytes file.now.superblock) }
     ensures { result ≡ nth_u32 (directory_contents file.now.bytes file.now.superblock) position }
