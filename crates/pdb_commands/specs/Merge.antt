@@ -4,7 +4,6 @@ use Rattle.std.specs.Io.KnownBytes.{Appends}
 use Rattle.msf_streams.specs.Put.{AppendsPart}
 use Rattle.pdb_info.specs.Settings.{SettingsView}
 use Rattle.pdb_merge.specs.Fault.{NamesFault}
-use Rattle.pdb_merge.specs.Union.{IsMergeFault}
 use Rattle.pdb_merge.specs.Merged.{Wrote}
 use Rattle.pdb_merge.specs.declared.summary.Summary.{Summary}
 use Rattle.pdb_merge.specs.declared.fault.MergeFault.TheVariants as merge
@@ -29,13 +28,6 @@ WroteAndReported files settings old new told_before told_after =
 abbrev pub WroteAndBrokeOff : List (List ℕ) → SettingsView → Option (List ℕ) → Option (List ℕ) → Option (List ℕ) → Option (List ℕ) → Type 0
 WroteAndBrokeOff files settings old new told_before told_after =
     (summary : Summary) × Wrote files settings old new summary × AppendsPart told_before told_after (summary_lines summary)
-
--- this is why the command is refused: the files are refused with this fault, or it is out of memory, or a sink broke
-abbrev pub IsNotMerged : {A : Type 0} → List (List ℕ) → ℕ → RunFault A → Type 0
-IsNotMerged files limit (Merge inner) = IsMergeFault files limit inner × (inner ≢ merge.Memory)
-IsNotMerged files limit Memory = Unit {0}
-IsNotMerged files limit Write = Unit {0}
-IsNotMerged files limit _ = ⊥
 
 -- a fault that the command can have: one of merging, in which out of memory is not inside, or out of memory, or that a sink broke
 abbrev pub IsOfMerging : {A : Type 0} → RunFault A → Type 0

@@ -1,14 +1,14 @@
 //! The command `merge`: writes one file with the types of all files, each once.
 
-ghost use Rattle.std.specs.Prelude.{◌≡◌, ◌≢◌, ◌⊎◌, ◌++◌, true, ℕ, List, OnOk, IfOk, IfErr, IfSome, string_bytes, length};
+ghost use Rattle.std.specs.Prelude.{◌≡◌, ◌⊎◌, ◌++◌, true, ℕ, List, OnOk, IfErr, string_bytes};
 ghost use Rattle.std.specs.Io.KnownBytes.{Appends};
-ghost use Rattle.byte_io.specs.Inputs.{Give, CanRead};
+ghost use Rattle.byte_io.specs.Inputs.{Give};
 ghost use Rattle.msf_streams.specs.Put.{AppendsPart};
 ghost use Rattle.pdb_info.specs.Settings.{record_limit};
+ghost use Rattle.pdb_merge.specs.Answer.{AcceptsFiles, RefusesFiles};
 ghost use Rattle.pdb_merge.specs.Merged.{WrotePart};
-ghost use Rattle.pdb_merge.specs.Union.{SameFiles, CanMerge, ReadsFirst};
 ghost use Rattle.pdb_merge.specs.declared.fault.MergeFault.{MergeFault};
-ghost use Rattle.pdb_commands.specs.Merge.{summary_lines, IsNotMerged, IsOfMerging, WroteWhole, WroteAndReported, WroteAndBrokeOff};
+ghost use Rattle.pdb_commands.specs.Merge.{summary_lines, IsOfMerging, WroteWhole, WroteAndReported, WroteAndBrokeOff};
 
 use crate::fault::RunFault;
 use byte_io::{Inputs, Sink, put_all};
@@ -69,55 +69,35 @@ pub fn run_merge<I: Inputs + Drop, W: Sink, V: Sink, S: BuildHasher + Drop, A: A
     report: &mut V,
     hasher: S,
 ) -> Result<(), RunFault<A>>
-    ensures value { (given : List (List ℕ)) → Give (I.known files) given →
-        OnOk result
-        (CanMerge given (record_limit settings.now)
-        × WroteAndReported given settings.now (W.taken out.old) (W.taken out.new)
-        (V.taken report.old) (V.taken report.new)) }
-    ensures can { (given : List (List ℕ)) → Give (I.known files) given →
-        OnOk result (CanMerge given (record_limit settings.now)) }
-    // Files that can be merged are refused only when out of memory, or by a sink.
-    ensures found { (given : List (List ℕ)) → Give (I.known files) given →
-        CanMerge given (record_limit settings.now) →
-        IfErr result (λ fault. (fault ≡ RunFault.Memory) ⊎ (fault ≡ RunFault.Write)) }
-    ensures first { (given : List (List ℕ)) → Give (I.known files) given →
-        IfErr result (IsNotMerged given (record_limit settings.now)) }
     // The command has no other fault, whatever is known of the inputs.
     ensures own { IfErr result IsOfMerging }
-    // Reading comes first: every file was read, or the fault is that of the first unread file.
-    ensures reads { IfErr result (λ fault.
-        (inner : MergeFault A) → fault ≡ RunFault.Merge inner →
-        IfSome (I.known files) (λ each. ReadsFirst each inner)) }
-    // Files that are refused in one order are refused in any order.
-    ensures any_order { (given : List (List ℕ)) → Give (I.known files) given →
-        IfErr result (λ fault.
-        (inner : MergeFault A) → fault ≡ RunFault.Merge inner → (others : List (List ℕ)) →
-        SameFiles given others → CanMerge others (record_limit settings.now) → ⊥) }
-    ensures write { (given : List (List ℕ)) → Give (I.known files) given →
-        result ≡ Err RunFault.Write →
-        ((W.is_broken out.new ≡ true) × CanMerge given (record_limit settings.now)
-        × WrotePart given settings.now (W.taken out.old) (W.taken out.new)
-        × (report.new ≡ report.old))
-        ⊎ ((V.is_broken report.new ≡ true) × CanMerge given (record_limit settings.now)
-        × WroteAndBrokeOff given settings.now (W.taken out.old) (W.taken out.new)
+    ensures value { (given : List (List ℕ)) → Give (I.known files) given →
+        OnOk result
+        (WroteAndReported given settings.now (W.taken out.old) (W.taken out.new)
         (V.taken report.old) (V.taken report.new)) }
-    // After `Memory`, nothing was written, or the files can be merged, and `out` took the whole
-    // file, and no report was written.
-    ensures memory { (given : List (List ℕ)) → Give (I.known files) given →
-        result ≡ Err RunFault.Memory →
-        (report.new ≡ report.old)
-        × ((out.new ≡ out.old)
-        ⊎ (CanMerge given (record_limit settings.now)
-        × WroteWhole given settings.now (W.taken out.old) (W.taken out.new))) }
+    ensures accepts { OnOk result (AcceptsFiles (I.known files) (record_limit settings.now)) }
+    ensures refuses { IfErr result (λ fault.
+        (inner : MergeFault A) → fault ≡ RunFault.Merge inner →
+        RefusesFiles (I.known files) (record_limit settings.now) inner) }
     // Only after every file was read may something have been written, and only where all of them
     // can be merged.
-    ensures read { OnOk result (IfSome (I.known files) (λ each. CanRead each (length each))) }
-    ensures late_read { result ≡ Err RunFault.Write →
-        IfSome (I.known files) (λ each. CanRead each (length each)) }
-    ensures late_can { (given : List (List ℕ)) → Give (I.known files) given →
-        result ≡ Err RunFault.Write → CanMerge given (record_limit settings.now) }
+    ensures late { result ≡ Err RunFault.Write →
+        AcceptsFiles (I.known files) (record_limit settings.now) }
     ensures kept { result ≡ Err RunFault.Memory →
-        (out.new ≡ out.old) ⊎ IfSome (I.known files) (λ each. CanRead each (length each)) }
+        (out.new ≡ out.old) ⊎ AcceptsFiles (I.known files) (record_limit settings.now) }
+    ensures write { (given : List (List ℕ)) → Give (I.known files) given →
+        result ≡ Err RunFault.Write →
+        ((W.is_broken out.new ≡ true)
+        × WrotePart given settings.now (W.taken out.old) (W.taken out.new)
+        × (report.new ≡ report.old))
+        ⊎ ((V.is_broken report.new ≡ true)
+        × WroteAndBrokeOff given settings.now (W.taken out.old) (W.taken out.new)
+        (V.taken report.old) (V.taken report.new)) }
+    // After `Memory`, nothing was written, or `out` took the whole file.
+    ensures memory { (given : List (List ℕ)) → Give (I.known files) given →
+        result ≡ Err RunFault.Memory →
+        (out.new ≡ out.old)
+        ⊎ WroteWhole given settings.now (W.taken out.old) (W.taken out.new) }
     ensures broken { result ≡ Err RunFault.Write →
         (W.is_broken out.new ≡ true) ⊎ (V.is_broken report.new ≡ true) }
     ensures untold { result ≡ Err RunFault.Memory → report.new ≡ report.old }

@@ -9,7 +9,7 @@ use Rattle.canonical_list.specs.Finish.{IsCanonOf}
 use Rattle.pdb_merge.specs.Read.{IsAccepted}
 use Rattle.closed_trees.proofs.WeightLaws.{weight_of_texts}
 use Rattle.closed_trees.proofs.CanonLaws.{one_canonical_list}
-use Rattle.pdb_merge.specs.Union.{HasType, FileHas, SameTypes, Weighs, Within, CanMerge}
+use Rattle.pdb_merge.specs.Union.{HasType, FileHas, SameTypes, Weighs, Within}
 use Rattle.pdb_merge.specs.Laws.{MergedReadsBack, OneMergedFile, MergedHas, MergedFilesDiffer, MergedAgain, EarlierMerge}
 use Rattle.pdb_merge.proofs.UnionLaws.{types_of_first, types_of_both, within_same, one_accepted}
 use Rattle.pdb_merge.proofs.ReadBackLaws.{IsBack, is_back}
@@ -125,11 +125,9 @@ wrote files settings records old new (Ok summary) are within canon did = record 
 }
 wrote files settings records old new (Err fault) are within canon did = tt
 
-pub wrote_part : {A E : Type 0} (files : List (List ℕ)) (settings : SettingsView) (records : List (List ℕ)) (old new : Option (List ℕ)) (Broken : Type 0) (e : E) (answer : Result A E)
-    → AreSettings settings → CanMerge files (record_limit settings) → IsCanonOf records (HasType files)
-    → IfErr answer (λ fault. fault ≡ e → Broken × AppendsPart old new (merged_file settings records))
-    → IfErr answer (λ fault. fault ≡ e → Broken × CanMerge files (record_limit settings) × WrotePart files settings old new)
-wrote_part files settings records old new Broken e (Ok done) are can canon part = tt
-wrote_part files settings records old new Broken e (Err fault) are can canon part = λ is.
-    let did = part is in
-    (did.0, can, record { file = merged_file settings records; records = records; taken = did.1; is_file = is_file files settings records are can.within canon })
+pub wrote_part : {A E : Type 0} (files : List (List ℕ)) (settings : SettingsView) (records : List (List ℕ)) (old new : Option (List ℕ)) (e : E) (answer : Result A E)
+    → AreSettings settings → Within (HasType files) (record_limit settings) → IsCanonOf records (HasType files)
+    → IfErr answer (λ fault. fault ≡ e → AppendsPart old new (merged_file settings records)) → IfErr answer (λ fault. fault ≡ e → WrotePart files settings old new)
+wrote_part files settings records old new e (Ok done) are within canon part = tt
+wrote_part files settings records old new e (Err fault) are within canon part = λ is.
+    record { file = merged_file settings records; records = records; taken = part is; is_file = is_file files settings records are within canon }

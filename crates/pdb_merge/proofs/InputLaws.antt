@@ -1,5 +1,5 @@
 -- Files that are given by inputs, one after the other.
-use Rattle.std.proofs.Common.{◌≡◌, ◌∙◌, ◌<◌, ◌+◌, ◌⊎◌, ℕ, List, [], Option, Some, None, length, map, get_or, refl, sym, ap, subst, arith, inl, inr}
+use Rattle.std.proofs.Common.{◌≡◌, ◌∙◌, ◌<◌, ◌≤◌, ◌+◌, ◌⊎◌, ℕ, List, [], Option, Some, None, length, map, get_or, refl, sym, ap, subst, arith, inl, inr}
 use Rattle.std.proofs.lemmas.Bool.{cases_lt}
 use Rattle.std.specs.Prelude.{Result, Ok, Err, IfOk, OnOk, IfSome, slice_get, option_map}
 use Rattle.std.proofs.lemmas.Option.{slice_get-map, slice_get_cases, get_or_from_slice_get}
@@ -75,6 +75,12 @@ more_read (Some each) i before now = λ k below. elim (cases_lt k i) [
   | inl lt ↦ before k lt
   | inr le ↦ let same : i ≡ k = omega (arith, below, le) in subst (λ (n : ℕ). (bytes : List ℕ) × (slice_get each n ≡ Some (Ok bytes))) same now
 ]
+
+-- where no input is left, every input is read
+pub every_read : (known : Option (List (Result (List ℕ) InputFault))) (i end : ℕ) → IfSome known (λ each. CanRead each i) → IfSome known (λ each. end ≡ length each) → end ≤ i
+    → IfSome known (λ each. CanRead each (length each))
+every_read None i end before count past = tt
+every_read (Some each) i end before count past = λ k below. before k (omega (arith, below, count, past))
 
 -- the fault of an input that is not read, where those before it are
 pub unread_first : {A : Type 0} (known : Option (List (Result (List ℕ) InputFault))) (i : ℕ) (inner : InputFault) (outer : MergeFault A) → IfSome known (λ each. CanRead each i)

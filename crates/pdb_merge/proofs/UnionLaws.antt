@@ -1,6 +1,6 @@
 -- The types of several files, and how many bytes they have.
-use Rattle.std.proofs.Common.{◌≡◌, ◌⊎◌, ◌↔◌, ℕ, ◌+◌, ◌<◌, ◌≤◌, Bool, false, List, [], ◌∷◌, ◌++◌, zero, suc, subst, length, get_or, refl, sym, ◌∙◌, arith, inl, inr}
-use Rattle.std.specs.Prelude.{◌≢◌, IsTrue, Result, Ok, Err, IfErr}
+use Rattle.std.proofs.Common.{◌≡◌, ◌⊎◌, ◌↔◌, ℕ, ◌+◌, ◌<◌, ◌≤◌, Bool, false, List, [], ◌∷◌, ◌++◌, Option, zero, suc, subst, length, get_or, refl, sym, ◌∙◌, arith, inl, inr}
+use Rattle.std.specs.Prelude.{◌≢◌, IsTrue, Result, Ok, Err, IfErr, IfSome}
 use Rattle.std.specs.List.{Contains}
 use Rattle.std.proofs.lemmas.Bool.{cases_lt}
 use Rattle.std.proofs.lemmas.List.{get_or_default}
@@ -12,9 +12,12 @@ use Rattle.type_table.specs.declared.fault.JoinFault.{JoinFault}
 use Rattle.type_table.specs.declared.fault.JoinFault.TheVariants as join
 use Rattle.closed_trees.proofs.WeightLaws.{weight-none, weight_grows}
 use Rattle.pdb_merge.specs.Read.{IsAccepted}
-use Rattle.pdb_merge.specs.Fault.{add_from_join, merge_from_add}
+use Rattle.byte_io.specs.Inputs.{Give}
+use Rattle.byte_io.specs.declared.inputs.InputFault.{InputFault}
+use Rattle.pdb_merge.specs.Answer.{RefusesFiles}
+use Rattle.pdb_merge.specs.Fault.{NamesFault, add_from_join, merge_from_add}
 use Rattle.pdb_merge.specs.Laws.{TypesOfFirst, TypesOfBoth, AnyOrder, RefusedInAnyOrder, OneWeight}
-use Rattle.pdb_merge.specs.Union.{FileHas, HasTypeBelow, HasType, SameFiles, AcceptedBelow, Weighs, Within, AddsFile, IsAddFault, CanMerge, CanMergeBelow, IsMergeFault, Unites}
+use Rattle.pdb_merge.specs.Union.{FileHas, HasTypeBelow, HasType, SameFiles, AcceptedBelow, Weighs, Within, AddsFile, IsAddFault, CanMerge, CanMergeBelow, IsMergeFault, ReadsFirst, Unites}
 use Rattle.pdb_merge.specs.declared.fault.AddFault.{AddFault}
 use Rattle.pdb_merge.specs.declared.fault.AddFault.TheVariants as add
 use Rattle.pdb_merge.specs.declared.fault.MergeFault.{MergeFault}
@@ -226,8 +229,13 @@ pub refused_in_any_order : {A : Type 0} → RefusedInAnyOrder A
 refused_in_any_order files others limit fault same stops other can =
     other (stopped_alone files limit fault stops ((any_order files others limit same).0.1 can))
 
--- if files that can be merged are refused only when out of memory, then files that are refused in one order are refused in any order
-pub refused_any : {T A : Type 0} (files : List (List ℕ)) (limit : ℕ) (answer : Result T (MergeFault A)) → (CanMerge files limit → IfErr answer (λ fault. fault ≡ merge.Memory))
-    → IfErr answer (λ fault. fault ≢ merge.Memory → (others : List (List ℕ)) → SameFiles files others → CanMerge others limit → ⊥)
-refused_any files limit (Ok done) found = tt
-refused_any files limit (Err fault) found = λ other others same can. other (found ((any_order files others limit same).0.1 can))
+-- files that can be merged only where it is out of memory are refused with such a fault: in one order as in any order
+pub refuses_files : {A : Type 0} (known : Option (List (Result (List ℕ) InputFault))) (limit : ℕ) (fault : MergeFault A) → ((given : List (List ℕ)) → Give known given → IsMergeFault given limit fault)
+    → IfSome known (λ each. ReadsFirst each fault) → NamesFault fault → ((given : List (List ℕ)) → Give known given → CanMerge given limit → fault ≡ merge.Memory) → RefusesFiles known limit fault
+refuses_files known limit fault first reads named found = record {
+  first = first;
+  reads = reads;
+  named = named;
+  found = found;
+  any_order = λ given gives other others same can. other (found given gives ((any_order given others limit same).0.1 can));
+}

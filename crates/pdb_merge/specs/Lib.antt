@@ -4,3 +4,4 @@ pub mod Laws
 pub mod Union
 pub mod Merged
 pub mod Merging
+pub mod Answer

@@ -1,6 +1,6 @@
 //! The types of several files, each once.
 
-ghost use Rattle.std.specs.Prelude.{◌≡◌, ◌≢◌, ◌<◌, ◌≤◌, ◌+◌, ◌^◌, ◌++◌, ◌∷◌, [], ℕ, List, length, take, OnOk, IfOk, IfErr, IfSome};
+ghost use Rattle.std.specs.Prelude.{◌≡◌, ◌<◌, ◌≤◌, ◌+◌, ◌^◌, ◌++◌, ◌∷◌, [], ℕ, List, length, take, OnOk, IfOk, IfErr, IfSome};
 ghost use Rattle.std.specs.List.{concat};
 ghost use Rattle.byte_io.specs.At.{IfOf};
 ghost use Rattle.byte_io.specs.Inputs.{Give, CanRead, HasBytes};
@@ -8,7 +8,8 @@ ghost use Rattle.closed_trees.specs.Tree.{IsType};
 ghost use Rattle.canonical_list.specs.Finish.{IsCanonOf};
 ghost use Rattle.pdb_info.specs.Settings.{record_limit};
 ghost use Rattle.pdb_merge.specs.Fault.{merge_from_add, merge_from_input, AddNamesFault, NamesFault};
-ghost use Rattle.pdb_merge.specs.Union.{HasType, Within, SameFiles, CanMerge, IsMergeFault, ReadsFirst};
+ghost use Rattle.pdb_merge.specs.Answer.{AcceptsFiles, RefusesFiles};
+ghost use Rattle.pdb_merge.specs.Union.{HasType, Within, CanMerge, IsMergeFault, ReadsFirst};
 ghost use Rattle.pdb_merge.specs.Merging.{HasTaken};
 
 use crate::buffer::Buffer;
@@ -189,13 +190,7 @@ fn add_all<I: Inputs, S: BuildHasher, A: Allocator + Copy>(
     ensures within { OnOk result (Within (IsType merge.new.types) merge.new.limit) }
     ensures read { OnOk result (IfSome (I.known inputs.now) (λ each. CanRead each (length each))) }
     ensures limit { merge.new.limit ≡ merge.old.limit }
-    ensures found { (files : List (List ℕ)) → Give (I.known inputs.now) files →
-        CanMerge files merge.old.limit → IfErr result (λ fault. fault ≡ MergeFault.Memory) }
-    ensures first { (files : List (List ℕ)) → Give (I.known inputs.now) files →
-        IfErr result (IsMergeFault files merge.old.limit) }
-    ensures reads { IfErr result (λ fault.
-        IfSome (I.known inputs.now) (λ each. ReadsFirst each fault)) }
-    ensures named { IfErr result NamesFault }
+    ensures refuses { IfErr result (RefusesFiles (I.known inputs.now) merge.old.limit) }
 {
     let mut bytes = Vec::new(alloc);
     let mut buffer = Buffer::new(alloc);
@@ -215,16 +210,8 @@ fn list_all<I: Inputs, S: BuildHasher + Drop, A: Allocator + Copy>(
     ensures value { (files : List (List ℕ)) → Give (I.known inputs.now) files →
         IfOk result (λ canon. IsCanonOf canon (HasType files)) }
     ensures within { IfOk result (λ canon. length (concat canon) ≤ limit) }
-    ensures can { (files : List (List ℕ)) → Give (I.known inputs.now) files →
-        OnOk result (CanMerge files limit) }
-    ensures read { OnOk result (IfSome (I.known inputs.now) (λ each. CanRead each (length each))) }
-    ensures found { (files : List (List ℕ)) → Give (I.known inputs.now) files →
-        CanMerge files limit → IfErr result (λ fault. fault ≡ MergeFault.Memory) }
-    ensures first { (files : List (List ℕ)) → Give (I.known inputs.now) files →
-        IfErr result (IsMergeFault files limit) }
-    ensures reads { IfErr result (λ fault.
-        IfSome (I.known inputs.now) (λ each. ReadsFirst each fault)) }
-    ensures named { IfErr result NamesFault }
+    ensures accepts { OnOk result (AcceptsFiles (I.known inputs.now) limit) }
+    ensures refuses { IfErr result (RefusesFiles (I.known inputs.now) limit) }
 {
     let mut merge = Merge::new(alloc, limit, hasher);
     add_all(alloc, inputs, &mut merge)?;
@@ -253,24 +240,8 @@ pub fn merge_files<I: Inputs + Drop, S: BuildHasher + Drop, A: Allocator + Copy>
     ensures value { (given : List (List ℕ)) → Give (I.known files) given →
         IfOk result (λ canon. IsCanonOf canon (HasType given)) }
     ensures within { IfOk result (λ canon. length (concat canon) ≤ record_limit settings.now) }
-    ensures can { (given : List (List ℕ)) → Give (I.known files) given →
-        OnOk result (CanMerge given (record_limit settings.now)) }
-    // Files that can be merged are refused only when out of memory.
-    ensures found { (given : List (List ℕ)) → Give (I.known files) given →
-        CanMerge given (record_limit settings.now) →
-        IfErr result (λ fault. fault ≡ MergeFault.Memory) }
-    ensures first { (given : List (List ℕ)) → Give (I.known files) given →
-        IfErr result (IsMergeFault given (record_limit settings.now)) }
-    // Reading comes first: every file was read, or the fault is that of the first unread file.
-    ensures read { OnOk result (IfSome (I.known files) (λ each. CanRead each (length each))) }
-    ensures reads { IfErr result (λ fault. IfSome (I.known files) (λ each. ReadsFirst each fault)) }
-    // Out of memory is always `Memory`, whatever is known of the inputs.
-    ensures named { IfErr result NamesFault }
-    // Files that are refused in one order are refused in any order.
-    ensures any_order { (given : List (List ℕ)) → Give (I.known files) given →
-        IfErr result (λ fault.
-        fault ≢ MergeFault.Memory → (others : List (List ℕ)) → SameFiles given others →
-        CanMerge others (record_limit settings.now) → ⊥) }
+    ensures accepts { OnOk result (AcceptsFiles (I.known files) (record_limit settings.now)) }
+    ensures refuses { IfErr result (RefusesFiles (I.known files) (record_limit settings.now)) }
 {
     list_all(alloc, &files, settings.record_limit(), hasher)
 }

@@ -1,13 +1,12 @@
 //! The file of the types of several files.
 
-ghost use Rattle.std.specs.Prelude.{◌≡◌, ◌≢◌, ◌⊎◌, ◌≤◌, true, ℕ, List, length, OnOk, IfOk, IfErr, IfSome};
+ghost use Rattle.std.specs.Prelude.{◌≡◌, ◌≢◌, ◌⊎◌, ◌≤◌, true, ℕ, List, length, OnOk, IfOk, IfErr};
 ghost use Rattle.std.specs.List.{concat};
-ghost use Rattle.byte_io.specs.Inputs.{Give, CanRead};
+ghost use Rattle.byte_io.specs.Inputs.{Give};
 ghost use Rattle.msf_streams.specs.Put.{AppendsPart};
 ghost use Rattle.pdb_info.specs.Settings.{AreSettings, record_limit};
-ghost use Rattle.pdb_merge.specs.Fault.{NamesFault};
+ghost use Rattle.pdb_merge.specs.Answer.{AcceptsFiles, RefusesFiles};
 ghost use Rattle.pdb_merge.specs.Merged.{merged_file, WroteFile, Wrote, WrotePart};
-ghost use Rattle.pdb_merge.specs.Union.{SameFiles, CanMerge, IsMergeFault, ReadsFirst};
 ghost use Rattle.pdb_merge.specs.declared.fault.MergeFault.{MergeFault};
 
 use crate::fault::OutFault;
@@ -45,8 +44,10 @@ fn write_canon<W: Sink, A: Allocator + Copy>(
     ensures value { IfOk result
         (WroteFile canon.now settings.now (W.taken out.old) (W.taken out.new)) }
     ensures fault { IfErr result (λ fault. (fault ≡ OutFault.Memory) ⊎ (fault ≡ OutFault.Write)) }
-    ensures write { IfErr result (λ fault. fault ≡ OutFault.Write → (W.is_broken out.new ≡ true)
-        × AppendsPart (W.taken out.old) (W.taken out.new) (merged_file settings.now canon.now)) }
+    ensures broken { IfErr result (λ fault. fault ≡ OutFault.Write → W.is_broken out.new ≡ true) }
+    ensures write { IfErr result (λ fault.
+        fault ≡ OutFault.Write →
+        AppendsPart (W.taken out.old) (W.taken out.new) (merged_file settings.now canon.now)) }
     ensures untouched { IfErr result (λ fault. fault ≢ OutFault.Write → out.new ≡ out.old) }
 {
     let bytes = canon.bytes_len();
@@ -78,45 +79,19 @@ pub fn merge_to<I: Inputs + Drop, W: Sink, S: BuildHasher + Drop, A: Allocator +
 ) -> Result<Summary, OutFault<A>>
     ensures value { (given : List (List ℕ)) → Give (I.known files) given →
         IfOk result (Wrote given settings.now (W.taken out.old) (W.taken out.new)) }
-    ensures can { (given : List (List ℕ)) → Give (I.known files) given →
-        OnOk result (CanMerge given (record_limit settings.now)) }
-    // Files that can be merged are refused only when out of memory, or by the sink.
-    ensures found { (given : List (List ℕ)) → Give (I.known files) given →
-        CanMerge given (record_limit settings.now) →
-        IfErr result (λ fault.
-        (fault ≡ OutFault.Merge MergeFault.Memory) ⊎ (fault ≡ OutFault.Memory)
-        ⊎ (fault ≡ OutFault.Write)) }
-    ensures first { (given : List (List ℕ)) → Give (I.known files) given →
-        IfErr result (λ fault.
+    ensures accepts { OnOk result (AcceptsFiles (I.known files) (record_limit settings.now)) }
+    ensures refuses { IfErr result (λ fault.
         (inner : MergeFault A) → fault ≡ OutFault.Merge inner →
-        IsMergeFault given (record_limit settings.now) inner) }
-    // Reading comes first: every file was read, or the fault is that of the first unread file.
-    ensures reads { IfErr result (λ fault.
-        (inner : MergeFault A) → fault ≡ OutFault.Merge inner →
-        IfSome (I.known files) (λ each. ReadsFirst each inner)) }
-    ensures named { IfErr result (λ fault.
-        (inner : MergeFault A) → fault ≡ OutFault.Merge inner → NamesFault inner) }
-    ensures read { OnOk result (IfSome (I.known files) (λ each. CanRead each (length each))) }
+        RefusesFiles (I.known files) (record_limit settings.now) inner) }
     // A fault of writing comes only after every file was read, and where all of them can be merged.
-    ensures late_read { IfErr result (λ fault.
+    ensures late { IfErr result (λ fault.
         ((inner : MergeFault A) → fault ≢ OutFault.Merge inner) →
-        IfSome (I.known files) (λ each. CanRead each (length each))) }
-    ensures late_can { (given : List (List ℕ)) → Give (I.known files) given →
-        IfErr result (λ fault.
-        ((inner : MergeFault A) → fault ≢ OutFault.Merge inner) →
-        CanMerge given (record_limit settings.now)) }
-    // Files that are refused in one order are refused in any order.
-    ensures any_order { (given : List (List ℕ)) → Give (I.known files) given →
-        IfErr result (λ fault.
-        (inner : MergeFault A) → fault ≡ OutFault.Merge inner → inner ≢ MergeFault.Memory →
-        (others : List (List ℕ)) → SameFiles given others →
-        CanMerge others (record_limit settings.now) → ⊥) }
+        AcceptsFiles (I.known files) (record_limit settings.now)) }
     ensures broken { IfErr result (λ fault. fault ≡ OutFault.Write → W.is_broken out.new ≡ true) }
     ensures write { (given : List (List ℕ)) → Give (I.known files) given →
         IfErr result (λ fault.
         fault ≡ OutFault.Write →
-        (W.is_broken out.new ≡ true) × CanMerge given (record_limit settings.now)
-        × WrotePart given settings.now (W.taken out.old) (W.taken out.new)) }
+        WrotePart given settings.now (W.taken out.old) (W.taken out.new)) }
     ensures untouched { IfErr result (λ fault. fault ≢ OutFault.Write → out.new ≡ out.old) }
 {
     let canon = merge_files(alloc, files, settings, hasher)?;

@@ -1,14 +1,17 @@
 use Rattle.std.proofs.Common.{◌≡◌, ◌∙◌, ap}
 use Rattle.closed_trees.specs.Tree.{IsType}
+use Rattle.pdb_merge.specs.Answer.{AcceptsFiles}
 use Rattle.pdb_merge.specs.Merging.{MergeView}
 use Rattle.pdb_merge.proofs.MergingLaws.{taken_can}
 use Rattle.pdb_merge.proofs.ReadBackLaws.{canon_within}
 use Rattle.pdb_merge.proofs.files.list_all.Goals as goal
 
-pub returns-in-Ok-clause-can : goal.returns-in-Ok-clause-can
-returns-in-Ok-clause-can g c = λ files given.
+pub returns-in-Ok-clause-accepts : goal.returns-in-Ok-clause-accepts
+returns-in-Ok-clause-accepts g c =
     let limit : c.add_all.new.merge.limit ≡ c.args.limit = c.in_ok-add_all.ensures.limit ∙ ap (λ (m : MergeView). m.limit) c.new-merge.ensures.value in
-    rw (← limit) (taken_can c.add_all.new.merge files (c.in_ok-add_all.ensures.value files given))
+    let accepts : AcceptsFiles (g.I.Inputs.known c.args.inputs.now) c.add_all.new.merge.limit =
+    record { read = c.in_ok-add_all.ensures.read; can = λ files given. taken_can c.add_all.new.merge files (c.in_ok-add_all.ensures.value files given) } in
+    rw (← limit) accepts
 
 pub returns-in-Ok-clause-within : goal.returns-in-Ok-clause-within
 returns-in-Ok-clause-within g c =
