@@ -1,8 +1,8 @@
 -- The checks of a record and its places, from left to right.
-use Rattle.std.specs.Prelude.{ℕ, false, List, [], ◌∷◌, ◌++◌, drop}
+use Rattle.std.specs.Prelude.{ℕ, ◌≡◌, ◌^◌, ◌<◌, false, List, [], ◌∷◌, ◌++◌, None, length, drop}
 use Rattle.std.specs.Option.{option_map_or}
 use Rattle.std.specs.List.{flat_map}
-use Rattle.byte_fields.specs.Check.{Check}
+use Rattle.byte_fields.specs.Check.{Check, first_failing}
 use Rattle.byte_fields.specs.Number.{number_at}
 use Rattle.cv_leaves.specs.Leaf.{Leaf, leaf_of}
 use Rattle.cv_leaves.specs.Part.{rest_start, stop_of, extent_checks, part_end, part_places, part_checks, each_part}
@@ -54,3 +54,14 @@ leaf_places l body = l.places ++ rest_places l.rest body
 -- the places of a record, in the order in which they are met
 unfoldable pub places_of : List ℕ → List ℕ
 places_of r = option_map_or (λ l. leaf_places l (body_of r)) (leaf_of (kind_of r)) []
+
+-- the places of these parts can be told: those of the part at `base`, and those of the parts from `next` on
+pub record ArePlacesLeft (rest : Rest) (body : List ℕ) (base next stop : ℕ) : Type 0 where
+  -- no place overflows: the body is short
+  pub short : length body < 2 ^ 17
+  -- the part begins near it
+  pub base_near : base < 2 ^ 17
+  -- so do those after it
+  pub next_near : next < 2 ^ 17
+  -- they pass their checks
+  pub checked : first_failing (checks_from rest body stop next) ≡ None

@@ -43,18 +43,15 @@ pub struct RecordPlaces<'a> {
 }
 
 impl<'a> Model for RecordPlaces<'a> {
-    ghost use Rattle.std.specs.Prelude.{◌≡◌, ◌+◌, ◌++◌, ◌^◌, ◌<◌, None, List, ℕ, map, length};
-    ghost use Rattle.byte_fields.specs.Check.{first_failing};
-    ghost use Rattle.cv_leaves.specs.Checks.{checks_from, places_from};
+    ghost use Rattle.std.specs.Prelude.{◌+◌, ◌++◌, List, ℕ, map};
+    ghost use Rattle.cv_leaves.specs.Checks.{places_from, ArePlacesLeft};
 
     ghost Value = { List ℕ };
 
     ghost view = { λ p.
         map (λ k. p.base + k) p.pending.now ++ places_from p.rest p.body.now p.stop p.next };
 
-    ghost invariant = { λ p.
-        (length p.body.now < 2 ^ 17) × (p.base < 2 ^ 17) × (p.next < 2 ^ 17)
-        × (first_failing (checks_from p.rest p.body.now p.stop p.next) ≡ None) };
+    ghost invariant = { λ p. ArePlacesLeft p.rest p.body.now p.base p.next p.stop };
 }
 
 impl<'a> Iterator for RecordPlaces<'a> {

@@ -32,17 +32,15 @@ pub struct KeyChains<A: Allocator = Global> {
 }
 
 impl<A: Allocator> Model for KeyChains<A> {
-    ghost use Rattle.std.specs.Prelude.{List, ℕ, ◌≡◌, ◌<◌, ◌^◌, length, nat_eq};
+    ghost use Rattle.std.specs.Prelude.{List, ℕ, nat_eq};
     ghost use Rattle.indexmap.specs.IndexMap.{get};
-    ghost use Rattle.key_chains.specs.Chains.{AreChained};
+    ghost use Rattle.key_chains.specs.Chains.{AreChains};
 
     ghost Value = { List ℕ };
 
     ghost view = { λ c. c.keys.items };
 
-    ghost invariant = { λ c.
-        (length c.links.items ≡ length c.keys.items) × (length c.keys.items < 2 ^ 31)
-        × AreChained c.keys.items (get nat_eq c.newest) c.links.items };
+    ghost invariant = { λ c. AreChains c.keys.items (get nat_eq c.newest) c.links.items };
 }
 
 /// The position that a link leads to. `None` for the link 0.

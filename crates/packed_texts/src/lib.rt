@@ -25,16 +25,14 @@ pub struct PackedTexts<A: Allocator = Global> {
 }
 
 impl<A: Allocator> Model for PackedTexts<A> {
-    ghost use Rattle.std.specs.Prelude.{List, ℕ, ◌≡◌, ◌<◌, ◌^◌, ◌%◌, length};
-    ghost use Rattle.packed_texts.specs.PackedTexts.{texts_in, in_bytes, Rise};
+    ghost use Rattle.std.specs.Prelude.{List, ℕ};
+    ghost use Rattle.packed_texts.specs.PackedTexts.{texts_in, in_bytes, ArePacked};
 
     ghost Value = { List (List ℕ) };
 
     ghost view = { λ p. texts_in p.bytes.items 0 (in_bytes p.ends.items) };
 
-    ghost invariant = { λ p.
-        Rise 0 (in_bytes p.ends.items) (length p.bytes.items) × (length p.bytes.items < 2 ^ 34)
-        × (length p.bytes.items % 4 ≡ 0) };
+    ghost invariant = { λ p. ArePacked p.bytes.items p.ends.items };
 }
 
 /// The offset at which a text begins, in bytes.

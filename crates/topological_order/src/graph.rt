@@ -19,16 +19,15 @@ pub struct Graph<A: Allocator = Global> {
 }
 
 impl<A: Allocator> Model for Graph<A> {
-    ghost use Rattle.std.specs.Prelude.{List, ℕ, ◌<◌, ◌^◌, length};
-    ghost use Rattle.packed_texts.specs.PackedTexts.{texts_in, Rise};
+    ghost use Rattle.std.specs.Prelude.{List, ℕ};
+    ghost use Rattle.packed_texts.specs.PackedTexts.{texts_in};
+    ghost use Rattle.topological_order.specs.Graph.{IsGraph};
 
     ghost Value = { List (List ℕ) };
 
     ghost view = { λ g. texts_in g.named.items 0 g.ends.items };
 
-    ghost invariant = { λ g.
-        Rise 0 g.ends.items (length g.named.items) × (length g.named.items < 2 ^ 32)
-        × (length g.ends.items < 2 ^ 32) };
+    ghost invariant = { λ g. IsGraph g.named.items g.ends.items };
 }
 
 /// Where the part of a node begins in the list of named nodes.

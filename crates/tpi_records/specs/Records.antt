@@ -91,3 +91,12 @@ starts_below records count = map (λ k. start_of records (64 * k)) (range_with_l
 -- how many of the records 0, 64, 128 and so on there are among this many records
 abbrev pub starts_for : ℕ → ℕ
 starts_for count = (count + 63) / 64
+
+-- this is what is kept of records that fill these bytes
+pub record AreRecords (bytes : List ℕ) (count : ℕ) (starts : List ℕ) : Type 0 where
+  -- each of them is a record, and nothing follows them
+  pub framed : IsFramed bytes
+  -- there are as many
+  pub counted : count ≡ length (records_in bytes)
+  -- these are the starts of records 0, 64, 128 and so on
+  pub kept : starts ≡ starts_below (records_in bytes) (starts_for count)

@@ -32,16 +32,14 @@ pub struct Records<'a, A: Allocator = Global> {
 }
 
 impl<'a, A: Allocator> Model for Records<'a, A> {
-    ghost use Rattle.std.specs.Prelude.{List, ℕ, ◌≡◌, length};
-    ghost use Rattle.tpi_records.specs.Records.{IsFramed, starts_below, starts_for, records_in};
+    ghost use Rattle.std.specs.Prelude.{List, ℕ};
+    ghost use Rattle.tpi_records.specs.Records.{AreRecords, records_in};
 
     ghost Value = { List (List ℕ) };
 
     ghost view = { λ r. records_in r.bytes.now };
 
-    ghost invariant = { λ r.
-        IsFramed r.bytes.now × (r.count ≡ length (records_in r.bytes.now))
-        × (r.starts.items ≡ starts_below (records_in r.bytes.now) (starts_for r.count)) };
+    ghost invariant = { λ r. AreRecords r.bytes.now r.count r.starts.items };
 }
 
 impl<'a, A: Allocator + Copy> Records<'a, A> {

@@ -18,7 +18,12 @@ invariant_of-result c =
     let row : Some (leaf_seen c.in-Some.leaf) ≡ leaf_of (kind_of r) = c.in-Some.ensures ∙ ap leaf_of c.kind_of.ensures in
     let held = parts_held r (leaf_seen c.in-Some.leaf) c.requires.checked row in
     let e = c.in-Ok.ensures.value in
-    (omega (arith, c.body_of-body.ensures.few), omega arith, omega (arith, e.0), rw (e.1, e.2, c.body_of-body.ensures.bytes) held)
+    record {
+      short = omega (arith, c.body_of-body.ensures.few);
+      base_near = omega arith;
+      next_near = omega (arith, e.0);
+      checked = rw (e.1, e.2, c.body_of-body.ensures.bytes) held;
+    }
 
 pub returns : goal.returns
 returns c =
