@@ -10,7 +10,9 @@ use Rattle.byte_io.specs.declared.inputs.InputFault.{InputFault}
 use Rattle.byte_io.specs.declared.inputs.InputFault.TheVariants as inputs
 use Rattle.byte_io.specs.declared.input.ReadFault.TheVariants as reads
 use Rattle.pdb_merge.specs.Fault.{merge_from_input, merge_from_add, AddNamesFault, NamesFault}
-use Rattle.pdb_merge.specs.Union.{ReadsFirst}
+use Rattle.pdb_merge.specs.Answer.{RefusesFiles}
+use Rattle.pdb_merge.specs.Union.{CanMerge, IsMergeFault, ReadsFirst}
+use Rattle.pdb_merge.proofs.UnionLaws.{refuses_files}
 use Rattle.pdb_merge.specs.declared.fault.AddFault.{AddFault}
 use Rattle.pdb_merge.specs.declared.fault.AddFault.TheVariants as add
 use Rattle.pdb_merge.specs.declared.fault.MergeFault.{MergeFault}
@@ -138,3 +140,18 @@ opened_read (Some each) i bytes opened is = (is.0, is.1)
 pub on_ok : {T E : Type 0} (P : Type 0) (answer : Result T E) → IfOk answer (λ _. P) → OnOk answer P
 on_ok P (Ok done) is = is
 on_ok P (Err fault) is = tt
+
+-- ---- files that are refused
+
+-- the fault of an input that is not read, where those before it are, refuses the files, whatever the limit is
+pub unread_refuses : {A : Type 0} (known : Option (List (Result (List ℕ) InputFault))) (i limit : ℕ) (inner : InputFault) (outer : MergeFault A) → IfSome known (λ each. CanRead each i)
+    → IsUnread known i inner → outer ≡ merge_from_input i inner → RefusesFiles known limit outer
+unread_refuses known i limit inner outer before is made =
+    let memory : (given : List (List ℕ)) → Give known given → outer ≡ merge.Memory = λ given gives. given_unread known given i inner outer gives is made in
+    refuses_files known limit outer (λ given gives. rw (memory given gives) tt) (unread_first known i inner outer before is made) (input_named i inner outer made) (λ given gives can. memory given gives)
+
+-- the fault of a file refuses the files, where all are read
+pub file_refuses : {A : Type 0} (known : Option (List (Result (List ℕ) InputFault))) (i limit : ℕ) (inner : AddFault A) (outer : MergeFault A) → IfSome known (λ each. CanRead each (length each))
+    → AddNamesFault inner → outer ≡ merge_from_add i inner → ((given : List (List ℕ)) → Give known given → IsMergeFault given limit outer)
+    → ((given : List (List ℕ)) → Give known given → CanMerge given limit → outer ≡ merge.Memory) → RefusesFiles known limit outer
+file_refuses known i limit inner outer all named made first found = refuses_files known limit outer first (refused_last known i inner outer all made) (add_named i inner outer named made) found

@@ -1,6 +1,6 @@
 -- The types of several files, and how many bytes they have.
 use Rattle.std.proofs.Common.{◌≡◌, ◌⊎◌, ◌↔◌, ℕ, ◌+◌, ◌<◌, ◌≤◌, Bool, false, List, [], ◌∷◌, ◌++◌, Option, zero, suc, subst, length, get_or, refl, sym, ◌∙◌, arith, inl, inr}
-use Rattle.std.specs.Prelude.{◌≢◌, IsTrue, Result, Ok, Err, IfErr, IfSome}
+use Rattle.std.specs.Prelude.{IsTrue, Result, IfSome}
 use Rattle.std.specs.List.{Contains}
 use Rattle.std.proofs.lemmas.Bool.{cases_lt}
 use Rattle.std.proofs.lemmas.List.{get_or_default}
@@ -17,7 +17,7 @@ use Rattle.byte_io.specs.declared.inputs.InputFault.{InputFault}
 use Rattle.pdb_merge.specs.Answer.{RefusesFiles}
 use Rattle.pdb_merge.specs.Fault.{NamesFault, add_from_join, merge_from_add}
 use Rattle.pdb_merge.specs.Laws.{TypesOfFirst, TypesOfBoth, AnyOrder, RefusedInAnyOrder, OneWeight}
-use Rattle.pdb_merge.specs.Union.{FileHas, HasTypeBelow, HasType, SameFiles, AcceptedBelow, Weighs, Within, AddsFile, IsAddFault, CanMerge, CanMergeBelow, IsMergeFault, ReadsFirst, Unites}
+use Rattle.pdb_merge.specs.Union.{FileHas, HasTypeBelow, HasType, AcceptedBelow, Weighs, Within, AddsFile, IsAddFault, CanMerge, CanMergeBelow, IsMergeFault, ReadsFirst, Unites}
 use Rattle.pdb_merge.specs.declared.fault.AddFault.{AddFault}
 use Rattle.pdb_merge.specs.declared.fault.AddFault.TheVariants as add
 use Rattle.pdb_merge.specs.declared.fault.MergeFault.{MergeFault}

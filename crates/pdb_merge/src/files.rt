@@ -7,9 +7,9 @@ ghost use Rattle.byte_io.specs.Inputs.{Give, CanRead, HasBytes};
 ghost use Rattle.closed_trees.specs.Tree.{IsType};
 ghost use Rattle.canonical_list.specs.Finish.{IsCanonOf};
 ghost use Rattle.pdb_info.specs.Settings.{record_limit};
-ghost use Rattle.pdb_merge.specs.Fault.{merge_from_add, merge_from_input, AddNamesFault, NamesFault};
+ghost use Rattle.pdb_merge.specs.Fault.{merge_from_add, merge_from_input, AddNamesFault};
 ghost use Rattle.pdb_merge.specs.Answer.{AcceptsFiles, RefusesFiles};
-ghost use Rattle.pdb_merge.specs.Union.{HasType, Within, CanMerge, IsMergeFault, ReadsFirst};
+ghost use Rattle.pdb_merge.specs.Union.{HasType, Within, CanMerge, IsMergeFault};
 ghost use Rattle.pdb_merge.specs.Merging.{HasTaken};
 
 use crate::buffer::Buffer;
@@ -46,11 +46,7 @@ fn input_fault<A: Allocator>(file: usize, fault: InputFault) -> MergeFault<A>
 fn check_rest<I: Inputs, A: Allocator>(inputs: &I, first: usize) -> Result<(), MergeFault<A>>
     requires { IfSome (I.known inputs.now) (λ each. CanRead each first) }
     ensures value { OnOk result (IfSome (I.known inputs.now) (λ each. CanRead each (length each))) }
-    ensures fault { IfErr result (λ fault.
-        IfSome (I.known inputs.now) (λ each. ReadsFirst each fault)) }
-    ensures named { IfErr result NamesFault }
-    ensures unread { (files : List (List ℕ)) → Give (I.known inputs.now) files →
-        IfErr result (λ fault. fault ≡ MergeFault.Memory) }
+    ensures refuses { (limit : ℕ) → IfErr result (RefusesFiles (I.known inputs.now) limit) }
 {
     for input in first..inputs.count() {
         if let Err(fault) = inputs.check(input) {
@@ -114,15 +110,9 @@ fn add_read<I: Inputs, S: BuildHasher, A: Allocator + Copy>(
     ensures within { OnOk result (Within (IsType merge.new.types) merge.new.limit) }
     ensures read { OnOk result (IfSome (I.known inputs.now) (λ each. CanRead each (input + 1))) }
     ensures limit { merge.new.limit ≡ merge.old.limit }
-    ensures found { (files : List (List ℕ)) → Give (I.known inputs.now) files →
-        HasTaken merge.old (take input files) → CanMerge files merge.old.limit →
-        IfErr result (λ fault. fault ≡ MergeFault.Memory) }
-    ensures first { (files : List (List ℕ)) → Give (I.known inputs.now) files →
-        HasTaken merge.old (take input files) →
-        IfErr result (IsMergeFault files merge.old.limit) }
-    ensures reads { IfErr result (λ fault.
-        IfSome (I.known inputs.now) (λ each. ReadsFirst each fault)) }
-    ensures named { IfErr result NamesFault }
+    ensures refuses { ((files : List (List ℕ)) → Give (I.known inputs.now) files →
+        HasTaken merge.old (take input files)) →
+        IfErr result (RefusesFiles (I.known inputs.now) merge.old.limit) }
 {
     let file = match inputs.read(input, bytes) {
         Ok(file) => file,
@@ -154,15 +144,9 @@ fn add_input<I: Inputs, S: BuildHasher, A: Allocator + Copy>(
     ensures within { OnOk result (Within (IsType merge.new.types) merge.new.limit) }
     ensures read { OnOk result (IfSome (I.known inputs.now) (λ each. CanRead each (input + 1))) }
     ensures limit { merge.new.limit ≡ merge.old.limit }
-    ensures found { (files : List (List ℕ)) → Give (I.known inputs.now) files →
-        HasTaken merge.old (take input files) → CanMerge files merge.old.limit →
-        IfErr result (λ fault. fault ≡ MergeFault.Memory) }
-    ensures first { (files : List (List ℕ)) → Give (I.known inputs.now) files →
-        HasTaken merge.old (take input files) →
-        IfErr result (IsMergeFault files merge.old.limit) }
-    ensures reads { IfErr result (λ fault.
-        IfSome (I.known inputs.now) (λ each. ReadsFirst each fault)) }
-    ensures named { IfErr result NamesFault }
+    ensures refuses { ((files : List (List ℕ)) → Give (I.known inputs.now) files →
+        HasTaken merge.old (take input files)) →
+        IfErr result (RefusesFiles (I.known inputs.now) merge.old.limit) }
 {
     let opened = match inputs.open(input, bytes) {
         Ok(opened) => opened,
