@@ -1,21 +1,10 @@
 -- A file with an info stream, and one without.
-use Rattle.std.proofs.Common.{◌≡◌, ◌⊎◌, ◌<◌, ◌≤◌, List, ℕ, Some, length, inl, inr, refl}
+use Rattle.std.proofs.Common.{◌≡◌, ◌⊎◌, List, ℕ, Some, inl, inr}
 use Rattle.msf_blocks.specs.Layout.{LayoutView, HasLayout}
-use Rattle.msf_streams.specs.declared.fault.StreamFault.{StreamFault}
-use Rattle.msf_streams.specs.declared.fault.StreamFault.TheVariants as streams
-use Rattle.pdb_merge.specs.Fault.{pdb_from_stream}
-use Rattle.pdb_merge.specs.declared.fault.PdbFault.{PdbFault}
-use Rattle.pdb_merge.specs.declared.fault.PdbFault.TheVariants as pdb
 use Rattle.msf_streams.specs.Streams.{stream_contents}
-use Rattle.pdb_commands.specs.Info.{HasNoInfoStream, IsInfoFault, IsInfoText, RefusesInfo, ShowsInfo}
+use Rattle.pdb_commands.specs.Info.{IsInfoFault, IsInfoText, RefusesInfo, ShowsInfo}
 use Rattle.pdb_commands.specs.declared.fault.RunFault.{RunFault}
 use Rattle.pdb_commands.specs.declared.fault.RunFault.TheVariants.{Info, Memory}
-
--- the fault of stream 1 is a fault on the way to its bytes
-pub no_info_stream : {A : Type 0} (file : List ℕ) (layout : LayoutView) (inner : StreamFault) (outer : PdbFault A) → HasLayout file layout → outer ≡ pdb_from_stream inner
-    → ((inner ≡ streams.NoStream 1) × (length layout.streams ≤ 1)) ⊎ ((inner ≡ streams.Memory) × (1 < length layout.streams)) → HasNoInfoStream file outer ⊎ (outer ≡ pdb.Memory)
-no_info_stream file layout inner outer has made (inl (is, none)) = inl (rw (made, is) (layout, has, none, refl))
-no_info_stream file layout inner outer has made (inr (is, some)) = inr (rw (made, is) refl)
 
 -- the text of stream 1 is that of the file
 pub info_shown : (file : List ℕ) (layout : LayoutView) (stream text : List ℕ) → HasLayout file layout → stream_contents file layout 1 ≡ Some stream → IsInfoText stream text → ShowsInfo file text

@@ -11,9 +11,6 @@ use byte_io::{AtFault, ReadAt};
 use msf_blocks::{Layout, MsfFault};
 use std::alloc::Allocator;
 
-/// The stream that identifies a file.
-pub(crate) const INFO_STREAM: u32 = 1;
-
 /// The stream that holds the type records.
 pub(crate) const TPI_STREAM: u32 = 2;
 

@@ -7,7 +7,6 @@ ghost use Rattle.msf_streams.specs.Streams.{WasRead, stream_contents};
 ghost use Rattle.pdb_commands.specs.Show.{Answers, AnswersAt};
 ghost use Rattle.pdb_commands.specs.Info.{ShowsInfo, ShowsInfoRead, RefusesInfo, RefusesInfoRead, HasNoInfoStream, HasNoInfoStreamRead, IsInfoFault, IsInfoText};
 
-use crate::bound::INFO_STREAM;
 use crate::command::{Show, ShowAt, run, run_at};
 use crate::fault::RunFault;
 use crate::streams::read_layout;
@@ -15,12 +14,13 @@ use byte_io::{AtFault, ReadAt, Sink, Source};
 use command_texts::{names_length, push_features, push_info_header, push_names};
 use msf_blocks::{Layout, MsfFault};
 use msf_streams::{contents, gather_at};
+use pdb_info::info_stream;
 use pdb_merge::PdbFault;
 use std::alloc::Allocator;
 
 /// The bytes of stream 1 of a file. They are lent from the file where its blocks are consecutive,
 /// and gathered into the buffer otherwise.
-fn info_stream<'a, A: Allocator + Copy>(
+fn stream_bytes<'a, A: Allocator + Copy>(
     alloc: A,
     file: &'a [u8],
     buffer: &'a mut Vec<u8, A>,
@@ -32,11 +32,12 @@ fn info_stream<'a, A: Allocator + Copy>(
         HasNoInfoStream file.now fault ⊎ (fault ≡ PdbFault.Memory)) }
 {
     let layout = read_layout(alloc, file)?;
-    Ok(contents(alloc, file, &layout, INFO_STREAM, buffer)?)
+    let stream = info_stream(&layout)?;
+    Ok(contents(alloc, file, &layout, stream, buffer)?)
 }
 
 /// Reads stream 1 of a file with this layout by position into the buffer.
-fn info_stream_of<R: ReadAt, L: Allocator, A: Allocator>(
+fn stream_bytes_of<R: ReadAt, L: Allocator, A: Allocator>(
     input: &mut R,
     layout: &Layout<L>,
     buffer: &mut Vec<u8, A>,
@@ -53,7 +54,11 @@ fn info_stream_of<R: ReadAt, L: Allocator, A: Allocator>(
     ensures read { IfErr result (λ fault.
         fault ≡ AtFault.Read → Breaks (R.bytes input.old) (R.is_broken input.new)) }
 {
-    match gather_at(input, layout, INFO_STREAM, buffer) {
+    let stream = match info_stream(layout) {
+        Ok(stream) => stream,
+        Err(fault) => return Err(AtFault::Of(PdbFault::from(fault))),
+    };
+    match gather_at(input, layout, stream, buffer) {
         Ok(()) => Ok(()),
         Err(AtFault::Of(fault)) => Err(AtFault::Of(PdbFault::from(fault))),
         Err(AtFault::Read) => Err(AtFault::Read),
@@ -88,7 +93,7 @@ impl<A: Allocator + Copy> Show<A> for Info {
 
     fn text(&self, alloc: A, file: &[u8]) -> Result<String<A>, RunFault<A>> {
         let mut buffer = Vec::new(alloc);
-        let stream = info_stream(alloc, file, &mut buffer)?;
+        let stream = stream_bytes(alloc, file, &mut buffer)?;
         let text = stream_text(alloc, stream)?;
         Ok(text)
     }
@@ -110,7 +115,7 @@ impl<A: Allocator + Copy> ShowAt<A> for Info {
         layout: &Layout<A>,
     ) -> Result<String<A>, AtFault<RunFault<A>>> {
         let mut buffer = Vec::new(alloc);
-        match info_stream_of(input, layout, &mut buffer) {
+        match stream_bytes_of(input, layout, &mut buffer) {
             Ok(()) => {}
             Err(AtFault::Of(fault)) => return Err(AtFault::Of(RunFault::from(fault))),
             Err(AtFault::Read) => return Err(AtFault::Read),

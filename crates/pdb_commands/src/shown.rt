@@ -7,7 +7,7 @@ ghost use Rattle.msf_blocks.specs.Layout.{HasLayout};
 ghost use Rattle.pdb_commands.specs.Show.{Answers, AnswersAt, IsByPosition, IsByWhole};
 ghost use Rattle.pdb_commands.specs.Shown.{ShowsWithin, ShowsWithinRead, RefusesWithin, RefusesWithinRead, stream_of, ReadsTooLong, ListsTooLong};
 
-use crate::bound::{INFO_STREAM, TPI_STREAM, check_size, check_stream};
+use crate::bound::{TPI_STREAM, check_size, check_stream};
 use crate::check::Check;
 use crate::command::{Show, ShowAt, run, run_at};
 use crate::fault::RunFault;
@@ -18,6 +18,7 @@ use crate::streams::Streams;
 use crate::types::Types;
 use byte_io::{AtFault, ReadAt, ReadFault, Sink, Source};
 use msf_blocks::{Layout, MsfFault};
+use pdb_info::INFO_STREAM;
 use pdb_merge::PdbFault;
 use std::alloc::Allocator;
 

@@ -8,6 +8,7 @@
 //! offset of the name in the buffer, and the number of the stream. A word of 0, the closing word,
 //! follows the pairs; older files do not have it.
 //!
+//! - [`info_stream`] says which stream of a container is its info stream, if it has one.
 //! - [`InfoHeader::read`] reads the header alone: version, signature, age and GUID.
 //! - [`Info::read`] checks and reads the whole stream. The names are lent from the stream.
 //! - [`info_bytes`] makes the info stream of a file that is written: a header with the age and the
@@ -44,6 +45,7 @@ mod name_ends;
 mod names;
 mod pairs;
 mod settings;
+mod stream;
 mod written;
 
 pub use fault::InfoFault;
@@ -52,4 +54,5 @@ pub use header::InfoHeader;
 pub use info::Info;
 pub use names::Name;
 pub use settings::Settings;
+pub use stream::{INFO_STREAM, info_stream};
 pub use written::info_bytes;

@@ -11,14 +11,11 @@ ghost use Rattle.pdb_merge.specs.Read.{RecordsWereRead, ListsLongInfo, ListsType
 use crate::fault::PdbFault;
 use byte_io::{AtFault, ReadAt};
 use msf_blocks::{Container, Layout};
-use msf_streams::{StreamFault, contents, gather_at};
-use pdb_info::InfoFault;
+use msf_streams::{contents, gather_at};
+use pdb_info::{InfoFault, info_stream};
 use std::alloc::{Allocator, Global};
 use std::marker::Model;
 use tpi_records::Records;
-
-/// The stream that identifies a file.
-const INFO_STREAM: u32 = 1;
 
 /// The stream that holds the type records.
 const TPI_STREAM: u32 = 2;
@@ -62,8 +59,9 @@ fn check_info<L: Allocator, A: Allocator>(layout: &Layout<L>) -> Result<(), PdbF
     ensures first { (file : List ℕ) → IfErr result (HasInfoFault file layout.now) }
     ensures refused { IfErr result (HasInfoFaultRead layout.now) }
 {
-    let Some(size) = layout.size(INFO_STREAM) else {
-        return Err(PdbFault::Stream(StreamFault::NoStream(INFO_STREAM)));
+    let stream = info_stream(layout)?;
+    let Some(size) = layout.size(stream) else {
+        unreachable!()
     };
     if size < HEADER {
         return Err(PdbFault::Info(InfoFault::InfoShort));

@@ -1,14 +1,36 @@
 use Rattle.std.proofs.Common.{◌∙◌, sym, refl, arith}
-use Rattle.pdb_merge.proofs.StreamLaws.{long_info, short_info, listed_info}
+use Rattle.std.proofs.lemmas.Result.{err_from_is_err_and}
+use Rattle.pdb_merge.proofs.StreamLaws.{long_info, short_info, listed_info, not_listed}
 use Rattle.pdb_merge.proofs.buffer.check_info.Goals as goal
+
+pub unreachable-requires : goal.unreachable-requires
+unreachable-requires g c =
+    let few = not_listed c.size.result c.args.layout.now.streams 1 (rw c.in_ok-stream.ensures.value at c.size.ensures.value) c.in_default.is in
+    absurd (omega (arith, few, c.in_ok-stream.ensures.there))
+
+pub returns-in_err-stream-clause-first : goal.returns-in_err-stream-clause-first
+returns-in_err-stream-clause-first g c = λ file.
+    let p = err_from_is_err_and c.from_residual.result c.from_residual.ensures.1 in
+    let none = c.in_err-stream.ensures.first in
+    rw (p.1, p.2, none.0) (none.1, refl)
+
+pub returns-in_err-stream-clause-refused : goal.returns-in_err-stream-clause-refused
+returns-in_err-stream-clause-refused g c =
+    let p = err_from_is_err_and c.from_residual.result c.from_residual.ensures.1 in
+    let none = c.in_err-stream.ensures.first in
+    rw (p.1, p.2, none.0) (none.1, refl)
 
 pub returns-then-size-lt-HEADER-clause-first : goal.returns-then-size-lt-HEADER-clause-first
 returns-then-size-lt-HEADER-clause-first g c = λ file.
-    (short_info file c.args.layout.now c.in-Some.size (sym c.size.ensures.value ∙ c.in-Some.is) (omega (arith, c.if-size-lt-HEADER.true)), refl)
+    let is = rw c.in_ok-stream.ensures.value at (sym c.size.ensures.value ∙ c.in-Some.is) in
+    (short_info file c.args.layout.now c.in-Some.size is (omega (arith, c.if-size-lt-HEADER.true)), refl)
 
 pub returns-clause-value : goal.returns-clause-value
 returns-clause-value g c = λ file.
-    long_info file c.args.layout.now c.in-Some.size (sym c.size.ensures.value ∙ c.in-Some.is) (omega (arith, c.if-size-lt-HEADER.false))
+    let is = rw c.in_ok-stream.ensures.value at (sym c.size.ensures.value ∙ c.in-Some.is) in
+    long_info file c.args.layout.now c.in-Some.size is (omega (arith, c.if-size-lt-HEADER.false))
 
 pub returns-clause-info : goal.returns-clause-info
-returns-clause-info g c = listed_info c.args.layout.now c.in-Some.size (sym c.size.ensures.value ∙ c.in-Some.is) (omega (arith, c.if-size-lt-HEADER.false))
+returns-clause-info g c =
+    let is = rw c.in_ok-stream.ensures.value at (sym c.size.ensures.value ∙ c.in-Some.is) in
+    listed_info c.args.layout.now c.in-Some.size is (omega (arith, c.if-size-lt-HEADER.false))
