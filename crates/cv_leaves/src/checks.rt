@@ -8,7 +8,7 @@ ghost use Rattle.cv_leaves.specs.Place.{HasPlaces};
 
 use crate::fault::LeafFault;
 use crate::leaf::{Leaf, Rest, leaf_of};
-use crate::part::{extent, check_field, part_at};
+use crate::part::{check_field, extent, part_at};
 use byte_fields::u16_at;
 
 /// The kind of a record, which is its leaf. This does not allocate.
