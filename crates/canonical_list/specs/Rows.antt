@@ -1,5 +1,5 @@
 -- How the records of a level continue a canonical list, once they are renumbered and sorted.
-use Rattle.std.specs.Prelude.{ℕ, zero, suc, ◌≡◌, ◌+◌, ◌*◌, ◌^◌, ◌<◌, List, [], ◌∷◌, get_or}
+use Rattle.std.specs.Prelude.{ℕ, zero, suc, ◌≡◌, ◌+◌, ◌*◌, ◌^◌, ◌<◌, List, [], ◌∷◌, drop, get_or}
 use Rattle.byte_fields.specs.Bytes.{AreBytes}
 use Rattle.closed_trees.specs.Tree.{Tree, IsTreeAt}
 use Rattle.closed_trees.specs.Depth.{depth}
@@ -20,11 +20,16 @@ first_bytes n [] = 0
 first_bytes zero (b ∷ x) = 0
 first_bytes (suc n) (b ∷ x) = b * 256 ^ n + first_bytes n x
 
--- the key of a row: its first 8 bytes as one number
-unfoldable pub key : List ℕ → ℕ
-key x = first_bytes 8 x
+-- the head of a row: its first 4 bytes as one number
+unfoldable pub head : List ℕ → ℕ
+head x = first_bytes 4 x
 
--- k is the key of x, which is made of bytes
-pub record IsKeyed (k : ℕ) (x : List ℕ) : Type 0 where
-  pub is : k ≡ key x
+-- the key of a row: the next 8 bytes as one number
+unfoldable pub key : List ℕ → ℕ
+key x = first_bytes 8 (drop 4 x)
+
+-- h is the head of x, which is made of bytes, and k its key
+pub record IsKeyed (h k : ℕ) (x : List ℕ) : Type 0 where
+  pub is_head : h ≡ head x
+  pub is_key : k ≡ key x
   pub bytes : AreBytes x

@@ -122,7 +122,7 @@ fn keyed_rows<'a, A: Allocator + Copy>(
     requires many { length positions.now ≡ length rows.now }
     ensures rows { IfOk result (λ v. map (λ p. p.bytes.now) v.items ≡ rows.now) }
     ensures positions { IfOk result (λ v. map (λ p. p.position) v.items ≡ positions.now) }
-    ensures keyed { IfOk result (λ v. All (λ p. IsKeyed p.key p.bytes.now) v.items) }
+    ensures keyed { IfOk result (λ v. All (λ p. IsKeyed p.head p.key p.bytes.now) v.items) }
 {
     let mut keyed = Vec::with_capacity(alloc, rows.len())?;
     for k in 0..rows.len() {

@@ -12,4 +12,4 @@ push-requires-clause-few g c =
     let many : length rows ≡ length order = length-map order (λ p. p.bytes.now) in
     let is = c.loop-entry.invariant ∙ ap (λ (x : List (List ℕ)). c.args.out.now ++ x) (sym (take-map (λ p. p.bytes.now) k order)) in
     let fit = rows_fit c.loop-entry.out c.args.out.now rows k is (omega (arith, inside, many)) c.requires.few in
-    omega (arith, fit, ap length (get_or-map (λ p. p.bytes.now) order k (record { key = 0; bytes = record { ref_ptr = (0, 0); now = [] }; position = 0 }) [] (omega (arith, inside))))
+    omega (arith, fit, ap length (get_or-map (λ p. p.bytes.now) order k (record { head = 0; key = 0; bytes = record { ref_ptr = (0, 0); now = [] }; position = 0 }) [] (omega (arith, inside))))

@@ -14,5 +14,5 @@ returns-clause-fit g c = λ h fit. moved_rows (λ p. p.bytes.now) (λ p. p.posit
 pub returns-clause-sorted : goal.returns-clause-sorted
 returns-clause-sorted g c =
     let moved = c.sort_unstable.ensures.permutation in
-    let keyed = All-permutation (λ p. IsKeyed p.key p.bytes.now) c.in_ok-keyed.keyed.items c.sort_unstable.new.self.items moved c.in_ok-keyed.ensures.keyed in
-    sorted_rows (λ p. p.key) (λ p. p.bytes.now) (λ p. p.position) (record { key = 0; bytes = record { ref_ptr = (0, 0); now = [] }; position = 0 }) c.sort_unstable.new.self.items _ keyed c.sort_unstable.ensures.sorted refl
+    let keyed = All-permutation (λ p. IsKeyed p.head p.key p.bytes.now) c.in_ok-keyed.keyed.items c.sort_unstable.new.self.items moved c.in_ok-keyed.ensures.keyed in
+    sorted_rows (λ p. p.head) (λ p. p.key) (λ p. p.bytes.now) (λ p. p.position) (record { head = 0; key = 0; bytes = record { ref_ptr = (0, 0); now = [] }; position = 0 }) c.sort_unstable.new.self.items _ keyed c.sort_unstable.ensures.sorted refl
