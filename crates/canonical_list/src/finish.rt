@@ -15,6 +15,7 @@ ghost use Rattle.tpi_records.specs.Records.{IsRecord};
 ghost use Rattle.cv_leaves.specs.Place.{IsChecked};
 ghost use Rattle.cv_leaves.specs.References.{references};
 ghost use Rattle.closed_trees.specs.Depth.{AreDepths, HasDepths, HasLevels};
+ghost use Rattle.closed_trees.specs.Named.{named_places};
 ghost use Rattle.closed_trees.specs.Tree.{Tree, IsType};
 ghost use Rattle.closed_trees.specs.Table.{IsTable, AreNumbered, renumbered};
 ghost use Rattle.canonical_list.specs.Rows.{row, IsKeyed};
@@ -24,9 +25,9 @@ use crate::levels::Levels;
 use crate::row::Row;
 use closed_trees::{levels_of, renumber_into};
 use packed_texts::PackedTexts;
+use record_set::RecordSet;
 use std::alloc::{AllocError, Allocator};
 use std::hash::BuildHasher;
-use text_set::TextSet;
 
 /// Appends the row of a record to the other rows.
 #[tactic(auto, using(closed_trees::proofs::RenumberLaws::padded_record, closed_trees::proofs::RenumberLaws::renumbered_long))]
@@ -34,16 +35,18 @@ fn push_row<A: Allocator>(
     rows: &mut PackedTexts<A>,
     copy: &mut Vec<u8, A>,
     bytes: &[u8],
+    places: &[u16],
     numbers: &[u32],
 ) -> Result<(), AllocError>
     requires framed { IsRecord bytes.now }
     requires checked { IsChecked bytes.now }
+    requires listed { places.now ≡ named_places bytes.now }
     requires named { AreNumbered numbers.now (references bytes.now) }
     requires few { length (concat rows.old) + length bytes.now < 2 ^ 34 }
     ensures ok { IfOk result (λ _.
         rows.new ≡ rows.old ++ renumbered (λ k. get_or numbers.now k 0) bytes.now ∷ []) }
 {
-    renumber_into(copy, bytes, numbers)?;
+    renumber_into(copy, bytes, places, numbers)?;
     rows.push(copy)
 }
 
@@ -86,7 +89,7 @@ impl<A: Allocator + Copy> Unsorted<A> {
 /// Collects the rows of a level.
 fn collect<S: BuildHasher, A: Allocator + Copy>(
     alloc: A,
-    table: &TextSet<S, A>,
+    table: &RecordSet<S, A>,
     depths: &Levels<'_, A>,
     level: u32,
     numbers: &[u32],
@@ -105,8 +108,13 @@ fn collect<S: BuildHasher, A: Allocator + Copy>(
     unsorted.clear(alloc);
     let mut candidate = depths.newest(level);
     while let Some(position) = candidate {
-        let bytes = table.get(position);
-        push_row(&mut unsorted.rows, &mut unsorted.copy, bytes, numbers)?;
+        push_row(
+            &mut unsorted.rows,
+            &mut unsorted.copy,
+            table.get(position),
+            table.places(position),
+            numbers,
+        )?;
         unsorted.positions.push(position as u32)?;
         candidate = depths.older(position);
     }
@@ -188,7 +196,7 @@ fn sorted_rows<'a, A: Allocator + Copy>(
 /// Appends the next level to the list, and numbers its records.
 fn list_level<S: BuildHasher, A: Allocator + Copy>(
     alloc: A,
-    table: &TextSet<S, A>,
+    table: &RecordSet<S, A>,
     depths: &Levels<'_, A>,
     level: u32,
     numbers: &mut [u32],
@@ -220,7 +228,7 @@ fn list_level<S: BuildHasher, A: Allocator + Copy>(
 /// `numbers` has an entry of any value for each record; a record gets its number once it is listed.
 fn list_levels<S: BuildHasher, A: Allocator + Copy>(
     alloc: A,
-    table: &TextSet<S, A>,
+    table: &RecordSet<S, A>,
     depths: &Levels<'_, A>,
     levels: u32,
     numbers: &mut [u32],
@@ -254,7 +262,7 @@ fn list_levels<S: BuildHasher, A: Allocator + Copy>(
 #[tactic(auto, using(crate::proofs::LinkLaws::zeros_small, crate::proofs::FinishLaws::table_small))]
 pub fn canonical_list<S: BuildHasher, A: Allocator + Copy>(
     alloc: A,
-    table: &TextSet<S, A>,
+    table: &RecordSet<S, A>,
     depths: &[u32],
 ) -> Result<PackedTexts<A>, AllocError>
     requires table { IsTable table.now }

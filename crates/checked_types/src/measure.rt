@@ -8,7 +8,7 @@ ghost use Rattle.checked_types.specs.Graph.{graph_of};
 ghost use Rattle.checked_types.specs.Order.{order_list};
 
 use crate::order::{Order, record_at};
-use closed_trees::depth_of;
+use closed_trees::{depth_of, list_places};
 use std::alloc::{AllocError, Allocator};
 use tpi_records::Records;
 
@@ -28,9 +28,12 @@ pub fn measure<A: Allocator + Copy>(
 {
     let len = records.len();
     let mut depths = vec![in alloc; 0u32; len]?;
+    let mut places = Vec::new(alloc);
     let mut cursor = records.cursor();
     for position in order.positions(len) {
-        depths[position] = depth_of(record_at(&mut cursor, position), &depths);
+        let bytes = record_at(&mut cursor, position);
+        list_places(bytes, &mut places)?;
+        depths[position] = depth_of(bytes, &places, &depths);
     }
     Ok(depths)
 }

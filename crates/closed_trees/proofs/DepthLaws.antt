@@ -12,7 +12,7 @@ use Rattle.tpi_records.specs.Header.{first_index}
 -- ---- Heights
 
 -- a simple reference has the height 0
-height_simple : (f : ℕ → ℕ) (n : ℕ) → n < first_index → height f n ≡ 0
+pub height_simple : (f : ℕ → ℕ) (n : ℕ) → n < first_index → height f n ≡ 0
 unfolding height
 height_simple f n lt = rw (lt-ltb n first_index lt) refl
 

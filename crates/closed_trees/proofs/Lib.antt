@@ -10,3 +10,4 @@ pub mod LevelLaws
 pub mod TableLaws
 pub mod NextLaws
 pub mod RenumberLaws
+pub mod NamedLaws

@@ -4,10 +4,11 @@ ghost use Rattle.std.specs.Prelude.{◌≡◌, ◌≤◌, ◌<◌, ◌+◌, ℕ,
 ghost use Rattle.tpi_records.specs.Records.{IsRecord};
 ghost use Rattle.cv_leaves.specs.Place.{IsChecked};
 ghost use Rattle.cv_leaves.specs.References.{references};
+ghost use Rattle.closed_trees.specs.Named.{named_places};
 ghost use Rattle.closed_trees.specs.Types.{NamesThere};
 ghost use Rattle.closed_trees.specs.Table.{renumber_one, renumbered, IsNumbered, AreNumbered};
 
-use cv_leaves::{places, ref_at, set_ref};
+use cv_leaves::{ref_at, set_ref};
 use std::alloc::{AllocError, Allocator};
 use tpi_records::FIRST_INDEX;
 
@@ -27,15 +28,21 @@ pub fn number_for(to: u32, numbers: &[u32]) -> Option<u32>
 
 /// Writes the new type index of each reference of a record into a copy of the record. Returns
 /// whether each reference has one. Where one has none, those before it are written.
-pub fn renumber(bytes: &[u8], numbers: &[u32], copy: &mut [u8]) -> bool
+///
+/// `places` has the places at which the record names other records.
+pub fn renumber(bytes: &[u8], places: &[u16], numbers: &[u32], copy: &mut [u8]) -> bool
     requires framed { IsRecord bytes.now }
     requires checked { IsChecked bytes.now }
+    requires listed { places.now ≡ named_places bytes.now }
     requires same { copy.old ≡ bytes.now }
     ensures value { IsTrue result → copy.new ≡ renumbered (λ k. get_or numbers.now k 0) bytes.now }
     ensures there { IsTrue result → NamesThere (length numbers.now) (references bytes.now) }
     ensures named { AreNumbered numbers.now (references bytes.now) → IsTrue result }
+    // The copy names records at the same places.
+    ensures still { IsTrue result → named_places copy.new ≡ named_places bytes.now }
 {
-    for place in places(bytes) {
+    for place in places {
+        let place = usize::from(*place);
         match number_for(ref_at(bytes, place), numbers) {
             Some(to) => set_ref(copy, place, to),
             None => return false,
@@ -46,22 +53,28 @@ pub fn renumber(bytes: &[u8], numbers: &[u32], copy: &mut [u8]) -> bool
 
 /// Makes `copy` the record with its new type indices. Returns whether each reference has one.
 ///
-/// `numbers` has the position of each record that may be named.
+/// `places` has the places at which the record names other records, and `numbers` the position of
+/// each record that may be named.
 pub fn renumber_into<A: Allocator>(
     copy: &mut Vec<u8, A>,
     bytes: &[u8],
+    places: &[u16],
     numbers: &[u32],
 ) -> Result<bool, AllocError>
     requires framed { IsRecord bytes.now }
     requires checked { IsChecked bytes.now }
+    requires listed { places.now ≡ named_places bytes.now }
     ensures value { IfOk result (λ all.
         IsTrue all → copy.new.items ≡ renumbered (λ k. get_or numbers.now k 0) bytes.now) }
     ensures there { IfOk result (λ all.
         IsTrue all → NamesThere (length numbers.now) (references bytes.now)) }
     ensures named { IfOk result (λ all.
         AreNumbered numbers.now (references bytes.now) → IsTrue all) }
+    // The copy names records at the same places.
+    ensures still { IfOk result (λ all.
+        IsTrue all → named_places copy.new.items ≡ named_places bytes.now) }
 {
     copy.clear();
     copy.extend_from_slice(bytes)?;
-    Ok(renumber(bytes, numbers, copy))
+    Ok(renumber(bytes, places, numbers, copy))
 }

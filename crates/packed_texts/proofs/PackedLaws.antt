@@ -44,7 +44,7 @@ next_start ends position before e = let s : position ≡ suc before = omega (ari
 -- ---- one text
 
 -- each text ends where it begins, or after
-start_le : (from last : ℕ) (ends : List ℕ) (k : ℕ) → Rise from ends last → k ≤ length ends → (from ≤ get_or (from ∷ ends) k 0) × (get_or (from ∷ ends) k 0 ≤ last)
+pub start_le : (from last : ℕ) (ends : List ℕ) (k : ℕ) → Rise from ends last → k ≤ length ends → (from ≤ get_or (from ∷ ends) k 0) × (get_or (from ∷ ends) k 0 ≤ last)
 start_le from last ends zero h inside = (omega arith, rise_le from last ends h)
 start_le from last [] (suc k) h inside = absurd (omega (arith, inside))
 start_le from last (end ∷ ends) (suc k) h inside = let e = start_le end last ends k h.1 (omega (arith, inside)) in (omega (arith, e.0, h.0), e.1)
@@ -155,12 +155,12 @@ rise_pushed bytes text words word end h is whole_bytes whole_text at =
 
 -- ---- the first texts
 
-rise_first : (from last : ℕ) (ends : List ℕ) (k : ℕ) → Rise from ends last → k ≤ length ends → Rise from (take k ends) (get_or (from ∷ ends) k 0)
+pub rise_first : (from last : ℕ) (ends : List ℕ) (k : ℕ) → Rise from ends last → k ≤ length ends → Rise from (take k ends) (get_or (from ∷ ends) k 0)
 rise_first from last ends zero h inside = refl
 rise_first from last [] (suc k) h inside = absurd (omega (arith, inside))
 rise_first from last (end ∷ ends) (suc k) h inside = (h.0, rise_first end last ends k h.1 (omega (arith, inside)))
 
-first_texts : (bytes : List ℕ) (from last : ℕ) (ends : List ℕ) (k : ℕ) → Rise from ends last → k ≤ length ends → texts_in (take (get_or (from ∷ ends) k 0 - from) bytes) from (take k ends) ≡ take k (texts_in bytes from ends)
+pub first_texts : (bytes : List ℕ) (from last : ℕ) (ends : List ℕ) (k : ℕ) → Rise from ends last → k ≤ length ends → texts_in (take (get_or (from ∷ ends) k 0 - from) bytes) from (take k ends) ≡ take k (texts_in bytes from ends)
 unfolding texts_in
 first_texts bytes from last ends zero h inside = refl
 first_texts bytes from last [] (suc k) h inside = absurd (omega (arith, inside))

@@ -3,7 +3,7 @@
 use crate::orders::names_nodes;
 use byte_fields::{u16_at, u32_at};
 use byte_io::{In, Out, put_all};
-use closed_trees::renumber_into;
+use closed_trees::{list_places, renumber_into};
 use command_texts::{push_named, push_quoted};
 use cv_leaves::{places, ref_at, type_name};
 use key_chains::KeyChains;
@@ -13,6 +13,7 @@ use packed_texts::PackedTexts;
 use pdb_commands::run_check;
 use pdb_info::{Info, Settings, guid_of};
 use pdb_merge::{Buffer, merge_to, read_records, read_types};
+use record_set::RecordSet;
 use std::test::Fail;
 use test_samples::{TO_INT, folding, sample};
 use text_set::TextSet;
@@ -154,10 +155,24 @@ fn a_record_that_is_renumbered(rt: HostRuntime) -> Result<(), Fail> {
     let mut buffer = Buffer::new(rt.alloc());
     let types = Types::check(rt.alloc(), read_records(rt.alloc(), &file, &mut buffer)?)?;
     let record = types.get(0).ok_or("no such type")?;
-    let mut copy = Vec::new(rt.alloc());
+    let mut places = Vec::new(rt.alloc());
+    list_places(record, &mut places)?;
     // it names only simple types, and these stay
-    assert!(rt; renumber_into(&mut copy, record, &[])?);
+    assert!(rt; places.is_empty());
+    let mut copy = Vec::new(rt.alloc());
+    assert!(rt; renumber_into(&mut copy, record, &places, &[])?);
     assert_eq!(rt; copy.as_slice(), record);
+    Ok(())
+}
+
+/// `record_set` keeps each record once, with the places at which it names other records.
+#[test]
+fn each_record_once(rt: HostRuntime) -> Result<(), Fail> {
+    let mut set = RecordSet::with_hasher(rt.alloc(), folding());
+    let first = set.intern(TO_INT, &[])?;
+    assert_eq!(rt; set.intern(TO_INT, &[])?, first);
+    assert_eq!(rt; set.len(), 1);
+    assert!(rt; set.places(first).is_empty());
     Ok(())
 }
 

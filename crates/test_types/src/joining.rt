@@ -521,11 +521,12 @@ type Step = (
     &'static [&'static [u8]],
 );
 
-/// A type that comes before one that is there.
+/// A type that comes before one that is there. There are more records than in the stream before, so
+/// that their numbers need more memory.
 const LOWER: Step = (
     &[CONST, TO_FIRST],
     &[],
-    &[VOLATILE, TO_FIRST],
+    &[VOLATILE, TO_FIRST, VOLATILE, TO_FIRST, VOLATILE],
     &[CONST, TO_FIRST],
     &[CONST, VOLATILE, TO_FIRST, TO_SECOND],
 );
@@ -534,7 +535,7 @@ const LOWER: Step = (
 const LATER: Step = (
     &[CONST, TO_FIRST],
     &[],
-    &[TO_SECOND, VOLATILE],
+    &[TO_SECOND, VOLATILE, VOLATILE, VOLATILE, VOLATILE],
     &[CONST, TO_FIRST],
     &[CONST, VOLATILE, TO_FIRST, TO_SECOND],
 );

@@ -7,3 +7,5 @@
 mod calls;
 #[cfg(test)]
 mod joining;
+#[cfg(test)]
+mod places;

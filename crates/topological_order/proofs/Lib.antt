@@ -1,4 +1,3 @@
-pub mod GraphLaws
 pub mod WalkLaws
 pub mod OrderLaws
 pub mod CycleLaws

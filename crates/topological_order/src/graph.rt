@@ -52,7 +52,7 @@ fn end_of(ends: &[u32], node: usize) -> usize
 
 impl<A: Allocator + Copy> Graph<A> {
     /// A graph without nodes, with space for `nodes` of them.
-    #[tactic(auto, using(crate::proofs::GraphLaws::no_nodes))]
+    #[tactic(auto, using(packed_texts::proofs::RowLaws::no_rows))]
     pub fn with_capacity(alloc: A, nodes: usize) -> Result<Graph<A>, AllocError>
         ensures { IfOk result (λ graph. graph ≡ []) }
     {
@@ -81,7 +81,7 @@ impl<A: Allocator> Graph<A> {
     }
 
     /// The nodes that a node names, in the order in which it names them.
-    #[tactic(auto, using(packed_texts::proofs::PackedLaws::length_of_texts, crate::proofs::GraphLaws::row_at, crate::proofs::GraphLaws::row_inside, crate::proofs::GraphLaws::row_forward))]
+    #[tactic(auto, using(packed_texts::proofs::PackedLaws::length_of_texts, packed_texts::proofs::RowLaws::row_at, packed_texts::proofs::RowLaws::row_inside, packed_texts::proofs::RowLaws::row_forward))]
     pub fn get(&self, node: usize) -> &[u32]
         requires inside { node < length self.now }
         ensures value { result.now ≡ get_or self.now node [] }
@@ -95,7 +95,7 @@ impl<A: Allocator> Graph<A> {
     /// Appends a node that names these nodes.
     ///
     /// If this runs out of memory, the graph stays as it was.
-    #[tactic(auto, using(packed_texts::proofs::PackedLaws::whole, packed_texts::proofs::PackedLaws::length_of_texts, crate::proofs::GraphLaws::row_pushed, crate::proofs::GraphLaws::rise_pushed))]
+    #[tactic(auto, using(packed_texts::proofs::PackedLaws::whole, packed_texts::proofs::PackedLaws::length_of_texts, packed_texts::proofs::RowLaws::row_pushed, packed_texts::proofs::RowLaws::rise_pushed))]
     pub fn push(&mut self, named: &[u32]) -> Result<(), AllocError>
         requires short { length (concat self.old) + length named.now < 2 ^ 32 }
         requires few { length self.old + 1 < 2 ^ 32 }

@@ -1,9 +1,10 @@
 -- A canonical list is a table.
-use Rattle.std.proofs.Common.{◌≡◌, ◌≢◌, ◌≤◌, ◌<◌, ◌^◌, ◌+◌, ◌↔◌, ℕ, zero, suc, Some, List, [], ◌∷◌, length, take, drop, get_or, refl, sym, ap, ◌∙◌, arith, inl, inr, length-append}
+use Rattle.std.proofs.Common.{◌≡◌, ◌≢◌, ◌≤◌, ◌<◌, ◌^◌, ◌+◌, ◌↔◌, ℕ, zero, suc, Some, List, [], ◌∷◌, ◌++◌, length, take, drop, get_or, refl, sym, ap, ◌∙◌, arith, inl, inr, length-append}
 use Rattle.std.specs.Prelude.{slice_get}
 use Rattle.std.proofs.lemmas.Bool.{cases_lt}
-use Rattle.std.proofs.lemmas.List.{get_or_append_left, get_or-append-add, get_or-map, length-map}
+use Rattle.std.proofs.lemmas.List.{take_more, get_or-take, length-take-le, get_or_append_left, get_or-append-add, get_or-map, length-map}
 use Rattle.std.specs.List.{AllPairs, concat}
+use Rattle.text_set.specs.TextSet.{Holds}
 use Rattle.closed_trees.specs.Tree.{Tree, nothing, IsType}
 use Rattle.closed_trees.specs.Canon.{text, texts, Canonical}
 use Rattle.byte_fields.specs.Bytes.{AreBytes}
@@ -86,6 +87,17 @@ next_fits r k short inside = omega (arith, short, part r k inside)
     part (x ∷ xs) (suc n) inside = omega (arith, length-append x (concat xs), length-append x (concat (take n xs)), part xs n (omega (arith, inside)))
 
 -- the first texts of a list are the whole list when there are as many
+-- one record more of the list is in the set
+pub taken_more : (canon before after : List (List ℕ)) (k j : ℕ) → IsTable canon → before ≡ take k canon → k < length canon → Holds before after (get_or canon k []) → j < length after → get_or after j [] ≡ get_or canon k [] → after ≡ take (k + 1) canon
+taken_more canon before after k j table is inside put j_in at = elim put [
+  | inl same ↦
+      let long : length before ≡ k = ap length is ∙ length-take-le k canon (omega (arith, inside)) in
+      let below : j < k = omega (arith, j_in, ap length same, long) in
+      let old : get_or canon j [] ≡ get_or canon k [] = sym (get_or-take k canon j [] below) ∙ ap (λ (xs : List (List ℕ)). get_or xs j []) (sym is ∙ sym same) ∙ at in
+      absurd (table.distinct j k [] below inside old)
+  | inr more ↦ more.0 ∙ ap (λ (xs : List (List ℕ)). xs ++ get_or canon k [] ∷ []) is ∙ sym (take_more canon k [] inside)
+]
+
 pub whole_taken : (r first : List (List ℕ)) (k : ℕ) → first ≡ take k r → k ≡ length r → first ≡ r
 whole_taken r first k is all = is ∙ ap (λ (n : ℕ). take n r) all ∙ (starts_same r).1
 

@@ -1,10 +1,11 @@
 -- A record that agrees with another one outside the places of that one.
-use Rattle.std.proofs.Common.{◌≡◌, ◌≤◌, ◌<◌, ◌+◌, ◌-◌, ℕ, List, [], ◌∷◌, ◌++◌, length, map, take, drop, get_or, refl, sym, ap, ◌∙◌, arith}
-use Rattle.std.proofs.lemmas.List.{take-append-drop, drop-drop, drop_at, length-take, take_rest}
+use Rattle.std.proofs.Common.{◌≡◌, ◌≤◌, ◌<◌, ◌+◌, ◌-◌, ℕ, List, [], ◌∷◌, ◌++◌, length, map, take, drop, get_or, refl, sym, ap, ◌∙◌, arith, inl, inr}
+use Rattle.std.proofs.lemmas.Bool.{cases_lt}
+use Rattle.std.proofs.lemmas.List.{take-append-drop, take-take, drop-drop, drop-take, drop_at, length-take, take_rest}
 use Rattle.std.proofs.Math.Seq.{take-add, take-append-add, take-append_seam}
 use Rattle.byte_fields.specs.Bytes.{AreBytes}
-use Rattle.byte_fields.proofs.NumberLaws.{length-four_bytes}
-use Rattle.byte_fields.specs.Number.{four_bytes}
+use Rattle.byte_fields.proofs.NumberLaws.{length-four_bytes, number_at-take}
+use Rattle.byte_fields.specs.Number.{four_bytes, number_at}
 use Rattle.cv_leaves.specs.Blank.{put_four, fill}
 use Rattle.cv_leaves.specs.Checks.{places_of}
 use Rattle.cv_leaves.specs.Place.{IsChecked, Apart}
@@ -16,7 +17,10 @@ use Rattle.cv_leaves.proofs.FilledLaws.{own_places, filled_checked, filled_place
 use Rattle.tpi_records.specs.Header.{first_index}
 use Rattle.closed_trees.specs.Types.{NamesThere}
 use Rattle.tpi_records.specs.Records.{IsRecord}
+use Rattle.closed_trees.specs.Named.{named_among, named_places}
 use Rattle.closed_trees.specs.Table.{IsTable, renumber, renumber_one, renumbered}
+use Rattle.closed_trees.proofs.RenumberLaws.{simple_number}
+use Rattle.closed_trees.proofs.NamedLaws.{named-none, named-simple, named-kept, named_apart}
 
 -- ---- agreement outside the places
 
@@ -138,11 +142,59 @@ became many f x y checked x_bytes y_bytes long h =
       there = rw own (becomes_there many f x y 0 ps h);
     }
 
+-- ---- the places that are listed
+
+-- the four bytes at a place are the same number
+same_number : (x y : List ℕ) (p : ℕ) → take 4 (drop (4 + p) x) ≡ take 4 (drop (4 + p) y) → reference_at x p ≡ reference_at y p
+same_number x y p same =
+    number_in_body x p ∙ sym (number_at-take 4 x (4 + p) 4 (omega arith)) ∙ ap (λ (w : List ℕ). number_at 4 w 0) same ∙ number_at-take 4 y (4 + p) 4 (omega arith) ∙ sym (number_in_body y p)
+
+-- the first of the same bytes are the same
+take_same : (n m : ℕ) (x y : List ℕ) → n ≤ m → take m x ≡ take m y → take n x ≡ take n y
+take_same n m x y le same = sym (take-take n m x le) ∙ ap (take n) same ∙ take-take n m y le
+
+-- and the last of them
+drop_same : (from to n : ℕ) (x y : List ℕ) → from ≤ to → take (to - from + n) (drop from x) ≡ take (to - from + n) (drop from y) → take n (drop to x) ≡ take n (drop to y)
+drop_same from to n x y le same =
+    let at : from + (to - from) ≡ to = omega (arith, le) in
+    sym (ap (λ (k : ℕ). take n (drop k x)) at) ∙ sym (ap (take n) (drop-drop (to - from) from x)) ∙ sym (drop-take (to - from) n (drop from x))
+    ∙ ap (drop (to - from)) same ∙ drop-take (to - from) n (drop from y) ∙ ap (take n) (drop-drop (to - from) from y) ∙ ap (λ (k : ℕ). take n (drop k y)) at
+
+-- what becomes y from an offset on, becomes it from a later one on
+later_becomes : (many : ℕ) (f : ℕ → ℕ) (x y : List ℕ) (from to b : ℕ) (qs : List ℕ) (end : ℕ) → from ≤ to → to ≤ 4 + b → Apart b qs end → Becomes many f x y from qs
+    → (take (to - from) (drop from x) ≡ take (to - from) (drop from y)) × Becomes many f x y to qs
+later_becomes many f x y from to b [] end le before apart h = (ap (take (to - from)) h, drop_later x y from to le h)
+later_becomes many f x y from to b (q ∷ qs) end le before apart h =
+    let len : to - from + (4 + q - to) ≡ 4 + q - from = omega (arith, le, before, apart.0) in
+    let all : take (to - from + (4 + q - to)) (drop from x) ≡ take (to - from + (4 + q - to)) (drop from y) = rw len h.0 in
+    (take_same (to - from) (4 + q - from) (drop from x) (drop from y) (omega (arith, len)) h.0, (drop_same from to (4 + q - to) x y le all, h.1, h.2, h.3))
+
+-- what becomes y at the places that are listed becomes it at all places: the others are simple, and their bytes are the same
+becomes_all : (many : ℕ) (f : ℕ → ℕ) (x y : List ℕ) (from b : ℕ) (ps : List ℕ) (end : ℕ) → from ≤ 4 + b → Apart b ps end → Becomes many f x y from (named_among y ps) → Becomes many f x y from ps
+becomes_all many f x y from b [] end le apart h = rw (named-none y) at h
+becomes_all many f x y from b (p ∷ ps) end le apart h = elim (cases_lt (reference_at y p) first_index) [
+  | inl small ↦
+      let tail : Becomes many f x y from (named_among y ps) = rw (named-simple y p ps small) at h in
+      let w = later_becomes many f x y from (4 + p + 4) (p + 4) (named_among y ps) end (omega (arith, le, apart.0)) (omega arith) (named_apart y (p + 4) ps end apart.1) tail in
+      let len : 4 + p - from + 4 ≡ 4 + p + 4 - from = omega (arith, le, apart.0) in
+      let four : take (4 + p - from + 4) (drop from x) ≡ take (4 + p - from + 4) (drop from y) = rw len w.0 in
+      let same : reference_at x p ≡ reference_at y p = same_number x y p (drop_same from (4 + p) 4 x y (omega (arith, le, apart.0)) four) in (
+        take_same (4 + p - from) (4 + p + 4 - from) (drop from x) (drop from y) (omega (arith, len)) w.0,
+        omega (arith, same, small),
+        sym same ∙ simple_number f (reference_at x p) (omega (arith, same, small)),
+        becomes_all many f x y (4 + p + 4) (p + 4) ps end (omega arith) apart.1 w.1,
+      )
+  | inr large ↦ let k = rw (named-kept y p ps large) at h in (k.0, k.1, k.2, becomes_all many f x y (4 + p + 4) (p + 4) ps end (omega arith) apart.1 k.3)
+]
+
 -- ---- place by place
 
 -- before the first place
-pub becoming_starts : (many : ℕ) (f : ℕ → ℕ) (x y left : List ℕ) → left ≡ places_of y → Becomes many f x y 0 left → Becomes many f x y 0 (places_of y)
-becoming_starts many f x y left own h = rw (← own) h
+pub becoming_starts : (many : ℕ) (f : ℕ → ℕ) (x y left : List ℕ) → IsChecked y → left ≡ named_places y → Becomes many f x y 0 left → Becomes many f x y 0 (places_of y)
+unfolding named_places
+becoming_starts many f x y left checked own h =
+    let fit = fits y (places_of y) (own_places y checked) in
+    becomes_all many f x y 0 0 (places_of y) fit.0 (omega arith) fit.1 (rw own at h)
 
 -- one place more
 pub becoming_more : (many : ℕ) (f : ℕ → ℕ) (x y : List ℕ) (from p : ℕ) (left others : List ℕ) → left ≡ p ∷ others → take (4 + p - from) (drop from x) ≡ take (4 + p - from) (drop from y) → reference_at x p < first_index + many
@@ -163,10 +215,11 @@ pub record IsLeft (from : ℕ) (left : List ℕ) (len : ℕ) : Type 0 where
   pub apart : Apart base left end
   pub inside : end + 4 ≤ len
 
-pub all_left : (y left : List ℕ) → IsChecked y → left ≡ places_of y → IsLeft 0 left (length y)
+pub all_left : (y left : List ℕ) → IsChecked y → left ≡ named_places y → IsLeft 0 left (length y)
+unfolding named_places
 all_left y left checked own =
     let fit = fits y (places_of y) (own_places y checked) in
-    record { base = 0; end = fit.0; after = omega arith; apart = rw own fit.1; inside = fit.2 }
+    record { base = 0; end = fit.0; after = omega arith; apart = rw own (named_apart y 0 (places_of y) fit.0 fit.1); inside = fit.2 }
 
 pub next_left : (from p : ℕ) (left others : List ℕ) (len : ℕ) → left ≡ p ∷ others → IsLeft from left len → IsLeft (4 + p + 4) others len
 next_left from p left others len split h =

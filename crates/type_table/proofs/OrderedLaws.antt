@@ -1,5 +1,5 @@
 -- How records are added to a table one by one, in an order in which each comes after those that it names.
-use Rattle.std.proofs.Common.{◌≡◌, ◌≤◌, ◌<◌, ◌+◌, ◌-◌, ◌^◌, ℕ, Bool, true, false, List, [], ◌∷◌, ◌++◌, length, take, drop, set, replicate, get_or, refl, sym, ap, ◌∙◌, subst, arith, inl, inr, length-append}
+use Rattle.std.proofs.Common.{◌≡◌, ◌≤◌, ◌<◌, ◌+◌, ◌-◌, ◌^◌, ℕ, zero, suc, Bool, true, false, List, [], ◌∷◌, ◌++◌, length, take, drop, set, replicate, get_or, refl, sym, ap, ◌∙◌, subst, arith, inl, inr, length-append}
 use Rattle.std.proofs.lemmas.Bool.{cases_lt}
 use Rattle.std.proofs.lemmas.List.{append_assoc, append-nil, length-replicate, length-set, length-take-le, take-append-drop, take_at, get_or_default, get_or_append_left, get_or_at, get_or-take, get_or-set_same, get_or-set_other}
 use Rattle.std.proofs.lemmas.List.Elements.{All-contains, Contains-push_cases, Contains-append_left}
@@ -82,6 +82,16 @@ pub record IsAdding (checked : Bool) (records : List (List ℕ)) (left : List �
   pub adds : Adds records before after (λ p. get_or positions p 0) (Contains done)
   pub early : checked ≡ false → (k : ℕ) → Contains done k → IsEarly records k
   pub few : length (concat after) + sum_by (λ p. length (get_or records p [])) left < 2 ^ 33
+
+-- an empty list that is made longer has zeros alone
+pub all_zeros : (old new : List ℕ) (n len : ℕ) → old ≡ [] → len ≡ 0 → new ≡ take n old ++ replicate (n - len) 0 → new ≡ replicate n 0
+all_zeros old new n len none empty is =
+    let all : n - len ≡ n = omega (arith, empty) in
+    is ∙ ap (λ (xs : List ℕ). take n xs ++ replicate (n - len) 0) none ∙ ap (λ (xs : List ℕ). xs ++ replicate (n - len) 0) (nothing_taken n) ∙ ap (λ (m : ℕ). replicate {A = ℕ} m 0) all
+  where
+    nothing_taken : (m : ℕ) → take {A = ℕ} m [] ≡ []
+    nothing_taken zero = refl
+    nothing_taken (suc m) = refl
 
 -- at the start none is added
 pub adding_starts : (checked : Bool) (records : List (List ℕ)) (left : List ℕ) (before : List (List ℕ)) (many : ℕ) (positions : List ℕ) → IsTable before → length (concat before) < 2 ^ 32 → length (concat records) < 2 ^ 32 → IsWalk checked records left

@@ -16,11 +16,11 @@ ghost use Rattle.type_table.specs.Merge.{StartsWith, IsWalk, IsPut, IsAdded};
 
 use crate::expected::is_at;
 use checked_types::{InOrder, record_at};
-use closed_trees::renumber_into;
+use closed_trees::{list_places, renumber_into};
 use cv_leaves::check;
+use record_set::RecordSet;
 use std::alloc::{AllocError, Allocator};
 use std::hash::BuildHasher;
-use text_set::TextSet;
 use tpi_records::Records;
 
 /// Each number of a `&[u8]` is a byte. This function does nothing: its contract is the fact.
@@ -28,16 +28,56 @@ pub fn are_bytes(text: &[u8])
     ensures { AreBytes text.now }
 {}
 
+/// The memory in which a record is made ready for the set. It serves one record after the other.
+#[derive(Drop)]
+struct Renumbered<A: Allocator> {
+    // the record with its new type indices
+    bytes: Vec<u8, A>,
+    // the places at which it names other records
+    places: Vec<u16, A>,
+}
+
+// The memory of an input with more records is given back after it.
+const KEPT_NUMBERS: usize = 1 << 16;
+
+/// The memory that adding records takes. It serves one input after the other.
+#[derive(Drop)]
+pub struct Workspace<A: Allocator> {
+    // for each record of the input, its position in the set, or 0 where it has none yet
+    numbers: Vec<u32, A>,
+    copy: Renumbered<A>,
+}
+
+impl<A: Allocator + Copy> Workspace<A> {
+    /// No memory yet. This does not allocate.
+    pub fn new(alloc: A) -> Workspace<A> {
+        Workspace {
+            numbers: Vec::new(alloc),
+            copy: Renumbered {
+                bytes: Vec::new(alloc),
+                places: Vec::new(alloc),
+            },
+        }
+    }
+
+    /// Gives the memory of a large input back.
+    pub fn clear(&mut self, alloc: A) {
+        if self.numbers.len() > KEPT_NUMBERS {
+            *self = Workspace::new(alloc);
+        }
+    }
+}
+
 /// Puts a record into the set where it isn't there yet, and returns its position there. `None`
 /// where the record has a fault, or where it names a record without a number.
 ///
 /// `numbers` has the positions in the set of the records that may be named. `guess` is the position
 /// where the record is looked for first. A record that was `checked` is not checked again. Unless
 /// a position is returned, the set stays as it was.
-#[tactic(auto, using(closed_trees::proofs::RenumberLaws::padded_record, closed_trees::proofs::RenumberLaws::long_record, closed_trees::proofs::RenumberLaws::renumbered_long))]
+#[tactic(auto, using(closed_trees::proofs::RenumberLaws::padded_record, closed_trees::proofs::RenumberLaws::long_record, closed_trees::proofs::RenumberLaws::renumbered_long, closed_trees::proofs::NamedLaws::listed_short))]
 fn put_record<S: BuildHasher, A: Allocator>(
-    texts: &mut TextSet<S, A>,
-    copy: &mut Vec<u8, A>,
+    texts: &mut RecordSet<S, A>,
+    copy: &mut Renumbered<A>,
     bytes: &[u8],
     numbers: &[u32],
     guess: usize,
@@ -60,11 +100,12 @@ fn put_record<S: BuildHasher, A: Allocator>(
     if !checked && check(bytes).is_err() {
         return Ok(None);
     }
-    if !renumber_into(copy, bytes, numbers)? {
+    list_places(bytes, &mut copy.places)?;
+    if !renumber_into(&mut copy.bytes, bytes, &copy.places, numbers)? {
         return Ok(None);
     }
-    are_bytes(copy);
-    let position = texts.intern(copy)?;
+    are_bytes(&copy.bytes);
+    let position = texts.intern(&copy.bytes, &copy.places)?;
     Ok(Some(position))
 }
 
@@ -81,8 +122,8 @@ fn known_of(checked: bool, many: usize, position: usize) -> usize
 /// Puts all records into the set, in this order. Returns whether that succeeded: it does for records
 /// that were `checked`. If it does not, or out of memory, some of them may be in the set.
 pub fn add_in_order<S: BuildHasher, A: Allocator + Copy>(
-    alloc: A,
-    texts: &mut TextSet<S, A>,
+    texts: &mut RecordSet<S, A>,
+    work: &mut Workspace<A>,
     records: &Records<'_, A>,
     order: InOrder<'_>,
     checked: bool,
@@ -95,15 +136,15 @@ pub fn add_in_order<S: BuildHasher, A: Allocator + Copy>(
     ensures front { StartsWith texts.new texts.old }
 {
     let many = records.len();
-    let mut numbers = vec![in alloc; 0u32; many]?;
-    let mut copy = Vec::new(alloc);
+    let Workspace { numbers, copy } = work;
+    numbers.clear();
+    numbers.resize(many, 0)?;
     let mut guess = 0;
     let mut cursor = records.cursor();
     for position in order {
         let bytes = record_at(&mut cursor, position);
         let known = known_of(checked, many, position);
-        let Some(found) = put_record(texts, &mut copy, bytes, &numbers[..known], guess, checked)?
-        else {
+        let Some(found) = put_record(texts, copy, bytes, &numbers[..known], guess, checked)? else {
             return Ok(false);
         };
         numbers[position] = found as u32;

@@ -10,25 +10,26 @@ ghost use Rattle.type_table.specs.Merge.{StartsWith, IsWalk, IsAdded};
 ghost use Rattle.closed_trees.specs.Types.{AreTypes};
 ghost use Rattle.canonical_list.specs.Finish.{IsCanonOf};
 
-use crate::adding::{add_in_order, are_bytes};
+use crate::adding::{Workspace, add_in_order, are_bytes};
 use crate::canon::Canon;
 use crate::fault::JoinFault;
 use crate::table_depths::measure_new;
 use canonical_list::canonical_list;
 use checked_types::{InOrder, Types, in_file_order};
+use closed_trees::list_places;
+use record_set::RecordSet;
 use std::alloc::{AllocError, Allocator, Global};
 use std::hash::BuildHasher;
 use std::marker::Model;
-use text_set::TextSet;
 use tpi_records::Records;
 
 /// Puts all records into the set, in this order, and measures the new ones. Returns whether that
 /// succeeded: it does for records that were `checked`. If it does not, or out of memory, some of
 /// them may be in the set.
 fn add_measured<S: BuildHasher, A: Allocator + Copy>(
-    alloc: A,
-    texts: &mut TextSet<S, A>,
+    texts: &mut RecordSet<S, A>,
     depths: &mut Vec<u32, A>,
+    work: &mut Workspace<A>,
     records: &Records<'_, A>,
     order: InOrder<'_>,
     checked: bool,
@@ -43,7 +44,7 @@ fn add_measured<S: BuildHasher, A: Allocator + Copy>(
     ensures front { StartsWith texts.new texts.old }
     ensures measured { StartsWith depths.new.items depths.old.items }
 {
-    if !add_in_order(alloc, texts, records, order, checked)? {
+    if !add_in_order(texts, work, records, order, checked)? {
         return Ok(false);
     }
     measure_new(texts, depths)?;
@@ -52,7 +53,7 @@ fn add_measured<S: BuildHasher, A: Allocator + Copy>(
 
 /// Keeps the first `held` records and their depths, and removes the others.
 fn undo<S: BuildHasher, A: Allocator>(
-    texts: &mut TextSet<S, A>,
+    texts: &mut RecordSet<S, A>,
     depths: &mut Vec<u32, A>,
     held: usize,
 )
@@ -70,9 +71,10 @@ fn undo<S: BuildHasher, A: Allocator>(
 /// 2^32 bytes together.
 #[derive(Drop)]
 pub struct Table<S: BuildHasher, A: Allocator = Global> {
-    texts: TextSet<S, A>,
+    texts: RecordSet<S, A>,
     // the depth of each type
     depths: Vec<u32, A>,
+    work: Workspace<A>,
 }
 
 impl<S: BuildHasher, A: Allocator> Model for Table<S, A> {
@@ -93,8 +95,9 @@ impl<S: BuildHasher, A: Allocator + Copy> Table<S, A> {
         ensures { result ≡ [] }
     {
         Table {
-            texts: TextSet::with_hasher(alloc, hasher),
+            texts: RecordSet::with_hasher(alloc, hasher),
             depths: Vec::new(alloc),
+            work: Workspace::new(alloc),
         }
     }
 
@@ -125,13 +128,14 @@ impl<S: BuildHasher, A: Allocator + Copy> Table<S, A> {
         let held = self.texts.len();
         let order = types.in_order();
         let added = add_measured(
-            alloc,
             &mut self.texts,
             &mut self.depths,
+            &mut self.work,
             types.records(),
             order,
             true,
         );
+        self.work.clear(alloc);
         let bytes = self.texts.bytes().len() as u64;
         if let Err(fault) = added {
             undo(&mut self.texts, &mut self.depths, held);
@@ -164,13 +168,14 @@ impl<S: BuildHasher, A: Allocator + Copy> Table<S, A> {
         let held = self.texts.len();
         let order = in_file_order(records.len());
         let added = add_measured(
-            alloc,
             &mut self.texts,
             &mut self.depths,
+            &mut self.work,
             records,
             order,
             false,
         );
+        self.work.clear(alloc);
         if let Ok(true) = added {
             if self.texts.bytes().len() as u64 <= u64::from(limit) {
                 return true;
@@ -191,13 +196,20 @@ impl<S: BuildHasher, A: Allocator + Copy> Table<S, A> {
         S: Drop,
         ensures { IfOk result (λ table. table ≡ canon.now) }
     {
-        let mut texts = TextSet::with_hasher(alloc, hasher);
+        let mut texts = RecordSet::with_hasher(alloc, hasher);
+        let mut places = Vec::new(alloc);
         for position in 0..canon.len() {
-            texts.intern(canon.texts.get(position))?;
+            let bytes = canon.texts.get(position);
+            list_places(bytes, &mut places)?;
+            texts.intern(bytes, &places)?;
         }
         let mut depths = Vec::new(alloc);
         measure_new(&texts, &mut depths)?;
-        Ok(Table { texts, depths })
+        Ok(Table {
+            texts,
+            depths,
+            work: Workspace::new(alloc),
+        })
     }
 
     /// Makes the canonical list of the types.

@@ -6,16 +6,16 @@ ghost use Rattle.type_table.specs.Merge.{StartsWith};
 ghost use Rattle.closed_trees.specs.Table.{IsTable};
 
 use closed_trees::depth_of;
+use record_set::RecordSet;
 use std::alloc::{AllocError, Allocator};
 use std::hash::BuildHasher;
-use text_set::TextSet;
 
 /// Appends the depths of the records that came after the last one that was measured.
 ///
 /// Each record names only earlier ones, so the depths of those are known. If this runs out of
 /// memory, some of the new depths stay there.
 pub fn measure_new<S: BuildHasher, A: Allocator>(
-    table: &TextSet<S, A>,
+    table: &RecordSet<S, A>,
     depths: &mut Vec<u32, A>,
 ) -> Result<(), AllocError>
     requires table { IsTable table.now }
@@ -26,7 +26,7 @@ pub fn measure_new<S: BuildHasher, A: Allocator>(
     ensures front { StartsWith depths.new.items depths.old.items }
 {
     for position in depths.len()..table.len() {
-        let depth = depth_of(table.get(position), depths);
+        let depth = depth_of(table.get(position), table.places(position), depths);
         depths.push(depth)?;
     }
     Ok(())

@@ -18,19 +18,19 @@ loop-candidate-init g c =
 pub push_row-requires-clause-checked : goal.push_row-requires-clause-checked
 push_row-requires-clause-checked g c =
     let here = rw c.in-Some.is at c.loop-candidate.invariant.here in
-    rw c.get-bytes.ensures (c.requires.table.good.checked c.in-Some.position (omega (arith, here.0, c.requires.many)))
+    rw c.get.ensures (c.requires.table.good.checked c.in-Some.position (omega (arith, here.0, c.requires.many)))
 
 pub push_row-requires-clause-named : goal.push_row-requires-clause-named
 push_row-requires-clause-named g c =
     let k = c.in-Some.position in
     let here = rw c.in-Some.is at c.loop-candidate.invariant.here in
-    rw c.get-bytes.ensures (names_numbered c.args.table.now c.args.numbers.now k (references (get_or c.args.table.now k [])) c.requires.numbered c.requires.bounded (c.requires.table.lower k (omega (arith, here.0, c.requires.many))))
+    rw c.get.ensures (names_numbered c.args.table.now c.args.numbers.now k (references (get_or c.args.table.now k [])) c.requires.numbered c.requires.bounded (c.requires.table.lower k (omega (arith, here.0, c.requires.many))))
 
 pub push_row-requires-clause-few : goal.push_row-requires-clause-few
 push_row-requires-clause-few g c =
     let k = c.in-Some.position in
     let here = rw c.in-Some.is at c.loop-candidate.invariant.here in
-    rw c.get-bytes.ensures (rows_few c.args.table.now c.loop-candidate.unsorted.rows k (rw (c.in-Some.is, bound_of k) at c.loop-candidate.invariant.short) c.requires.short (omega (arith, here.0, c.requires.many)))
+    rw c.get.ensures (rows_few c.args.table.now c.loop-candidate.unsorted.rows k (rw (c.in-Some.is, bound_of k) at c.loop-candidate.invariant.short) c.requires.short (omega (arith, here.0, c.requires.many)))
 
 pub overflow_cast-position : goal.overflow_cast-position
 overflow_cast-position g c =
@@ -50,7 +50,7 @@ loop-candidate-preserved g c =
     let here = rw c.in-Some.is at so_far.here in
     let inside : k < length r = omega (arith, here.0, c.requires.many) in
     let pushed = c.in_ok-push.ensures.items in
-    let row_pushed = rw c.get-bytes.ensures at c.in_ok-push_row.ensures.ok in
+    let row_pushed = rw c.get.ensures at c.in_ok-push_row.ensures.ok in
     let less = smaller _ k o.result o.ensures.found in
     record {
       here = next_here c.args.depths.now c.args.level k o.result here.0 here.1 o.ensures.found;

@@ -1,48 +1,86 @@
-use Rattle.std.proofs.Common.{◌≡◌, ◌≤◌, ◌<◌, ◌+◌, ◌∷◌, ◌∙◌, ap, get_or, length, rules}
+use Rattle.std.proofs.Common.{◌≡◌, ◌≤◌, ◌<◌, ◌+◌, ◌∷◌, [], ◌∙◌, List, ℕ, ap, sym, arith, drop, get_or, length, rules}
+use Rattle.std.proofs.lemmas.List.{drop_more, drop_all}
 use Rattle.cv_leaves.specs.Checks.{places_of}
 use Rattle.cv_leaves.specs.References.{reference_at, references}
+use Rattle.cv_leaves.proofs.FilledLaws.{own_places}
 use Rattle.tpi_records.specs.Header.{first_index}
 use Rattle.closed_trees.specs.Types.{NamesThere}
 use Rattle.closed_trees.specs.Table.{renumber_one}
-use Rattle.closed_trees.proofs.WalkLaws.{own_fit, each_other}
-use Rattle.closed_trees.proofs.RenumberLaws.{all_left, all_named, names_left, names_more, one_left, first_in, others_in}
+use Rattle.closed_trees.proofs.WalkLaws.{each_other}
+use Rattle.closed_trees.proofs.RenumberLaws.{names_more, one_left, none_left, first_in, others_in}
+use Rattle.closed_trees.proofs.NamedLaws.{listed_fill, listed_fit, listed_within, listed_there, listed_numbered, listed_small, small_more, renumbered_named}
 use Rattle.closed_trees.proofs.renumber.renumber.Goals as goal
 
 pub loop-place-init : goal.loop-place-init
 loop-place-init c =
     let r = c.args.bytes.now in
-    let left : c.into_iter-place-iterator.result ≡ c.places-place-items.result = search rules in
-    let own = own_fit r c.places-place-items.result c.places-place-items.ensures in
+    let ps = c.args.places.now in
     record {
-      rest = all_left r _ _ _ (left ∙ own.0) c.requires.same;
-      has = rw (c.requires.same, ← own.0) c.places-place-items.ensures;
-      within = λ p h. rw (← (left ∙ own.0)) h;
-      fit = rw left own.1;
-      there = names_left (length c.args.numbers.now) r _ (left ∙ own.0);
-      named = all_named r _ c.args.numbers.now (left ∙ own.0);
+      rest = listed_fill r ps c.args.copy.now _ c.requires.checked (λ i. search rules) c.requires.listed c.requires.same;
+      has = rw c.requires.same (own_places r c.requires.checked);
+      within = listed_within r ps c.requires.listed;
+      fit = listed_fit r ps c.requires.checked c.requires.listed;
+      there = listed_there (length c.args.numbers.now) r ps c.requires.listed;
+      named = listed_numbered c.args.numbers.now r ps c.requires.listed;
+      small = listed_small _ r ps c.requires.listed;
     }
+
+pub ref_at-requires : goal.ref_at-requires
+ref_at-requires c =
+    let i = c.loop-place.place-index in
+    let ps = c.args.places.now in
+    let here = (each_other (λ p. p + 8 ≤ length c.args.bytes.now) (get_or ps i 0) (drop i ps) (drop (i + 1) ps) (drop_more ps i 0 c.loop-place-test.true) c.loop-place.invariant.fit).0 in
+    omega (arith, here, c.from-place.ensures)
 
 pub set_ref-requires : goal.set_ref-requires
 set_ref-requires c =
-    let split : c.loop-place.place-iterator ≡ c.in-Some.place ∷ c.next.new.self = search rules in
-    (places_of c.args.bytes.now, c.loop-place.invariant.has, c.loop-place.invariant.within c.in-Some.place (first_in c.in-Some.place _ _ split))
+    let i = c.loop-place.place-index in
+    let ps = c.args.places.now in
+    rw c.from-place.ensures
+    (places_of c.args.bytes.now, c.loop-place.invariant.has, c.loop-place.invariant.within (get_or ps i 0) (first_in (get_or ps i 0) (drop i ps) (drop (i + 1) ps) (drop_more ps i 0 c.loop-place-test.true)))
 
 pub loop-place-preserved : goal.loop-place-preserved
 loop-place-preserved c =
     let r = c.args.bytes.now in
     let many = length c.args.numbers.now in
     let so_far = c.loop-place.invariant in
-    let left = c.loop-place.place-iterator in
-    let others = c.next.new.self in
-    let place = c.in-Some.place in
-    let split : left ≡ place ∷ others = search rules in
-    let to : c.in-Some-number_for.to ≡ renumber_one (λ k. get_or c.args.numbers.now k 0) (reference_at r place) = c.in-Some-number_for.ensures.value ∙ ap (renumber_one (λ k. get_or c.args.numbers.now k 0)) c.ref_at.ensures in
-    let here : reference_at r place < first_index + many = rw c.ref_at.ensures at c.in-Some-number_for.ensures.there in
+    let i = c.loop-place.place-index in
+    let left = drop i c.args.places.now in
+    let others = drop (i + 1) c.args.places.now in
+    let place = get_or c.args.places.now i 0 in
+    let split : left ≡ place ∷ others = drop_more c.args.places.now i 0 c.loop-place-test.true in
+    let to : c.in-Some.to ≡ renumber_one (λ k. get_or c.args.numbers.now k 0) (reference_at r place) =
+    c.in-Some.ensures.value ∙ ap (renumber_one (λ k. get_or c.args.numbers.now k 0)) (rw c.from-place.ensures at c.ref_at.ensures) in
+    let here : reference_at r place < first_index + many = rw (c.ref_at.ensures, c.from-place.ensures) at c.in-Some.ensures.there in
     record {
-      rest = one_left r (λ k. get_or c.args.numbers.now k 0) c.loop-place.copy _ _ place _ left others so_far.rest split to c.set_ref.ensures.changes;
+      rest = one_left r (λ k. get_or c.args.numbers.now k 0) c.loop-place.copy _ _ place _ left others so_far.rest split to (rw c.from-place.ensures at c.set_ref.ensures.changes);
       has = c.set_ref.ensures.keeps (places_of r) so_far.has;
       within = λ p h. so_far.within p (others_in p place left others split h);
       fit = (each_other (λ p. p + 8 ≤ length r) place left others split so_far.fit).1;
       there = names_more many r left others place (NamesThere many (references r)) split here so_far.there;
       named = λ all. (rw split at so_far.named all).1;
+      small = small_more (λ k. get_or c.args.numbers.now k 0) r left others place _ split (omega (arith, to, c.in-Some.is)) so_far.small;
     }
+
+pub returns-in-None-clause-named : goal.returns-in-None-clause-named
+returns-in-None-clause-named c = λ all.
+    let i = c.loop-place.place-index in
+    let split = drop_more c.args.places.now i 0 c.loop-place-test.true in
+    absurd (c.in-None.ensures.none (rw (c.ref_at.ensures, c.from-place.ensures) (rw split at c.loop-place.invariant.named all).0))
+
+pub returns-clause-value : goal.returns-clause-value
+returns-clause-value c = λ yes.
+    let i = c.loop-place.place-index in
+    none_left c.args.bytes.now (λ k. get_or c.args.numbers.now k 0) c.loop-place.copy (drop i c.args.places.now) _ c.loop-place.invariant.rest (drop_all i c.args.places.now (search (rules, c.loop-place-test.false)))
+
+pub returns-clause-there : goal.returns-clause-there
+returns-clause-there c = λ yes.
+    let i = c.loop-place.place-index in
+    let none : drop i c.args.places.now ≡ [] = drop_all i c.args.places.now (search (rules, c.loop-place-test.false)) in
+    c.loop-place.invariant.there (rw none tt)
+
+pub returns-clause-still : goal.returns-clause-still
+returns-clause-still c = λ yes.
+    let i = c.loop-place.place-index in
+    let none : drop i c.args.places.now ≡ [] = drop_all i c.args.places.now (search (rules, c.loop-place-test.false)) in
+    rw (returns-clause-value c yes) (renumbered_named c.args.bytes.now _ c.requires.checked (c.loop-place.invariant.small (rw none tt)))

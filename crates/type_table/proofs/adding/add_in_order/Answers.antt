@@ -3,14 +3,14 @@ use Rattle.cv_leaves.specs.References.{references}
 use Rattle.closed_trees.specs.Table.{AreNumbered}
 use Rattle.type_table.specs.Merge.{IsPut}
 use Rattle.type_table.proofs.AddLaws.{starts_same}
-use Rattle.type_table.proofs.OrderedLaws.{adding_starts, adding_next, adding_checked, adding_numbered, adding_more, all_added}
+use Rattle.type_table.proofs.OrderedLaws.{all_zeros, adding_starts, adding_next, adding_checked, adding_numbered, adding_more, all_added}
 use Rattle.type_table.proofs.adding.add_in_order.Goals as goal
 
 pub loop-position-init : goal.loop-position-init
 loop-position-init g c =
-    let zeros : c.in_ok-numbers.numbers.items ≡ replicate c.len-many.result 0 = search rules in
+    let zeros : c.resize.new.self.items ≡ replicate c.len-many.result 0 = all_zeros c.clear.new.self.items c.resize.new.self.items c.len-many.result _ c.clear.ensures.items c.clear.ensures.len c.in_ok-resize.ensures.items in
     rw c.into_iter-position-iterator.ensures.into_iter_gives
-    (record { adding = adding_starts c.args.checked c.args.records.now c.args.order c.args.texts.now c.len-many.result c.in_ok-numbers.numbers.items c.requires.table c.requires.short c.len-many.ensures.short c.requires.walk c.len-many.ensures.value zeros; cursor = c.cursor-cursor.ensures })
+    (record { adding = adding_starts c.args.checked c.args.records.now c.args.order c.args.texts.now c.len-many.result c.resize.new.self.items c.requires.table c.requires.short c.len-many.ensures.short c.requires.walk c.len-many.ensures.value zeros; cursor = c.cursor-cursor.ensures })
 
 pub record_at-bytes-requires : goal.record_at-bytes-requires
 record_at-bytes-requires g c =

@@ -56,5 +56,5 @@ pub returns-then-branch-clause-value : goal.returns-then-branch-clause-value
 returns-then-branch-clause-value g c = (
   refl,
   ordered_types c.args.records (range_with_len 0 (length c.args.records)) c.check_all-2.ensures.framed c.in_ok-check_all-2.ensures.first
-  (stand_in_order c.args.records (c.in_ok-check_all-2.ensures.lower c.if-branch.true)),
+      (stand_in_order c.args.records (c.in_ok-check_all-2.ensures.lower c.if-branch.true)),
 )

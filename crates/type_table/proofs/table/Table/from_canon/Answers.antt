@@ -1,6 +1,8 @@
-use Rattle.std.proofs.Common.{◌≡◌, ◌+◌, ◌≤◌, [], get_or, length, arith, rules}
-use Rattle.type_table.proofs.CanonTableLaws.{next_fits, canon_short, whole_taken}
+use Rattle.std.proofs.Common.{◌≡◌, ◌∙◌, ◌+◌, ◌≤◌, [], get_or, length, arith, rules}
+use Rattle.type_table.proofs.CanonTableLaws.{taken_more, next_fits, canon_short, whole_taken}
 use Rattle.canonical_list.proofs.FinishLaws.{table_small}
+use Rattle.cv_leaves.specs.Place.{IsChecked}
+use Rattle.closed_trees.proofs.NamedLaws.{listed_short}
 use Rattle.type_table.proofs.KeptLaws.{knows_none}
 use Rattle.type_table.proofs.table.Table.from_canon.Goals as goal
 
@@ -9,7 +11,7 @@ intern-requires-clause-few g c =
     let canon = c.args.canon.now in
     let k = c.loop-position.position in
     let inside : k + 1 ≤ length canon = search rules in
-    let at : c.get.result.now ≡ get_or canon k [] = rw c.canon.view_is at c.get.ensures in
+    let at : c.get-bytes.result.now ≡ get_or canon k [] = rw c.canon.view_is at c.get-bytes.ensures in
     rw (c.loop-position.invariant, at) (next_fits canon k (canon_short canon c.len-position-end.ensures.canon) (omega (arith, inside)))
 
 pub measure_new-requires-clause-table : goal.measure_new-requires-clause-table
@@ -37,3 +39,27 @@ invariant_of-result g c =
     let last : c.loop-position.position ≡ length canon = search rules in
     let whole : c.loop-position.texts ≡ canon = whole_taken canon c.loop-position.texts c.loop-position.position c.loop-position.invariant last in
     record { table = rw whole c.len-position-end.ensures.canon.table; short = rw whole (canon_short canon c.len-position-end.ensures.canon); measured = c.in_ok-measure_new.ensures.ok }
+
+pub list_places-requires-clause-checked : goal.list_places-requires-clause-checked
+list_places-requires-clause-checked g c =
+    let canon = c.args.canon.now in
+    let k = c.loop-position.position in
+    let inside : k + 1 ≤ length canon = search rules in
+    rw (c.get-bytes.ensures, c.canon.view_is) (c.len-position-end.ensures.canon.table.good.checked k (omega (arith, inside)))
+
+pub intern-requires-clause-short : goal.intern-requires-clause-short
+intern-requires-clause-short g c =
+    let canon = c.args.canon.now in
+    let k = c.loop-position.position in
+    let inside : k + 1 ≤ length canon = search rules in
+    let checked : IsChecked c.get-bytes.result.now = rw (c.get-bytes.ensures, c.canon.view_is) (c.len-position-end.ensures.canon.table.good.checked k (omega (arith, inside))) in
+    rw c.deref.ensures.value (listed_short c.get-bytes.result.now c.list_places.new.list.items checked c.in_ok-list_places.ensures)
+
+pub loop-position-preserved : goal.loop-position-preserved
+loop-position-preserved g c =
+    let canon = c.args.canon.now in
+    let k = c.loop-position.position in
+    let inside : k + 1 ≤ length canon = search rules in
+    let is : c.get-bytes.result.now ≡ get_or canon k [] = rw c.canon.view_is at c.get-bytes.ensures in
+    let ok = c.in_ok-intern.ensures in
+    taken_more canon c.loop-position.texts c.intern.new.self k c.in_ok-intern.field-0 c.len-position-end.ensures.canon.table c.loop-position.invariant (omega (arith, inside)) (rw is at ok.holds) ok.at.0 (ok.at.1 ∙ is)
