@@ -12,7 +12,7 @@ use Rattle.std.proofs.lemmas.List.{append-nil, length-append, length-take, lengt
 use Rattle.msf_blocks.specs.BlockNumber.{IsBlockSize, blocks_for}
 use Rattle.msf_blocks.proofs.SizeLaws.{size_facts, some_bytes, big_enough, next_row, ceil_is}
 use Rattle.msf_streams.specs.Image.{joined, padded, superblock_part, block_map_part, directory_part, parts, image, image_blocks, data_count}
-use Rattle.msf_streams.specs.Put.{WriterView, IsSameImage, maps_before, woven, woven_from, room, AppendsPart, IsFront}
+use Rattle.msf_streams.specs.Put.{WriterView, IsSameImage, maps_before, woven, woven_from, room, AppendsPart, IsImageFront}
 use Rattle.msf_blocks.proofs.RangeLaws.{next_block, first_block}
 use Rattle.msf_streams.proofs.ImageLaws.{length_parts}
 use Rattle.msf_streams.proofs.BackLaws.{all_blocks, bounds}
@@ -271,12 +271,12 @@ next_put old between new h b w v xs i d all lt size so_far put same end =
 -- ---- the parts of an image in turn
 
 -- the image, in terms of its parts
-by_parts : (b n : ℕ) (ts : List (List ℕ)) (sb bm dir : List ℕ) → IsFront b n (map length ts) sb bm dir → image b ts ≡ woven b n 0 (flat_map (padded b) (sb ∷ bm ∷ dir ∷ ts))
+by_parts : (b n : ℕ) (ts : List (List ℕ)) (sb bm dir : List ℕ) → IsImageFront b n (map length ts) sb bm dir → image b ts ≡ woven b n 0 (flat_map (padded b) (sb ∷ bm ∷ dir ∷ ts))
 unfolding parts
 by_parts b n ts sb bm dir front = rw (front.count, front.superblock_is, front.block_map_is, front.directory_is) (image_woven b ts front.size front.fits)
 
 -- the padded parts are no longer than the file
-pub few_bytes : (b n : ℕ) (ts : List (List ℕ)) (sb bm dir : List ℕ) → IsFront b n (map length ts) sb bm dir
+pub few_bytes : (b n : ℕ) (ts : List (List ℕ)) (sb bm dir : List ℕ) → IsImageFront b n (map length ts) sb bm dir
     → length (padded b sb) + (length (padded b bm) + (length (padded b dir) + length (flat_map (padded b) ts))) < 2 ^ 32
 unfolding parts
 few_bytes b n ts sb bm dir front =
@@ -299,7 +299,7 @@ few_bytes b n ts sb bm dir front =
     )
 
 -- what was written before the first part
-pub before_front : (old : Option (List ℕ)) (w : WriterView) (ts : List (List ℕ)) (sb bm dir : List ℕ) → IsFront w.block_size w.num_blocks (map length ts) sb bm dir
+pub before_front : (old : Option (List ℕ)) (w : WriterView) (ts : List (List ℕ)) (sb bm dir : List ℕ) → IsImageFront w.block_size w.num_blocks (map length ts) sb bm dir
     → w.position ≡ 0 → Halfway old old w (image w.block_size ts) (flat_map (padded w.block_size) (sb ∷ bm ∷ dir ∷ ts))
 before_front old w ts sb bm dir front start =
     record {

@@ -51,7 +51,7 @@ abbrev pub AppendsPart : Option (List ℕ) → Option (List ℕ) → List ℕ �
 AppendsPart old new bytes = (count : ℕ) × (count < length bytes) × Appends old new (take count bytes)
 
 -- blocks may have this size, streams of these sizes fit in a file of `num_blocks` blocks, and these are the parts of its image before the streams
-pub record IsFront (block_size num_blocks : ℕ) (sizes superblock block_map directory : List ℕ) : Type 0 where
+pub record IsImageFront (block_size num_blocks : ℕ) (sizes superblock block_map directory : List ℕ) : Type 0 where
   pub size : IsBlockSize block_size
   pub fits : Fits block_size sizes
   pub count : num_blocks ≡ image_blocks block_size sizes

@@ -2,7 +2,7 @@
 
 ghost use Rattle.std.specs.Prelude.{◌≡◌, IfOk};
 ghost use Rattle.msf_streams.specs.Image.{Fits, image_blocks};
-ghost use Rattle.msf_streams.specs.Put.{IsFront};
+ghost use Rattle.msf_streams.specs.Put.{IsImageFront};
 
 use crate::image::{directory_blocks, directory_len, stream_blocks};
 use msf_blocks::{BlockSize, block_map_bytes, directory_bytes, superblock_bytes};
@@ -28,7 +28,7 @@ impl<A: Allocator + Copy> Front<A> {
         requires fits { Fits block_size sizes.now }
         requires count { num_blocks ≡ image_blocks block_size sizes.now }
         ensures { IfOk result (λ f.
-            IsFront block_size num_blocks sizes.now f.superblock f.block_map.items
+            IsImageFront block_size num_blocks sizes.now f.superblock f.block_map.items
             f.directory.items) }
     {
         let blocks = stream_blocks(block_size, sizes);

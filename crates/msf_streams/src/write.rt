@@ -4,7 +4,7 @@ ghost use Rattle.std.specs.Prelude.{◌≡◌, ◌≢◌, ◌⊎◌, ◌<◌, �
 ghost use Rattle.std.specs.Io.KnownBytes.{Appends};
 ghost use Rattle.msf_blocks.specs.BlockNumber.{IsBlockSize};
 ghost use Rattle.msf_streams.specs.Image.{Writable, image, contents_of, joined, joined_of};
-ghost use Rattle.msf_streams.specs.Put.{AppendsPart, IsFront};
+ghost use Rattle.msf_streams.specs.Put.{AppendsPart, IsImageFront};
 
 use crate::fault::WriteFault;
 use crate::front::Front;
@@ -59,7 +59,7 @@ fn put_image<W: Sink, A: Allocator>(
     out: &mut W,
 ) -> Result<(), NotTaken>
     requires start { writer.old.position ≡ 0 }
-    requires front { IsFront writer.old.block_size writer.old.num_blocks
+    requires front { IsImageFront writer.old.block_size writer.old.num_blocks
         (map length (joined_of streams.now))
         front.now.superblock front.now.block_map.items front.now.directory.items }
     ensures ok { OnOk result (Appends (W.taken out.old) (W.taken out.new)

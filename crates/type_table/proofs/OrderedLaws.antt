@@ -21,7 +21,7 @@ use Rattle.closed_trees.proofs.TableLaws.{stands_still, renumber-none, renumber-
 use Rattle.closed_trees.proofs.RenumberLaws.{renumbered_long}
 use Rattle.checked_types.proofs.CheckLaws.{by_position, lower_names}
 use Rattle.checked_types.proofs.OrderLaws.{IsListing, NamesDone, front_counted, listing_counted, next_in_order, number_at, order_lists, order_weighs}
-use Rattle.type_table.specs.Merge.{IsWalk, IsPut, IsAdded}
+use Rattle.type_table.specs.Merge.{IsRecordWalk, IsPut, IsAdded}
 use Rattle.type_table.proofs.AddLaws.{Adds, adds_more, adds_none, adds_all, table_few, holds_short, renumbered-is}
 
 -- ---- Records that are walked through as they stand
@@ -69,15 +69,15 @@ renumbered_taken xs m r within there =
 -- ---- Record by record
 
 -- each walk goes through each position once
-walk_lists : (checked : Bool) (records : List (List ℕ)) (order : List ℕ) → IsWalk checked records order → IsListing (length records) order
-unfolding IsWalk
+walk_lists : (checked : Bool) (records : List (List ℕ)) (order : List ℕ) → IsRecordWalk checked records order → IsListing (length records) order
+unfolding IsRecordWalk
 walk_lists true records order walk = order_lists records order walk.1
 walk_lists false records order walk = subst (IsListing (length records)) (sym walk) (listing_counted (length records))
 
 -- some of the records are added, and these are left; together with those of the table the bytes that are left are few
 pub record IsAdding (checked : Bool) (records : List (List ℕ)) (left : List ℕ) (before after : List (List ℕ)) (positions : List ℕ) : Type 0 where
   pub done : List ℕ
-  pub walk : IsWalk checked records (done ++ left)
+  pub walk : IsRecordWalk checked records (done ++ left)
   pub many : length positions ≡ length records
   pub adds : Adds records before after (λ p. get_or positions p 0) (Contains done)
   pub early : checked ≡ false → (k : ℕ) → Contains done k → IsEarly records k
@@ -94,7 +94,7 @@ all_zeros old new n len none empty is =
     nothing_taken (suc m) = refl
 
 -- at the start none is added
-pub adding_starts : (checked : Bool) (records : List (List ℕ)) (left : List ℕ) (before : List (List ℕ)) (many : ℕ) (positions : List ℕ) → IsTable before → length (concat before) < 2 ^ 32 → length (concat records) < 2 ^ 32 → IsWalk checked records left
+pub adding_starts : (checked : Bool) (records : List (List ℕ)) (left : List ℕ) (before : List (List ℕ)) (many : ℕ) (positions : List ℕ) → IsTable before → length (concat before) < 2 ^ 32 → length (concat records) < 2 ^ 32 → IsRecordWalk checked records left
     → many ≡ length records → positions ≡ replicate many 0 → IsAdding checked records left before before positions
 adding_starts checked records left before many positions table short all_short walk same zeros = record {
   done = [];
@@ -116,7 +116,7 @@ adding_next checked records left others before after positions p a split =
 
 -- where records are walked through as they stand, those before the next one are done
 adding_counted : (records : List (List ℕ)) (left others : List ℕ) (before after : List (List ℕ)) (positions : List ℕ) (p : ℕ) → (a : IsAdding false records left before after positions) → left ≡ p ∷ others → (k : ℕ) → k < p → Contains a.done k
-unfolding IsWalk
+unfolding IsRecordWalk
 adding_counted records left others before after positions p a split k below =
     let n : ℕ = length records in
     let next = adding_next false records left others before after positions p a split in
@@ -129,7 +129,7 @@ adding_counted records left others before after positions p a split k below =
 -- what the next record names is done
 adding_names : (checked : Bool) (records : List (List ℕ)) (left others : List ℕ) (before after : List (List ℕ)) (positions : List ℕ) (p : ℕ) → (a : IsAdding checked records left before after positions) → left ≡ p ∷ others
     → (checked ≡ false → IsEarly records p) → NamesDone (Contains a.done) (references (get_or records p []))
-unfolding IsWalk
+unfolding IsRecordWalk
 adding_names true records left others before after positions p a split early = (next_in_order records a.done left others (a.done ++ left) p a.walk.1 refl split).1
 adding_names false records left others before after positions p a split early =
     names_done (Contains a.done) p (references (get_or records p [])) (early refl).earlier (adding_counted records left others before after positions p a split)
@@ -137,7 +137,7 @@ adding_names false records left others before after positions p a split early =
 -- the next record has a tree
 adding_tree : (checked : Bool) (records : List (List ℕ)) (left others : List ℕ) (before after : List (List ℕ)) (positions : List ℕ) (p : ℕ) → IsAdding checked records left before after positions → left ≡ p ∷ others
     → (checked ≡ false → IsEarly records p) → (t : Tree) × IsTreeAt records p t
-unfolding IsWalk
+unfolding IsRecordWalk
 adding_tree true records left others before after positions p a split early =
     tree_there records a.walk.0.ranked.0 p a.walk.0.ranked.1 (adding_next true records left others before after positions p a split).0
 adding_tree false records left others before after positions p a split early =
@@ -148,7 +148,7 @@ adding_tree false records left others before after positions p a split early =
 
 -- records that were checked have places
 pub adding_checked : (checked : Bool) (records : List (List ℕ)) (left : List ℕ) (before after : List (List ℕ)) (positions : List ℕ) (p : ℕ) → IsAdding checked records left before after positions → p < length records → checked ≡ true → IsChecked (get_or records p [])
-unfolding IsWalk
+unfolding IsRecordWalk
 adding_checked true records left before after positions p a inside was = at_position IsChecked records p a.walk.0.checked inside
 adding_checked false records left before after positions p a inside was = absurd cc
 
@@ -188,7 +188,7 @@ adding_more checked records left others before after grown positions p m last fr
     let holds : Holds after grown (renumbered f r) = subst (Holds after grown) same put.holds in
     record {
       done = a.done ++ p ∷ [];
-      walk = subst (IsWalk checked records) (all ∙ sym (append_assoc a.done (p ∷ []) others)) a.walk;
+      walk = subst (IsRecordWalk checked records) (all ∙ sym (append_assoc a.done (p ∷ []) others)) a.walk;
       many = length-set positions p last ∙ a.many;
       adds = adds_more records before after grown f (λ q. get_or (set positions p last) q 0) (Contains a.done) (Contains (a.done ++ p ∷ [])) p last a.adds
           (omega (arith, table_few after a.adds.table (omega (arith, few)))) (at_position IsRecord records p framed next.0) put.checked
@@ -211,8 +211,8 @@ adding_more checked records left others before after grown positions p m last fr
         (walk_lists checked records (a.done ++ left) a.walk).once old.0 (length a.done) 0 old.1 below (first ∙ same ∙ sym at)
 
 -- at the end the records are types
-added_types : (checked : Bool) (records : List (List ℕ)) (order : List ℕ) → AllByRecursion IsRecord records → IsWalk checked records order → (checked ≡ false → (k : ℕ) → Contains order k → IsEarly records k) → AreTypes records
-unfolding IsWalk
+added_types : (checked : Bool) (records : List (List ℕ)) (order : List ℕ) → AllByRecursion IsRecord records → IsRecordWalk checked records order → (checked ≡ false → (k : ℕ) → Contains order k → IsEarly records k) → AreTypes records
+unfolding IsRecordWalk
 added_types true records order framed walk early = walk.0
 added_types false records order framed walk early =
     let each : (k : ℕ) → k < length records → IsEarly records k = λ k inside. early refl k ((walk_lists false records order walk).whole k inside) in
@@ -226,7 +226,7 @@ added_types false records order framed walk early =
 pub all_added : (checked : Bool) (records : List (List ℕ)) (left : List ℕ) (before after : List (List ℕ)) (positions : List ℕ) → AllByRecursion IsRecord records → IsAdding checked records left before after positions → left ≡ [] → IsAdded records before after
 all_added checked records left before after positions framed a none =
     let all : a.done ++ left ≡ a.done = ap (λ (xs : List ℕ). a.done ++ xs) none ∙ append-nil a.done in
-    let walk : IsWalk checked records a.done = subst (IsWalk checked records) all a.walk in
+    let walk : IsRecordWalk checked records a.done = subst (IsRecordWalk checked records) all a.walk in
     record {
       types = added_types checked records a.done framed walk a.early;
       table = a.adds.table;

@@ -16,9 +16,9 @@ abbrev pub StartsWith : {A : Type 0} → List A → List A → Type 0
 StartsWith list front = (length front ≤ length list) × (take (length front) list ≡ front)
 
 -- records that were checked are types, and walked through in an order of theirs; others are walked through as they stand
-unfoldable pub IsWalk : Bool → List (List ℕ) → List ℕ → Type 0
-IsWalk true records order = AreTypes records × IsOrder (graph_of records) order
-IsWalk false records order = order ≡ range_with_len 0 (length records)
+unfoldable pub IsRecordWalk : Bool → List (List ℕ) → List ℕ → Type 0
+IsRecordWalk true records order = AreTypes records × IsOrder (graph_of records) order
+IsRecordWalk false records order = order ≡ range_with_len 0 (length records)
 
 -- r has places and names records with numbers, and renumbered it is at k in the texts, which have at most this one more than before
 pub record IsPut (before after : List (List ℕ)) (numbers r : List ℕ) (k : ℕ) : Type 0 where

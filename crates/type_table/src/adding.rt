@@ -12,7 +12,7 @@ ghost use Rattle.cv_leaves.specs.Place.{IsChecked};
 ghost use Rattle.cv_leaves.specs.References.{references};
 ghost use Rattle.byte_fields.specs.Bytes.{AreBytes};
 ghost use Rattle.closed_trees.specs.Table.{IsTable, AreNumbered};
-ghost use Rattle.type_table.specs.Merge.{StartsWith, IsWalk, IsPut, IsAdded};
+ghost use Rattle.type_table.specs.Merge.{StartsWith, IsRecordWalk, IsPut, IsAdded};
 
 use crate::expected::is_at;
 use checked_types::{InOrder, record_at};
@@ -130,7 +130,7 @@ pub fn add_in_order<S: BuildHasher, A: Allocator + Copy>(
 ) -> Result<bool, AllocError>
     requires table { IsTable texts.old }
     requires short { length (concat texts.old) < 2 ^ 32 }
-    requires walk { IsWalk checked records.now order }
+    requires walk { IsRecordWalk checked records.now order }
     ensures added { IfOk result (λ all. IsTrue all → IsAdded records.now texts.old texts.new) }
     ensures all { checked ≡ true → IfOk result (λ all. IsTrue all) }
     ensures front { StartsWith texts.new texts.old }

@@ -6,7 +6,7 @@ ghost use Rattle.closed_trees.specs.Tree.{Tree, IsType};
 ghost use Rattle.closed_trees.specs.Canon.{weight};
 ghost use Rattle.closed_trees.specs.Depth.{HasDepths};
 ghost use Rattle.closed_trees.specs.Table.{IsTable, IsUnion};
-ghost use Rattle.type_table.specs.Merge.{StartsWith, IsWalk, IsAdded};
+ghost use Rattle.type_table.specs.Merge.{StartsWith, IsRecordWalk, IsAdded};
 ghost use Rattle.closed_trees.specs.Types.{AreTypes};
 ghost use Rattle.canonical_list.specs.Finish.{IsCanonOf};
 
@@ -36,7 +36,7 @@ fn add_measured<S: BuildHasher, A: Allocator + Copy>(
 ) -> Result<bool, AllocError>
     requires table { IsTable texts.old }
     requires short { length (concat texts.old) < 2 ^ 32 }
-    requires walk { IsWalk checked records.now order }
+    requires walk { IsRecordWalk checked records.now order }
     requires depths { HasDepths texts.old depths.old.items }
     ensures added { IfOk result (λ all. IsTrue all → IsAdded records.now texts.old texts.new) }
     ensures depths { IfOk result (λ all. IsTrue all → HasDepths texts.new depths.new.items) }
@@ -111,7 +111,7 @@ impl<S: BuildHasher, A: Allocator + Copy> Table<S, A> {
     ///
     /// After either fault the table holds the types that it held before. The table allocates space
     /// for the new records, and keeps it after a fault too.
-    #[tactic(auto, unfolding(crate::specs::Merge::IsWalk))]
+    #[tactic(auto, unfolding(crate::specs::Merge::IsRecordWalk))]
     pub fn add(&mut self, alloc: A, types: &Types<'_, A>, limit: u32) -> Result<(), JoinFault>
         ensures value { IfOk result (λ _.
             (t : Tree) → IsType self.new t ↔ (IsType self.old t ⊎ IsType types.now t)) }
@@ -155,7 +155,7 @@ impl<S: BuildHasher, A: Allocator + Copy> Table<S, A> {
     /// They are not added where a check fails, where a record names itself or a later one, where the
     /// records of the union have more than `limit` bytes together, or out of memory. The table then
     /// holds the types that it held before, and [`Types::check`] and [`Table::add`] tell the fault.
-    #[tactic(auto, unfolding(crate::specs::Merge::IsWalk))]
+    #[tactic(auto, unfolding(crate::specs::Merge::IsRecordWalk))]
     pub fn add_records(&mut self, alloc: A, records: &Records<'_, A>, limit: u32) -> bool
         ensures types { IsTrue result → AreTypes records.now }
         ensures value { IsTrue result → (t : Tree) →
