@@ -15,17 +15,18 @@ use Rattle.std.proofs.Math.Seq.{get_or-append_seam}
 use Rattle.std.specs.Prelude.{IfSome, IfNone, ◌==◌}
 use Rattle.std.specs.List.{AllByRecursion, AllPairs, Contains, concat}
 use Rattle.std.specs.List.Sorted.{IsPermutation}
-use Rattle.key_chains.specs.Chains.{NoneFrom}
-use Rattle.text_set.proofs.TextSetLaws.{four_each, bound}
+use Rattle.text_set.proofs.TextSetLaws.{four_each}
 use Rattle.closed_trees.specs.Tree.{Tree, IsType, NamesLower}
 use Rattle.closed_trees.specs.Depth.{AreDepths, HasLevels}
 use Rattle.closed_trees.specs.Canon.{text, texts, Canonical}
 use Rattle.closed_trees.specs.Table.{IsTable, AreNumbered, renumbered, HoldsBelow}
+use Rattle.canonical_list.specs.Links.{NoneFrom}
 use Rattle.canonical_list.specs.Rows.{row, Numbers}
 use Rattle.canonical_list.specs.Finish.{ListsBelow, AtLevel, Numbered, IsCanonOf}
 use Rattle.closed_trees.proofs.WeightLaws.{concat_push, weight-none, weight_of_texts}
 use Rattle.closed_trees.proofs.RenumberLaws.{renumbered_long}
 use Rattle.closed_trees.proofs.NextLaws.{in_range}
+use Rattle.canonical_list.proofs.LinkLaws.{bound}
 use Rattle.canonical_list.proofs.RowLaws.{rows_continue, numbers_continue, AreRows, LevelOf}
 use Rattle.closed_trees.proofs.ReadLaws.{weight-many}
 use Rattle.tpi_records.specs.Header.{first_index}

@@ -1,7 +1,6 @@
 -- How a table's canonical list is made, level by level.
 use Rattle.std.specs.Prelude.{ℕ, ◌≡◌, ◌≢◌, ◌+◌, ◌<◌, ◌↔◌, List, length, get_or}
 use Rattle.std.specs.List.{AllPairs, Contains}
-use Rattle.key_chains.specs.Chains.{IsNewest}
 use Rattle.closed_trees.specs.Tree.{Tree}
 use Rattle.closed_trees.specs.Canon.{texts, Canonical}
 use Rattle.closed_trees.specs.Table.{IsTable, HoldsBelow}
@@ -20,11 +19,6 @@ pub record AtLevel (depths : List ℕ) (d : ℕ) (ps : List ℕ) : Type 0 where
   pub within : (k : ℕ) → k < length ps → (get_or ps k 0 < length depths) × (get_or depths (get_or ps k 0) 0 ≡ d)
   pub all : (j : ℕ) → j < length depths → get_or depths j 0 ≡ d → Contains ps j
   pub distinct : AllPairs (λ i j. i ≢ j) ps
-
--- each level leads to the last position of this depth, and each position to the last one before it of the same depth
-pub record AreLinked (depths newest older : List ℕ) : Type 0 where
-  pub newest_lead : (d : ℕ) → IsNewest depths d (length depths) (get_or newest d 0)
-  pub older_lead : (k : ℕ) → k < length depths → IsNewest depths (get_or depths k 0) k (get_or older k 0)
 
 -- the records are the canonical list of the trees for which Has holds
 abbrev pub IsCanonOf : List (List ℕ) → (Tree → Type 0) → Type 0

@@ -1,7 +1,7 @@
 //! The positions of the records of each level.
 
 ghost use Rattle.std.specs.Prelude.{◌≡◌, ◌+◌, ◌<◌, ◌^◌, length, get_or, IfOk, IfSome, IfNone};
-ghost use Rattle.key_chains.specs.Chains.{NoneFrom};
+ghost use Rattle.canonical_list.specs.Links.{NoneFrom};
 ghost use Rattle.closed_trees.specs.Depth.{AreBelow, CountsLevels};
 
 use std::alloc::{AllocError, Allocator, Global};
@@ -23,7 +23,7 @@ pub struct Levels<'a, A: Allocator = Global> {
 
 impl<'a, A: Allocator> Model for Levels<'a, A> {
     ghost use Rattle.std.specs.Prelude.{List, ℕ, ◌≡◌, length};
-    ghost use Rattle.canonical_list.specs.Finish.{AreLinked};
+    ghost use Rattle.canonical_list.specs.Links.{AreLinked};
 
     ghost Value = { List ℕ };
 

@@ -6,7 +6,6 @@ use byte_io::{In, Out, put_all};
 use closed_trees::{list_places, renumber_into};
 use command_texts::{push_named, push_quoted};
 use cv_leaves::{places, ref_at, type_name};
-use key_chains::KeyChains;
 use msf_blocks::Layout;
 use msf_streams::{gather, pieces};
 use packed_texts::PackedTexts;
@@ -35,19 +34,6 @@ fn bytes_into_a_sink(rt: HostRuntime) -> Result<(), Fail> {
     let mut file = Vec::new(rt.alloc());
     put_all(&mut Out::new(&mut file), b"two parts")?;
     assert_eq!(rt; file.as_slice(), b"two parts".as_slice());
-    Ok(())
-}
-
-/// `key_chains` finds the positions of a key, the newest first.
-#[test]
-fn positions_of_a_key(rt: HostRuntime) -> Result<(), Fail> {
-    let mut chains = KeyChains::new(rt.alloc());
-    chains.push(7)?;
-    chains.push(9)?;
-    chains.push(7)?;
-    let newest = chains.newest(7).ok_or("no such key")?;
-    assert_eq!(rt; newest, 2);
-    assert_eq!(rt; chains.older(newest), Some(0));
     Ok(())
 }
 

@@ -1,12 +1,18 @@
-//! Finds a text in a set by its hash.
+//! Finds a text by its key, or gives it one.
 
-ghost use Rattle.std.specs.Prelude.{◌≡◌, ◌/◌, ◌^◌, ◌<◌, ℕ, [], length, get_or, IfSome, IfNone};
-ghost use Rattle.std.specs.List.{Contains};
+ghost use Rattle.std.specs.Prelude.{◌≡◌, ◌+◌, ◌/◌, ◌^◌, ◌<◌, ℕ, [], length, get_or, nat_eq, IfOk, IfErr, IfSome, IfNone};
+ghost use Rattle.std.specs.List.{IsDistinct};
+ghost use Rattle.text_set.specs.TextKeys.{AddsKey, IsFirstFree};
 
-use key_chains::KeyChains;
+use indexmap::IndexSet;
 use packed_texts::PackedTexts;
-use std::alloc::Allocator;
-use std::hash::{BuildHasher, Hasher};
+use std::alloc::{AllocError, Allocator};
+use std::hash::{BuildHasher, BuildHasherDefault, FoldHasher, Hasher};
+
+/// The key of each text, at its position.
+///
+/// The key of a text is its hash, or the next number that is free, where other texts have that hash.
+pub(crate) type Keys<A> = IndexSet<u32, BuildHasherDefault<FoldHasher>, A>;
 
 /// The hash of a text: the high half of the number that the hasher returns.
 pub(crate) fn hash_of<S: BuildHasher>(hasher: &S, text: &[u8]) -> u32
@@ -18,27 +24,36 @@ pub(crate) fn hash_of<S: BuildHasher>(hasher: &S, text: &[u8]) -> u32
     (state.finish() >> 32) as u32
 }
 
-/// The position of a text with the hash `hash`. `None` where the text isn't there.
-pub(crate) fn find<A: Allocator>(
+/// The position of a text with the hash `hash`. `None` where the text isn't there, and a key for it
+/// was put after the others.
+pub(crate) fn find_or_key<A: Allocator>(
     texts: &PackedTexts<A>,
-    hashes: &KeyChains<A>,
+    keys: &mut Keys<A>,
     text: &[u8],
     hash: u32,
-) -> Option<usize>
-    requires many { length hashes.now ≡ length texts.now }
-    requires same { (k : ℕ) → k < length texts.now → get_or texts.now k [] ≡ text.now →
-        get_or hashes.now k 0 ≡ hash }
-    ensures found { IfSome result (λ k.
-        (k < length texts.now) × (get_or texts.now k [] ≡ text.now)) }
-    ensures none { IfNone result (Contains texts.now text.now → ⊥) }
+) -> Result<Option<usize>, AllocError>
+    requires few { length texts.now < 2 ^ 31 }
+    requires each { length keys.old.keys ≡ length texts.now }
+    requires distinct { IsDistinct nat_eq keys.old.keys }
+    requires keyed { (k : ℕ) → k < length texts.now → get_or texts.now k [] ≡ text.now →
+        IsFirstFree keys.old.keys k hash (get_or keys.old.keys k 0) }
+    ensures found { IfOk result (λ o. IfSome o (λ k.
+        (k < length texts.now) × (get_or texts.now k [] ≡ text.now))) }
+    ensures kept { IfOk result (λ o. IfSome o (λ _. keys.new.keys ≡ keys.old.keys)) }
+    ensures none { IfOk result (λ o.
+        IfNone o (AddsKey texts.now text.now hash keys.old.keys keys.new.keys)) }
+    ensures err { IfErr result (λ _. keys.new.keys ≡ keys.old.keys) }
 {
-    let mut candidate = hashes.newest(hash);
-    while let Some(position) = candidate {
+    let mut clashes = 0;
+    loop {
+        let (position, is_new) = keys.insert_full(hash.wrapping_add(clashes))?;
+        if is_new {
+            return Ok(None);
+        }
         // Different texts may have the same hash.
         if texts.get(position) == text {
-            return Some(position);
+            return Ok(Some(position));
         }
-        candidate = hashes.older(position);
+        clashes += 1;
     }
-    None
 }

@@ -1,36 +1,32 @@
 //! Finds a text, or appends it where it isn't there.
 
-ghost use Rattle.std.specs.Prelude.{◌≡◌, ◌+◌, ◌%◌, ◌^◌, ◌<◌, ◌++◌, [], ◌∷◌, ℕ, length, get_or, IfOk, IfErr};
-ghost use Rattle.std.specs.List.{concat};
+ghost use Rattle.std.specs.Prelude.{◌≡◌, ◌+◌, ◌%◌, ◌^◌, ◌<◌, ◌++◌, [], ◌∷◌, ℕ, length, get_or, nat_eq, take, IfOk, IfErr};
+ghost use Rattle.std.specs.List.{concat, IsDistinct};
+ghost use Rattle.text_set.specs.TextKeys.{IsFirstFree};
 ghost use Rattle.text_set.specs.TextSet.{Placed};
 
-use crate::find::find;
-use key_chains::KeyChains;
+use crate::find::{Keys, find_or_key};
 use packed_texts::PackedTexts;
 use std::alloc::{AllocError, Allocator};
 
-/// Appends a text after the others. If this runs out of memory, the texts stay as they were.
+/// Appends a text whose key is the last one. If this runs out of memory, its key is removed.
 fn append<A: Allocator>(
     texts: &mut PackedTexts<A>,
-    hashes: &mut KeyChains<A>,
+    keys: &mut Keys<A>,
     text: &[u8],
-    hash: u32,
 ) -> Result<usize, AllocError>
     requires padded { length text.now % 4 ≡ 0 }
     requires short { length (concat texts.old) + length text.now < 2 ^ 34 }
-    requires few { length texts.old + 1 < 2 ^ 31 }
-    requires many { length hashes.old ≡ length texts.old }
     ensures at { IfOk result (λ k. k ≡ length texts.old) }
     ensures texts { IfOk result (λ _. texts.new ≡ texts.old ++ text.now ∷ []) }
-    ensures hashes { IfOk result (λ _. hashes.new ≡ hashes.old ++ hash ∷ []) }
+    ensures keys { IfOk result (λ _. keys.new.keys ≡ keys.old.keys) }
     ensures texts_kept { IfErr result (λ _. texts.new ≡ texts.old) }
-    ensures hashes_kept { IfErr result (λ _. hashes.new ≡ hashes.old) }
+    ensures keys_cut { IfErr result (λ _. keys.new.keys ≡ take (length texts.old) keys.old.keys) }
 {
     let position = texts.len();
-    hashes.push(hash)?;
     let pushed = texts.push(text);
     if pushed.is_err() {
-        hashes.truncate(position);
+        keys.truncate(position);
     }
     pushed?;
     Ok(position)
@@ -39,25 +35,26 @@ fn append<A: Allocator>(
 /// The position of a text that has this hash. The text is appended if it isn't there.
 pub(crate) fn insert<A: Allocator>(
     texts: &mut PackedTexts<A>,
-    hashes: &mut KeyChains<A>,
+    keys: &mut Keys<A>,
     text: &[u8],
     hash: u32,
 ) -> Result<usize, AllocError>
     requires padded { length text.now % 4 ≡ 0 }
     requires short { length (concat texts.old) + length text.now < 2 ^ 34 }
     requires few { length texts.old + 1 < 2 ^ 31 }
-    requires many { length hashes.old ≡ length texts.old }
-    requires same { (k : ℕ) → k < length texts.old → get_or texts.old k [] ≡ text.now →
-        get_or hashes.old k 0 ≡ hash }
+    requires each { length keys.old.keys ≡ length texts.old }
+    requires distinct { IsDistinct nat_eq keys.old.keys }
+    requires keyed { (k : ℕ) → k < length texts.old → get_or texts.old k [] ≡ text.now →
+        IsFirstFree keys.old.keys k hash (get_or keys.old.keys k 0) }
     ensures at { IfOk result (λ k. (k < length texts.new) × (get_or texts.new k [] ≡ text.now)) }
     ensures small { IfOk result (λ k. k < 2 ^ 31) }
     ensures placed { IfOk result (λ _.
-        Placed texts.old texts.new hashes.old hashes.new text.now hash) }
+        Placed texts.old texts.new keys.old.keys keys.new.keys text.now hash) }
     ensures texts_kept { IfErr result (λ _. texts.new ≡ texts.old) }
-    ensures hashes_kept { IfErr result (λ _. hashes.new ≡ hashes.old) }
+    ensures keys_kept { IfErr result (λ _. keys.new.keys ≡ keys.old.keys) }
 {
-    if let Some(position) = find(texts, hashes, text, hash) {
+    if let Some(position) = find_or_key(texts, keys, text, hash)? {
         return Ok(position);
     }
-    append(texts, hashes, text, hash)
+    append(texts, keys, text)
 }

@@ -1,7 +1,8 @@
 //! Distinct texts in the order in which they arrived.
 //!
-//! [`TextSet`] finds a text by its bytes. The text is hashed, by one `write` of all its bytes. The
-//! bytes are compared before two texts count as equal, so the result never depends on the hash.
+//! [`TextSet`] finds a text by its bytes. The text is hashed, by one `write` of all its bytes. Each
+//! text has a 32-bit key: its hash, or the next number that was free when it came. The bytes are
+//! compared before two texts count as equal, so the result never depends on the hash.
 //!
 //! The file `src/examples.rt` of the crate `test_examples` shows this crate in use, in a few lines.
 #![tactic(auto)]

@@ -4,9 +4,9 @@ ghost use Rattle.std.specs.Prelude.{◌≡◌, ◌+◌, ◌%◌, ◌^◌, ◌<�
 ghost use Rattle.std.specs.List.{concat};
 ghost use Rattle.text_set.specs.TextSet.{AreDistinct, Holds};
 
-use crate::find::hash_of;
+use crate::find::{Keys, hash_of};
 use crate::insert::insert;
-use key_chains::KeyChains;
+use indexmap::IndexSet;
 use packed_texts::PackedTexts;
 use std::alloc::{AllocError, Allocator, Global};
 use std::hash::BuildHasher;
@@ -18,13 +18,13 @@ use std::marker::Model;
 #[derive(Drop)]
 pub struct TextSet<S: BuildHasher, A: Allocator = Global> {
     texts: PackedTexts<A>,
-    // the hash of each text
-    hashes: KeyChains<A>,
+    keys: Keys<A>,
     hasher: S,
 }
 
 impl<S: BuildHasher, A: Allocator> Model for TextSet<S, A> {
-    ghost use Rattle.std.specs.Prelude.{List, ℕ, ◌≡◌, ◌/◌, ◌^◌, map};
+    ghost use Rattle.std.specs.Prelude.{List, ℕ, ◌/◌, ◌^◌};
+    ghost use Rattle.text_set.specs.TextKeys.{HaveKeys};
     ghost use Rattle.text_set.specs.TextSet.{AreDistinct};
 
     ghost Value = { List (List ℕ) };
@@ -33,9 +33,8 @@ impl<S: BuildHasher, A: Allocator> Model for TextSet<S, A> {
 
     ghost invariant = { λ t.
         AreDistinct t.texts
-        × (t.hashes
-        ≡ map (λ x. S.Hasher.finish (S.Hasher.write (S.build_hasher t.hasher) x) / 2 ^ 32)
-        t.texts) };
+        × HaveKeys (λ x. S.Hasher.finish (S.Hasher.write (S.build_hasher t.hasher) x) / 2 ^ 32)
+        t.texts t.keys.keys };
 }
 
 impl<S: BuildHasher, A: Allocator + Copy> TextSet<S, A> {
@@ -45,7 +44,7 @@ impl<S: BuildHasher, A: Allocator + Copy> TextSet<S, A> {
     {
         TextSet {
             texts: PackedTexts::new(alloc),
-            hashes: KeyChains::new(alloc),
+            keys: IndexSet::new(alloc),
             hasher,
         }
     }
@@ -53,13 +52,12 @@ impl<S: BuildHasher, A: Allocator + Copy> TextSet<S, A> {
 
 impl<S: BuildHasher, A: Allocator> TextSet<S, A> {
     /// How many texts there are.
-    #[tactic(auto, using(crate::proofs::TextSetLaws::hashes_each))]
     pub fn len(&self) -> usize
         ensures value { result ≡ length self.now }
         ensures distinct { AreDistinct self.now }
         ensures few { result < 2 ^ 31 }
     {
-        self.hashes.len()
+        self.texts.len()
     }
 
     /// Whether there are no texts.
@@ -88,7 +86,7 @@ impl<S: BuildHasher, A: Allocator> TextSet<S, A> {
     /// The position of this text. The text is appended if it isn't there.
     ///
     /// If this runs out of memory, the texts stay as they were.
-    #[tactic(auto, using(crate::proofs::TextSetLaws::same_hashes, crate::proofs::TextSetLaws::few_texts, crate::proofs::TextSetLaws::hashes_each))]
+    #[tactic(auto, using(crate::proofs::TextSetLaws::few_texts, crate::proofs::TextKeyLaws::has_key))]
     pub fn intern(&mut self, text: &[u8]) -> Result<usize, AllocError>
         requires padded { length text.now % 4 ≡ 0 }
         requires long { 4 ≤ length text.now }
@@ -99,17 +97,17 @@ impl<S: BuildHasher, A: Allocator> TextSet<S, A> {
         ensures small { length self.new < 2 ^ 31 }
     {
         let hash = hash_of(&self.hasher, text);
-        let position = insert(&mut self.texts, &mut self.hashes, text, hash)?;
+        let position = insert(&mut self.texts, &mut self.keys, text, hash)?;
         Ok(position)
     }
 
     /// Keeps the first `len` texts, and removes the others. This does not allocate.
-    #[tactic(auto, using(crate::proofs::TextSetLaws::distinct_first, crate::proofs::TextSetLaws::hashes_first))]
+    #[tactic(auto, using(crate::proofs::TextSetLaws::distinct_first, crate::proofs::TextKeyLaws::keys_first))]
     pub fn truncate(&mut self, len: usize)
         requires inside { len ≤ length self.old }
         ensures { self.new ≡ take len self.old }
     {
         self.texts.truncate(len);
-        self.hashes.truncate(len);
+        self.keys.truncate(len);
     }
 }

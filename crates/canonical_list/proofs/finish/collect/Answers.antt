@@ -1,7 +1,7 @@
 use Rattle.std.proofs.Common.{◌≡◌, ◌<◌, [], None, get_or, length, arith, rules}
 use Rattle.cv_leaves.specs.References.{references}
-use Rattle.text_set.proofs.TextSetLaws.{bound, bound_of, bound_none, smaller}
 use Rattle.closed_trees.proofs.RenumberLaws.{renumbered_long}
+use Rattle.canonical_list.proofs.LinkLaws.{bound, bound_of, bound_none, smaller}
 use Rattle.canonical_list.proofs.FinishLaws.{collected_first, collected_next, next_here, all_collected, names_numbered, rows_few, rows_short, rows_more, table_small}
 use Rattle.canonical_list.proofs.finish.collect.Goals as goal
 

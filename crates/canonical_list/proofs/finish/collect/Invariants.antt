@@ -1,8 +1,8 @@
 use Rattle.std.proofs.Common.{◌≡◌, ◌<◌, ◌≤◌, map, drop, length, get_or}
 use Rattle.std.specs.Prelude.{IfSome}
 use Rattle.std.specs.List.{concat}
-use Rattle.text_set.proofs.TextSetLaws.{bound}
 use Rattle.canonical_list.specs.Rows.{row}
+use Rattle.canonical_list.proofs.LinkLaws.{bound}
 use Rattle.canonical_list.proofs.FinishLaws.{Collected}
 use Rattle.canonical_list.proofs.finish.collect.Given as goal
 

@@ -15,5 +15,5 @@ loop-position-preserved g c =
     record {
       many = search rules;
       levels = search rules;
-      linked = rw (c.in_ok-push.ensures.items, link) (linked_more depths newest c.loop-position.older.items k (get_or depths k 0) so_far.linked so_far.many (omega (arith, inside)) refl low);
+      linked = rw (c.in_ok-push.ensures.items, link) (linked_more depths newest c.loop-position.older.items k so_far.linked so_far.many (omega (arith, inside)) (get_or depths k 0) refl low);
     }

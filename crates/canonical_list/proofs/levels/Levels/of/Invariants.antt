@@ -1,5 +1,5 @@
 use Rattle.std.proofs.Common.{◌≡◌, length, take}
-use Rattle.canonical_list.specs.Finish.{AreLinked}
+use Rattle.canonical_list.specs.Links.{AreLinked}
 use Rattle.canonical_list.proofs.levels.Levels.of.Given as goal
 
 abbrev pub invariant-loop-position : goal.invariant-loop-position
