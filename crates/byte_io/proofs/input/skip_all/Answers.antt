@@ -9,16 +9,17 @@ pub returns-in_err-count-clause-first : goal.returns-in_err-count-clause-first
 returns-in_err-count-clause-first g c =
     let p = err_from_is_err_and c.from_residual.result c.from_residual.ensures.1 in
     let so_far = c.loop-turn.invariant in
-    rw (p.1, p.2) (not_read _ (g.R.Source.left c.loop-turn.input) _ _ so_far.0 c.loop-turn.room c.args.limit _ so_far.1 (sym so_far.2) c.in_err-count.ensures.first)
+    rw (p.1, p.2) (not_read _ (g.R.Source.left c.loop-turn.input) _ _ so_far.bytes c.loop-turn.room c.args.limit _ so_far.consumed (sym so_far.room) c.in_err-count.ensures.first)
 
 pub loop-turn-preserved : goal.loop-turn-preserved
 loop-turn-preserved g c =
     let so_far = c.loop-turn.invariant in
     let piece = take c.in_ok-count.count c.fetch_piece.new.piece in
     let came = c.in_ok-count.ensures.value in
-    let some : 0 < c.in_ok-count.count = grind arith in (
-      so_far.0 ++ piece,
-      Consumes-trans _ (g.R.Source.left c.loop-turn.input) _ so_far.0 piece so_far.1 came.2,
-      omega (arith, so_far.2, came.0, came.1, length-append so_far.0 piece, length-take c.in_ok-count.count c.fetch_piece.new.piece),
-      omega (arith, so_far.3, came.0, some, length-append so_far.0 piece, length-take c.in_ok-count.count c.fetch_piece.new.piece),
-    )
+    let some : 0 < c.in_ok-count.count = grind arith in
+    record {
+      bytes = so_far.bytes ++ piece;
+      consumed = Consumes-trans _ (g.R.Source.left c.loop-turn.input) _ so_far.bytes piece so_far.consumed came.2;
+      room = omega (arith, so_far.room, came.0, came.1, length-append so_far.bytes piece, length-take c.in_ok-count.count c.fetch_piece.new.piece);
+      turns = omega (arith, so_far.turns, came.0, some, length-append so_far.bytes piece, length-take c.in_ok-count.count c.fetch_piece.new.piece);
+    }

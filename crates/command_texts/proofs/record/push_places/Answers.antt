@@ -6,4 +6,4 @@ pub loop-place-init : goal.loop-place-init
 loop-place-init g c =
     let has = c.places-place-items.ensures in
     let left : c.into_iter-place-iterator.result ≡ c.places-place-items.result = search rules in
-    (c.places-place-items.result, has, rw left refl, rw left (places_fit c.args.bytes.now c.places-place-items.result has))
+    record { at = c.places-place-items.result; has = has; text = rw left refl; fit = rw left (places_fit c.args.bytes.now c.places-place-items.result has) }

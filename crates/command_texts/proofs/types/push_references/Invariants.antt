@@ -5,7 +5,9 @@ use Rattle.command_texts.specs.Types.{reference}
 use Rattle.command_texts.proofs.types.push_references.Given as goal
 
 abbrev pub invariant-loop-place : goal.invariant-loop-place
-invariant-loop-place g l =
-    (at : List ℕ) × HasPlaces l.bytes at
-    × (string_bytes l.text ++ flat_map (reference l.bytes) l.place-iterator ≡ string_bytes l.fn.text ++ flat_map (reference l.bytes) at)
-    × AllByRecursion (λ p. p + 8 ≤ length l.bytes) l.place-iterator
+invariant-loop-place g l = record {
+  at : List ℕ;
+  has : HasPlaces l.bytes at;
+  text : string_bytes l.text ++ flat_map (reference l.bytes) l.place-iterator ≡ string_bytes l.fn.text ++ flat_map (reference l.bytes) at;
+  fit : AllByRecursion (λ p. p + 8 ≤ length l.bytes) l.place-iterator;
+}

@@ -11,9 +11,10 @@ loop-at-preserved c =
     let stop = c.args.stop in
     let at = c.loop-at.at in
     let h = c.loop-at.invariant in
-    let here = holds_here rest x stop at c.loop-at-test.true h.1 in
-    let e = c.in-Ok.ensures.end in (
-      omega (arith, c.in-Ok.ensures.inside, c.requires.few.1),
-      rw e (sym (held_here rest x stop at c.loop-at-test.true here) ∙ h.1),
-      rw e (h.2 ∙ no_places_here rest x stop at c.in-Ok.part.places.now (eqb-true (length c.in-Ok.part.places.now) 0 (sym c.is_empty.ensures ∙ c.if-not-is_empty.false)) c.loop-at-test.true c.in-Ok.ensures.places),
-    )
+    let here = holds_here rest x stop at c.loop-at-test.true h.checked in
+    let e = c.in-Ok.ensures.end in
+    record {
+      low = omega (arith, c.in-Ok.ensures.inside, c.requires.few.1);
+      checked = rw e (sym (held_here rest x stop at c.loop-at-test.true here) ∙ h.checked);
+      same = rw e (h.same ∙ no_places_here rest x stop at c.in-Ok.part.places.now (eqb-true (length c.in-Ok.part.places.now) 0 (sym c.is_empty.ensures ∙ c.if-not-is_empty.false)) c.loop-at-test.true c.in-Ok.ensures.places);
+    }

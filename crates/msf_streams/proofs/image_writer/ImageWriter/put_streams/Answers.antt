@@ -14,9 +14,9 @@ put_stream-requires g c =
     let i = c.loop-parts.parts-index in
     let f = λ (s : Bor (List (Bor (List ℕ)))). joined s.now in
     let same = flat_map-map (padded w.block_size) f xs in
-    let image = c.loop-parts.invariant.0 in
+    let image = c.loop-parts.invariant.same in
     let end = w.position + length (flat_map (λ s. padded w.block_size (f s)) xs) in
-    record { few = rw image.block_size (next_fits (λ s. padded w.block_size (f s)) xs i _ v.position end c.loop-parts-test.true c.loop-parts.invariant.1 (rw same at c.requires.few)) }
+    record { few = rw image.block_size (next_fits (λ s. padded w.block_size (f s)) xs i _ v.position end c.loop-parts-test.true c.loop-parts.invariant.place (rw same at c.requires.few)) }
 
 pub returns-in_err-put_stream-clause-prefix : goal.returns-in_err-put_stream-clause-prefix
 returns-in_err-put_stream-clause-prefix g c =
@@ -26,13 +26,13 @@ returns-in_err-put_stream-clause-prefix g c =
     let i = c.loop-parts.parts-index in
     let f = λ (s : Bor (List (Bor (List ℕ)))). joined s.now in
     let same = flat_map-map (padded w.block_size) f xs in
-    let image = c.loop-parts.invariant.0 in
+    let image = c.loop-parts.invariant.same in
     let old = g.W.Sink.taken c.args.out.now in
     let between = g.W.Sink.taken c.loop-parts.out in
     let new = g.W.Sink.taken c.put_stream.new.out in
     let all = woven_from w (flat_map (λ s. padded w.block_size (f s)) xs) in
     rw same (at_err (AppendsPart old new all) c.from_residual.result
-    (next_not_put old between new f w.block_size v xs i _ all c.loop-parts-test.true image.block_size c.loop-parts.invariant.2 c.in_err-put_stream.ensures.prefix))
+    (next_not_put old between new f w.block_size v xs i _ all c.loop-parts-test.true image.block_size c.loop-parts.invariant.taken c.in_err-put_stream.ensures.prefix))
 
 pub loop-parts-preserved : goal.loop-parts-preserved
 loop-parts-preserved g c =
@@ -41,18 +41,19 @@ loop-parts-preserved g c =
     let xs = c.args.streams.now in
     let i = c.loop-parts.parts-index in
     let f = λ (s : Bor (List (Bor (List ℕ)))). joined s.now in
-    let image = c.loop-parts.invariant.0 in
+    let image = c.loop-parts.invariant.same in
     let old = g.W.Sink.taken c.args.out.now in
     let between = g.W.Sink.taken c.loop-parts.out in
     let new = g.W.Sink.taken c.put_stream.new.out in
     let all = woven_from w (flat_map (λ s. padded w.block_size (f s)) xs) in
     let end = w.position + length (flat_map (λ s. padded w.block_size (f s)) xs) in
     let u = c.put_stream.new.self in
-    let put = c.in_ok-put_stream.ensures in (
-      still_same w v u image put.same,
-      rw (put.end, image.block_size) (next_place (λ s. padded w.block_size (f s)) xs i _ v.position end c.loop-parts-test.true c.loop-parts.invariant.1),
-      next_put old between new f w.block_size v u xs i _ all c.loop-parts-test.true image.block_size c.loop-parts.invariant.2 put.ok put.same put.end,
-    )
+    let put = c.in_ok-put_stream.ensures in
+    record {
+      same = still_same w v u image put.same;
+      place = rw (put.end, image.block_size) (next_place (λ s. padded w.block_size (f s)) xs i _ v.position end c.loop-parts-test.true c.loop-parts.invariant.place);
+      taken = next_put old between new f w.block_size v u xs i _ all c.loop-parts-test.true image.block_size c.loop-parts.invariant.taken put.ok put.same put.end;
+    }
 
 pub returns-clause-ok : goal.returns-clause-ok
 returns-clause-ok g c =
@@ -65,4 +66,4 @@ returns-clause-ok g c =
     let old = g.W.Sink.taken c.args.out.now in
     let now = g.W.Sink.taken c.loop-parts.out in
     let all = woven_from w (flat_map (λ s. padded w.block_size (f s)) xs) in
-    rw same (all_taken old now v all _ c.loop-parts.invariant.2 (none_left (λ s. padded w.block_size (f s)) xs i c.loop-parts-test.false))
+    rw same (all_taken old now v all _ c.loop-parts.invariant.taken (none_left (λ s. padded w.block_size (f s)) xs i c.loop-parts-test.false))
