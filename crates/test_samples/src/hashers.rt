@@ -9,15 +9,17 @@ pub fn folding() -> BuildHasherDefault<FoldHasher> {
 
 /// A hasher that returns the same number for every text.
 #[derive(Clone, Copy)]
-pub struct Constant;
+pub struct Constant {
+    pub number: u64,
+}
 
 impl Hasher for Constant {
     ghost write = { λ h _. h };
 
-    ghost finish = { λ _. 7 };
+    ghost finish = { λ h. h.number };
 
     fn finish(&self) -> u64 {
-        7
+        self.number
     }
 
     fn write(&mut self, _bytes: &[u8]) {}

@@ -7,7 +7,7 @@
 //!   fails.
 //! - [`Narrow`] is a sink with little room. [`Dripping`] is a source that gives one byte a call.
 //!   [`Positions`] is a file of which one read by position fails.
-//! - [`folding`] is a good hasher. For [`Constant`] all texts have one hash.
+//! - [`folding`] is a good hasher. For a [`Constant`] all texts have one hash.
 //!
 //! Shipped crates use this one only in their tests.
 #![tactic(auto)]

@@ -12,7 +12,7 @@ use Rattle.std.proofs.lemmas.Map.Views.{Contains-from_any, list_any-from_Contain
 use Rattle.std.proofs.lemmas.Option.{get_or_from_slice_get}
 use Rattle.std.proofs.Math.Seq.{get_or-append_seam}
 use Rattle.indexmap.specs.IndexSet.{insert_key}
-use Rattle.text_set.specs.TextKeys.{nth_try, IsTaken, IsFirstFree, HaveKeys, AddsKey}
+use Rattle.text_set.specs.TextKeys.{nth_try, IsTaken, IsFirstFree, HaveKeys, LeadTo, AddsKey}
 
 -- the numbers that were tried for this text are keys of other texts
 abbrev pub AreOthers : List (List ℕ) → List ℕ → List ℕ → ℕ → ℕ → Type 0
@@ -89,19 +89,19 @@ pub others_taken : (texts : List (List ℕ)) (text keys : List ℕ) (hash clashe
 others_taken texts text keys hash clashes each others i below = let o = others i below in (o.0, omega (arith, o.1, each), o.2)
 
 -- a text isn't there if other texts have the numbers that were tried, and no text has the next one
-pub new_text : (texts : List (List ℕ)) (text keys : List ℕ) (hash clashes : ℕ) → length keys ≡ length texts → IsDistinct nat_eq keys
-    → ((k : ℕ) → k < length texts → get_or texts k [] ≡ text → IsFirstFree keys k hash (get_or keys k 0)) → AreOthers texts text keys hash clashes → (IsTaken keys (length keys) (nth_try hash clashes) → ⊥) → Contains texts text → ⊥
-new_text texts text keys hash clashes each distinct keyed others free (k, inside, at) =
+pub new_text : (texts : List (List ℕ)) (text keys : List ℕ) (hash clashes : ℕ) → LeadTo texts keys text hash → AreOthers texts text keys hash clashes → (IsTaken keys (length keys) (nth_try hash clashes) → ⊥) → Contains texts text → ⊥
+new_text texts text keys hash clashes keyed others free (k, inside, at) =
     let here : get_or texts k [] ≡ text = get_or_default texts k [] text inside ∙ at in
-    let f = keyed k inside here in
+    let f = keyed.first_free k inside here in
+    let k_in : k < length keys = omega (arith, inside, keyed.each) in
     elim (cases_order f.clashes clashes) [
-      | inl same ↦ free (k, omega (arith, inside, each), f.is ∙ ap (nth_try hash) same)
+      | inl same ↦ free (k, k_in, f.is ∙ ap (nth_try hash) same)
       | inr w ↦ elim w [
         | inl fewer ↦
             let o = others f.clashes fewer in
-            let is : o.0 ≡ k = one_position keys o.0 k distinct (omega (arith, o.1, each)) (omega (arith, inside, each)) (o.2 ∙ sym f.is) in
+            let is : o.0 ≡ k = one_position keys o.0 k keyed.distinct (omega (arith, o.1, keyed.each)) k_in (o.2 ∙ sym f.is) in
             o.3 (ap (λ (n : ℕ). get_or texts n []) is ∙ here)
-        | inr more ↦ let t = f.taken clashes more in free (t.0, omega (arith, t.1, inside, each), t.2)
+        | inr more ↦ let t = f.taken clashes more in free (t.0, omega (arith, t.1, k_in), t.2)
       ]
     ]
 
@@ -128,10 +128,13 @@ key_last keys after key new is_new added is = by (list_any (nat_eq key) keys) re
 
 -- ---- Keys of more texts, and of fewer
 
--- the key of a text
-pub has_key : (h : List ℕ → ℕ) (texts : List (List ℕ)) (keys text : List ℕ) (hash : ℕ) → HaveKeys h texts keys → hash ≡ h text → (k : ℕ) → k < length texts → get_or texts k [] ≡ text → IsFirstFree keys k hash (get_or keys k 0)
-has_key h texts keys text hash have is k inside at =
-    subst (λ (n : ℕ). IsFirstFree keys k n (get_or keys k 0)) (ap h at ∙ sym is) (have.first_free k (omega (arith, inside, have.each)))
+-- the keys of the texts lead to a text with its hash
+pub lead_to : (h : List ℕ → ℕ) (texts : List (List ℕ)) (keys text : List ℕ) (hash : ℕ) → HaveKeys h texts keys → hash ≡ h text → LeadTo texts keys text hash
+lead_to h texts keys text hash have is = record {
+  each = have.each;
+  distinct = have.distinct;
+  first_free = λ k inside at. subst (λ (n : ℕ). IsFirstFree keys k n (get_or keys k 0)) (ap h at ∙ sym is) (have.first_free k (omega (arith, inside, have.each)));
+}
 
 -- the keys from `end` on don't matter
 free_still : (keys after : List ℕ) (end hash key : ℕ) → ((j : ℕ) → j < end → get_or after j 0 ≡ get_or keys j 0) → IsFirstFree keys end hash key → IsFirstFree after end hash key

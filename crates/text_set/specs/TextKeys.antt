@@ -23,6 +23,12 @@ pub record HaveKeys (h : List ℕ → ℕ) (texts : List (List ℕ)) (keys : Lis
   pub distinct : IsDistinct nat_eq keys
   pub first_free : (k : ℕ) → k < length keys → IsFirstFree keys k (h (get_or texts k [])) (get_or keys k 0)
 
+-- each text has a key of its own, and one that is this text has the first that was free for its hash
+pub record LeadTo (texts : List (List ℕ)) (keys : List ℕ) (text : List ℕ) (hash : ℕ) : Type 0 where
+  pub each : length keys ≡ length texts
+  pub distinct : IsDistinct nat_eq keys
+  pub first_free : (k : ℕ) → k < length texts → get_or texts k [] ≡ text → IsFirstFree keys k hash (get_or keys k 0)
+
 -- the text isn't there, and its key comes after the others
 pub record AddsKey (texts : List (List ℕ)) (text : List ℕ) (hash : ℕ) (keys after : List ℕ) : Type 0 where
   pub absent : Contains texts text → ⊥

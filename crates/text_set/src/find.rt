@@ -1,8 +1,7 @@
 //! Finds a text by its key, or gives it one.
 
-ghost use Rattle.std.specs.Prelude.{◌≡◌, ◌+◌, ◌/◌, ◌^◌, ◌<◌, ℕ, [], length, get_or, nat_eq, IfOk, IfErr, IfSome, IfNone};
-ghost use Rattle.std.specs.List.{IsDistinct};
-ghost use Rattle.text_set.specs.TextKeys.{AddsKey, IsFirstFree};
+ghost use Rattle.std.specs.Prelude.{◌≡◌, ◌/◌, ◌^◌, ◌<◌, [], length, get_or, IfOk, IfErr, IfSome, IfNone};
+ghost use Rattle.text_set.specs.TextKeys.{AddsKey, LeadTo};
 
 use indexmap::IndexSet;
 use packed_texts::PackedTexts;
@@ -33,10 +32,7 @@ pub(crate) fn find_or_key<A: Allocator>(
     hash: u32,
 ) -> Result<Option<usize>, AllocError>
     requires few { length texts.now < 2 ^ 31 }
-    requires each { length keys.old.keys ≡ length texts.now }
-    requires distinct { IsDistinct nat_eq keys.old.keys }
-    requires keyed { (k : ℕ) → k < length texts.now → get_or texts.now k [] ≡ text.now →
-        IsFirstFree keys.old.keys k hash (get_or keys.old.keys k 0) }
+    requires keyed { LeadTo texts.now keys.old.keys text.now hash }
     ensures found { IfOk result (λ o. IfSome o (λ k.
         (k < length texts.now) × (get_or texts.now k [] ≡ text.now))) }
     ensures kept { IfOk result (λ o. IfSome o (λ _. keys.new.keys ≡ keys.old.keys)) }

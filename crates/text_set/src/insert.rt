@@ -1,8 +1,8 @@
 //! Finds a text, or appends it where it isn't there.
 
-ghost use Rattle.std.specs.Prelude.{◌≡◌, ◌+◌, ◌%◌, ◌^◌, ◌<◌, ◌++◌, [], ◌∷◌, ℕ, length, get_or, nat_eq, take, IfOk, IfErr};
-ghost use Rattle.std.specs.List.{concat, IsDistinct};
-ghost use Rattle.text_set.specs.TextKeys.{IsFirstFree};
+ghost use Rattle.std.specs.Prelude.{◌≡◌, ◌+◌, ◌%◌, ◌^◌, ◌<◌, ◌++◌, [], ◌∷◌, length, get_or, take, IfOk, IfErr};
+ghost use Rattle.std.specs.List.{concat};
+ghost use Rattle.text_set.specs.TextKeys.{LeadTo};
 ghost use Rattle.text_set.specs.TextSet.{Placed};
 
 use crate::find::{Keys, find_or_key};
@@ -42,10 +42,7 @@ pub(crate) fn insert<A: Allocator>(
     requires padded { length text.now % 4 ≡ 0 }
     requires short { length (concat texts.old) + length text.now < 2 ^ 34 }
     requires few { length texts.old + 1 < 2 ^ 31 }
-    requires each { length keys.old.keys ≡ length texts.old }
-    requires distinct { IsDistinct nat_eq keys.old.keys }
-    requires keyed { (k : ℕ) → k < length texts.old → get_or texts.old k [] ≡ text.now →
-        IsFirstFree keys.old.keys k hash (get_or keys.old.keys k 0) }
+    requires keyed { LeadTo texts.old keys.old.keys text.now hash }
     ensures at { IfOk result (λ k. (k < length texts.new) × (get_or texts.new k [] ≡ text.now)) }
     ensures small { IfOk result (λ k. k < 2 ^ 31) }
     ensures placed { IfOk result (λ _.

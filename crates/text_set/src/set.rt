@@ -86,7 +86,7 @@ impl<S: BuildHasher, A: Allocator> TextSet<S, A> {
     /// The position of this text. The text is appended if it isn't there.
     ///
     /// If this runs out of memory, the texts stay as they were.
-    #[tactic(auto, using(crate::proofs::TextSetLaws::few_texts, crate::proofs::TextKeyLaws::has_key))]
+    #[tactic(auto, using(crate::proofs::TextSetLaws::few_texts, crate::proofs::TextKeyLaws::lead_to))]
     pub fn intern(&mut self, text: &[u8]) -> Result<usize, AllocError>
         requires padded { length text.now % 4 ≡ 0 }
         requires long { 4 ≤ length text.now }

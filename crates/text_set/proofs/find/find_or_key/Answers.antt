@@ -12,11 +12,11 @@ returns-then-is_new-clause-none g c =
     let put = rw so_far.same at c.in_ok-position.ensures in
     let last = key_last keys c.insert_full.new.self.keys (nth_try hash clashes) c.in_ok-position.is_new c.if-is_new.true put.added put.keys in
     record {
-      absent = new_text c.args.texts.now c.args.text.now keys hash clashes c.requires.each c.requires.distinct c.requires.keyed so_far.others last.1;
+      absent = new_text c.args.texts.now c.args.text.now keys hash clashes c.requires.keyed so_far.others last.1;
       key = nth_try hash clashes;
       last = last.0;
       distinct = put.unique;
-      first_free = record { clashes = clashes; is = refl; taken = others_taken c.args.texts.now c.args.text.now keys hash clashes c.requires.each so_far.others };
+      first_free = record { clashes = clashes; is = refl; taken = others_taken c.args.texts.now c.args.text.now keys hash clashes c.requires.keyed.each so_far.others };
     }
 
 pub loop-position-preserved : goal.loop-position-preserved
@@ -31,11 +31,11 @@ loop-position-preserved g c =
     let put = rw so_far.same at c.in_ok-position.ensures in
     let same = key_there keys c.insert_full.new.self.keys (nth_try hash clashes) position c.in_ok-position.is_new c.if-is_new.false put.added put.keys in
     let here = key_at keys (nth_try hash clashes) position (rw same at put.stored) in
-    let inside : position < length texts = omega (arith, ap length same, put.within, c.requires.each) in
+    let inside : position < length texts = omega (arith, ap length same, put.within, c.requires.keyed.each) in
     let apart : get_or texts position [] ≢ text = search rules in
     let others = others_more texts text keys hash clashes position so_far.others inside here apart in
     record {
-      few = omega (arith, few_clashes keys hash (clashes + 1) (omega (arith, so_far.few, c.requires.few)) (others_taken texts text keys hash (clashes + 1) c.requires.each others), c.requires.each);
+      few = omega (arith, few_clashes keys hash (clashes + 1) (omega (arith, so_far.few, c.requires.few)) (others_taken texts text keys hash (clashes + 1) c.requires.keyed.each others), c.requires.keyed.each);
       same = same;
       others = others;
     }
