@@ -9,3 +9,5 @@ mod calls;
 mod joining;
 #[cfg(test)]
 mod places;
+#[cfg(test)]
+mod prefixes;

@@ -1,0 +1,37 @@
+//! Types that differ only after as many bytes as their keys have, before, and long after.
+
+use super::calls::{add_stream, copied, empty_table, list_of};
+use std::alloc::{AllocError, Global};
+use std::test::Fail;
+use test_samples::{bytes_of, folding, stream_with};
+
+/// An argument list whose arguments are ints, but for the last one.
+fn ending(alloc: Global, count: u16, last: u32) -> Result<Vec<u8>, AllocError> {
+    let mut record = Vec::new(alloc);
+    let length = count.saturating_mul(4).saturating_add(6);
+    record.extend_from_slice(&length.to_le_bytes())?;
+    record.extend_from_slice(&[0x01, 0x12])?;
+    record.extend_from_slice(&u32::from(count).to_le_bytes())?;
+    for argument in 1..=count {
+        let index: u32 = if argument == count { last } else { 0x74 };
+        record.extend_from_slice(&index.to_le_bytes())?;
+    }
+    Ok(record)
+}
+
+#[test]
+fn equal_bytes_before_the_first_other_one(rt: HostRuntime) -> Result<(), Fail> {
+    // The first other byte is at the offset 8, 12, 16, 20 and 65,004.
+    for count in [1, 2, 3, 4, 16_250] {
+        let least = ending(rt.alloc(), count, 0x10)?;
+        let middle = ending(rt.alloc(), count, 0x11)?;
+        let greatest = ending(rt.alloc(), count, 0x12)?;
+        let stream = stream_with(rt.alloc(), &[&greatest, &least, &middle])?;
+        let mut table = empty_table(rt.alloc(), folding());
+        add_stream(&mut table, rt.alloc(), &stream, 1 << 20)?;
+        let canon = list_of(rt.alloc(), &table)?;
+        let want = bytes_of(rt.alloc(), &[&least, &middle, &greatest])?;
+        assert!(rt; copied(rt.alloc(), &canon)? == want, "{count} arguments");
+    }
+    Ok(())
+}
