@@ -13,11 +13,6 @@ pub record LayoutView : Type 0 where
   pub superblock : Fields
   pub streams : List Listed
 
--- contracts see a container as the bytes of its file and the layout of these
-pub record ContainerView : Type 0 where
-  pub file : List ℕ
-  pub layout : LayoutView
-
 -- the file has this layout: it begins with the superblock, and its directory lists the streams
 pub record HasLayout (file : List ℕ) (layout : LayoutView) : Type 0 where
   pub superblock : IsSuperblock file layout.superblock

@@ -7,7 +7,6 @@
 //! - [`Superblock::read`] checks and reads the superblock.
 //! - [`Layout::read`] also checks and reads the stream directory. Each block number in a [`Layout`]
 //!   is the number of a block of the file, so the crates above need no check of their own.
-//! - A [`Container`] is a file with its layout, as one value.
 //! - [`Superblock::read_at`] and [`Layout::read_at`] do the same by position, and [`read_blocks`]
 //!   reads the bytes in a list of blocks. Of a file they read no more than they need.
 //! - [`BlockSize`] is a size that a block may have. [`is_block_size`] says which sizes these are,
@@ -29,7 +28,6 @@ mod block_file;
 mod block_number;
 mod block_size;
 mod blocks;
-mod container;
 mod directory;
 mod directory_at;
 mod fault;
@@ -42,7 +40,6 @@ pub use block_number::{blocks_for, is_map_block, nth_block};
 pub use block_size::{BlockSize, is_block_size};
 pub use blocks::read_blocks;
 pub use byte_io::{In, NotTaken, Out, Sink, Source, put_all};
-pub use container::Container;
 pub use directory::{block_map_bytes, directory_bytes};
 pub use fault::MsfFault;
 pub use free_map::{fill_map_block, free_bit};

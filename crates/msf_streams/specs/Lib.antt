@@ -2,3 +2,4 @@ pub mod Streams
 pub mod Image
 pub mod Put
 pub mod Laws
+pub mod Container

@@ -13,6 +13,7 @@
 //! - [`contents`] lends the contents where they are one part of the file, and gathers them
 //!   otherwise.
 //! - [`gather_at`] gathers the contents by position, and reads no other byte of the file.
+//! - A [`Container`] is a file with its layout, as one value.
 //! - [`write_image`] writes the *image* of five streams: the container that holds just these
 //!   streams. [`write_parts`] does the same for streams that are lent in several parts, and
 //!   [`write_parts_len`] also returns the length of the image.
@@ -42,6 +43,7 @@
 #![tactic(auto)]
 
 mod at;
+mod container;
 mod fault;
 mod front;
 mod image;
@@ -51,6 +53,7 @@ mod streams;
 mod write;
 
 pub use at::gather_at;
+pub use container::Container;
 pub use fault::{StreamFault, WriteFault};
 pub use image::image_len;
 pub use streams::{StreamPieces as Pieces, contents, gather, lent, pieces};

@@ -21,8 +21,9 @@ ghost use Rattle.msf_blocks.specs.Layout.{IsLayout, block_of};
 ghost use Rattle.msf_blocks.specs.Superblock.{HoldsBlocks};
 ghost use Rattle.msf_streams.specs.Streams.{AreConsecutive, FirstIsLong, IsOnePart, blocks_in, stream_pieces, stream_contents, pieces_from};
 
+use crate::container::Container;
 use crate::fault::StreamFault;
-use msf_blocks::{Container, Layout, blocks_for};
+use msf_blocks::{Layout, blocks_for};
 use std::alloc::{Allocator, Global};
 use std::marker::Model;
 

@@ -13,7 +13,8 @@ use crate::command::{Show, ShowAt, run, run_at};
 use crate::fault::RunFault;
 use byte_io::{AtFault, ReadAt, Sink, Source};
 use command_texts::layout_text;
-use msf_blocks::{Container, Layout, MsfFault, Superblock, free_bit};
+use msf_blocks::{Layout, MsfFault, Superblock, free_bit};
+use msf_streams::Container;
 use pdb_merge::PdbFault;
 use std::alloc::Allocator;
 

@@ -10,8 +10,8 @@ ghost use Rattle.pdb_merge.specs.Read.{RecordsWereRead, ListsLongInfo, ListsType
 
 use crate::fault::PdbFault;
 use byte_io::{AtFault, ReadAt};
-use msf_blocks::{Container, Layout};
-use msf_streams::{contents, gather_at};
+use msf_blocks::Layout;
+use msf_streams::{Container, contents, gather_at};
 use pdb_info::{InfoFault, info_stream};
 use std::alloc::{Allocator, Global};
 use std::marker::Model;

@@ -3,7 +3,7 @@
 ghost use Rattle.std.specs.Prelude.{◌≡◌};
 ghost use Rattle.msf_blocks.specs.Superblock.{HoldsBlocks};
 
-use crate::layout::Layout;
+use msf_blocks::Layout;
 use std::alloc::{Allocator, Global};
 use std::marker::Model;
 
@@ -18,7 +18,7 @@ pub struct Container<'f, 'l, A: Allocator = Global> {
 
 impl<'f, 'l, A: Allocator> Model for Container<'f, 'l, A> {
     ghost use Rattle.msf_blocks.specs.Superblock.{HoldsBlocks};
-    ghost use Rattle.msf_blocks.specs.Layout.{ContainerView};
+    ghost use Rattle.msf_streams.specs.Container.{ContainerView};
 
     ghost Value = { ContainerView };
 
