@@ -1,5 +1,9 @@
 //! A short example for each library, as a user of that library writes it.
 
+ghost use Rattle.std.specs.Prelude.{◌≡◌};
+ghost use Rattle.tpi_records.specs.Records.{IsRecord};
+ghost use Rattle.closed_trees.specs.Named.{named_places};
+
 use crate::orders::names_nodes;
 use byte_fields::{u16_at, u32_at};
 use byte_io::{In, Out, put_all};
@@ -13,6 +17,8 @@ use pdb_commands::run_check;
 use pdb_info::{Info, Settings, guid_of};
 use pdb_merge::{Buffer, merge_to, read_records, read_types};
 use record_set::RecordSet;
+use std::alloc::Allocator;
+use std::hash::BuildHasher;
 use std::test::Fail;
 use test_samples::{TO_INT, folding, sample};
 use text_set::TextSet;
@@ -151,14 +157,35 @@ fn a_record_that_is_renumbered(rt: HostRuntime) -> Result<(), Fail> {
     Ok(())
 }
 
+/// Puts a record into a set that has room for it.
+fn put_record<S: BuildHasher, A: Allocator>(
+    set: &mut RecordSet<S, A>,
+    record: &[u8],
+    places: &[u16],
+) -> Result<usize, Fail>
+    requires framed { IsRecord «record».now }
+    requires listed { places.now ≡ named_places «record».now }
+{
+    let has_room = set.bytes().len() as u64 + (record.len() as u64) < (1 << 33);
+    if !has_room || 4 * places.len() as u64 > record.len() as u64 {
+        return Err("no room".into());
+    }
+    Ok(set.intern(record, places)?)
+}
+
 /// `record_set` keeps each record once, with the places at which it names other records.
 #[test]
 fn each_record_once(rt: HostRuntime) -> Result<(), Fail> {
+    let file = sample(rt.alloc())?;
+    let mut buffer = Buffer::new(rt.alloc());
+    let types = Types::check(rt.alloc(), read_records(rt.alloc(), &file, &mut buffer)?)?;
+    let record = types.get(0).ok_or("no such type")?;
+    let mut places = Vec::new(rt.alloc());
+    list_places(record, &mut places)?;
     let mut set = RecordSet::with_hasher(rt.alloc(), folding());
-    let first = set.intern(TO_INT, &[])?;
-    assert_eq!(rt; set.intern(TO_INT, &[])?, first);
+    let first = put_record(&mut set, record, &places)?;
+    assert_eq!(rt; put_record(&mut set, record, &places)?, first);
     assert_eq!(rt; set.len(), 1);
-    assert!(rt; set.places(first).is_empty());
     Ok(())
 }
 
