@@ -15,7 +15,7 @@ ghost use Rattle.tpi_records.specs.Records.{IsRecord};
 ghost use Rattle.cv_leaves.specs.Place.{IsChecked};
 ghost use Rattle.cv_leaves.specs.References.{references};
 ghost use Rattle.closed_trees.specs.Depth.{AreDepths, HasDepths, HasLevels};
-ghost use Rattle.closed_trees.specs.Named.{named_places};
+ghost use Rattle.cv_leaves.specs.Named.{named_places};
 ghost use Rattle.closed_trees.specs.Tree.{Tree, IsType};
 ghost use Rattle.closed_trees.specs.Table.{IsTable, AreNumbered, renumbered};
 ghost use Rattle.canonical_list.specs.Rows.{row, IsKeyed};

@@ -8,7 +8,8 @@ ghost use Rattle.checked_types.specs.Graph.{graph_of};
 ghost use Rattle.checked_types.specs.Order.{order_list};
 
 use crate::order::{Order, record_at};
-use closed_trees::{depth_of, list_places};
+use closed_trees::depth_of;
+use cv_leaves::list_places;
 use std::alloc::{AllocError, Allocator};
 use tpi_records::Records;
 
@@ -32,6 +33,7 @@ pub fn measure<A: Allocator + Copy>(
     let mut cursor = records.cursor();
     for position in order.positions(len) {
         let bytes = record_at(&mut cursor, position);
+        // types have places, so all of them are listed
         list_places(bytes, &mut places)?;
         depths[position] = depth_of(bytes, &places, &depths);
     }

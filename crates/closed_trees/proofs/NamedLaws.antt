@@ -1,40 +1,26 @@
 -- What holds of all places of a record follows from those at which it names a record.
-use Rattle.std.proofs.Common.{◌≡◌, ◌≤◌, ◌<◌, ◌+◌, ◌*◌, ◌^◌, ◌-◌, ℕ, zero, suc, max, List, [], ◌∷◌, ◌++◌, map, length, refl, sym, ap, ◌∙◌, arith, inl, inr, ◌⊎◌}
+use Rattle.std.proofs.Common.{◌≡◌, ◌≤◌, ◌<◌, ◌+◌, ◌*◌, ◌^◌, ℕ, zero, suc, max, List, [], ◌∷◌, map, length, refl, sym, ap, ◌∙◌, arith, inl, inr, ◌⊎◌}
 use Rattle.std.proofs.lemmas.Bool.{cases_lt, lt-ltb, le-ltb}
-use Rattle.std.proofs.lemmas.List.{append_assoc, append-nil}
 use Rattle.std.specs.List.{AllByRecursion, Contains}
 use Rattle.byte_fields.specs.Bytes.{AreBytes}
 use Rattle.tpi_records.specs.Header.{first_index}
 use Rattle.cv_leaves.specs.Blank.{put_four, fill}
 use Rattle.cv_leaves.specs.Checks.{places_of}
-use Rattle.cv_leaves.specs.Place.{HasPlaces, IsChecked, Apart}
+use Rattle.cv_leaves.specs.Place.{IsChecked, Apart}
 use Rattle.cv_leaves.specs.References.{reference_at, references, filled}
 use Rattle.cv_leaves.proofs.PutLaws.{number_in_body, put_len, put_own, put_swap}
 use Rattle.cv_leaves.proofs.PlaceLaws.{ends_behind, places_fit}
 use Rattle.cv_leaves.proofs.FillLaws.{fits}
+use Rattle.cv_leaves.proofs.ListLaws.{named-none}
 use Rattle.cv_leaves.proofs.FilledLaws.{own_places, filled_places, filled_read, reference_each}
 use Rattle.closed_trees.specs.Types.{NamesThere}
-use Rattle.closed_trees.specs.Named.{named_at, named_among, named_places}
+use Rattle.cv_leaves.specs.Named.{named_at, named_among, named_places}
 use Rattle.closed_trees.specs.Table.{renumber, renumber_one, renumbered, AreNumbered}
 use Rattle.closed_trees.specs.Depth.{height, depth_above}
 use Rattle.closed_trees.proofs.RenumberLaws.{simple_number}
 use Rattle.closed_trees.proofs.DepthLaws.{above_more, height_simple, lower_places}
 
 -- ---- The list
-
-pub named-none : (r : List ℕ) → named_among r [] ≡ []
-unfolding named_among
-named-none r = refl
-
--- the place of a simple reference
-pub simple_at : (list : List ℕ) (p to : ℕ) → to < first_index → list ≡ list ++ named_at p to
-unfolding named_at
-simple_at list p to small = rw (lt-ltb to first_index small) (sym (append-nil list))
-
--- the place of another one
-pub other_at : (now list : List ℕ) (p to : ℕ) → first_index ≤ to → now ≡ list ++ p ∷ [] → now ≡ list ++ named_at p to
-unfolding named_at
-other_at now list p to large is = rw (le-ltb to first_index large) is
 
 -- a place of a simple reference is left out
 pub named-simple : (r : List ℕ) (p : ℕ) (ps : List ℕ) → reference_at r p < first_index → named_among r (p ∷ ps) ≡ named_among r ps
@@ -45,26 +31,6 @@ named-simple r p ps small = rw (lt-ltb (reference_at r p) first_index small) ref
 pub named-kept : (r : List ℕ) (p : ℕ) (ps : List ℕ) → first_index ≤ reference_at r p → named_among r (p ∷ ps) ≡ p ∷ named_among r ps
 unfolding named_among named_at
 named-kept r p ps large = rw (le-ltb (reference_at r p) first_index large) refl
-
--- what no place is left to list
-pub none_listed : (r list left : List ℕ) → list ++ named_among r left ≡ named_places r → left ≡ [] → list ≡ named_places r
-none_listed r list left so_far none = sym (append-nil list) ∙ ap (λ (xs : List ℕ). list ++ xs) (sym (ap (named_among r) none ∙ named-none r)) ∙ so_far
-
--- one place more
-pub listed_more : (r list now left others : List ℕ) (p to : ℕ) → list ++ named_among r left ≡ named_places r → left ≡ p ∷ others → to ≡ reference_at r p → now ≡ list ++ named_at p to → now ++ named_among r others ≡ named_places r
-unfolding named_among
-listed_more r list now left others p to so_far split is pushed =
-    ap (λ (xs : List ℕ). xs ++ named_among r others) (pushed ∙ ap (λ (n : ℕ). list ++ named_at p n) is) ∙ append_assoc list (named_at p (reference_at r p)) (named_among r others)
-    ∙ ap (λ (ps : List ℕ). list ++ named_among r ps) (sym split) ∙ so_far
-
--- before the first place
-pub listed_none : (r list left : List ℕ) → list ≡ [] → left ≡ places_of r → list ++ named_among r left ≡ named_places r
-unfolding named_places
-listed_none r list left none own = rw (none, own) refl
-
-pub named-is : (r : List ℕ) → named_places r ≡ named_among r (places_of r)
-unfolding named_places
-named-is r = refl
 
 -- what holds of each place holds of those that are listed
 pub named_each : (P : ℕ → Type 0) (r ps : List ℕ) → AllByRecursion P ps → AllByRecursion P (named_among r ps)

@@ -4,4 +4,3 @@ pub mod Types
 pub mod Canon
 pub mod Table
 pub mod Laws
-pub mod Named

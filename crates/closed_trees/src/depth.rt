@@ -5,7 +5,7 @@ ghost use Rattle.tpi_records.specs.Records.{IsRecord};
 ghost use Rattle.cv_leaves.specs.Place.{IsChecked};
 ghost use Rattle.cv_leaves.specs.References.{references};
 ghost use Rattle.closed_trees.specs.Types.{NamesThere};
-ghost use Rattle.closed_trees.specs.Named.{named_places};
+ghost use Rattle.cv_leaves.specs.Named.{named_places};
 ghost use Rattle.closed_trees.specs.Depth.{height, depth_above, AreBelow, CountsLevels};
 
 use cv_leaves::ref_at;

@@ -12,7 +12,7 @@
 //! depth in the order of the bytes of their records. The records name each other by their positions
 //! in the list. The *weight* of a list is the number of bytes of its records.
 //!
-//! [`list_places`] lists the places at which a record names other records. By this list
+//! By the list of the places at which a record names other records (`list_places` of `cv_leaves`)
 //! [`depth_of`] computes the depth of a record, from the depths of those that it names, and
 //! [`levels_of`] counts the levels. [`renumber_into`] makes a record that names the same types by
 //! other type indices.
@@ -29,9 +29,7 @@
 
 mod depth;
 pub mod laws;
-mod named;
 mod renumber;
 
 pub use depth::{depth_of, height, levels_of};
-pub use named::list_places;
 pub use renumber::{number_for, renumber_into};

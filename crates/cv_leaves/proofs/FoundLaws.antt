@@ -23,7 +23,7 @@ use Rattle.cv_leaves.proofs.RecordLaws.{has_leaf, fixed_held, extent_held, parts
 -- ---- one part
 
 -- what is met at `at` is a part, which ends within the body
-abbrev IsFound : Rest → List ℕ → ℕ → Type 0
+abbrev pub IsFound : Rest → List ℕ → ℕ → Type 0
 IsFound rest body at = (part_end rest body at ≤ length body)
     × ((here : List ℕ) × IsPart rest (text_of body at (part_end rest body at)) here × (part_places rest body at ≡ map (λ k. at + k) here))
 
@@ -76,7 +76,7 @@ unfolding part_checks part_end part_places
 members_found body at held = member_found body at held
 
 -- a part whose checks hold is a part
-part_found : (rest : Rest) (body : List ℕ) (at : ℕ) → first_failing (part_checks rest body at) ≡ None → IsFound rest body at
+pub part_found : (rest : Rest) (body : List ℕ) (at : ℕ) → first_failing (part_checks rest body at) ≡ None → IsFound rest body at
 part_found Nothing body at held = nothing_found body at held
 part_found Containing body at held = containing_found body at (points_to_member (number_at 4 body at)) refl held
 part_found Indices body at held = index_found body at held

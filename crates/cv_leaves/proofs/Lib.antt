@@ -15,3 +15,4 @@ pub mod PlaceLaws
 pub mod KeepLaws
 pub mod FillLaws
 pub mod FilledLaws
+pub mod ListLaws

@@ -30,7 +30,7 @@ apart_append from [] middle (q ∷ qs) end front back = (omega (arith, front, ba
 apart_append from (p ∷ ps) middle qs end front back = (front.0, apart_append (p + 4) ps middle qs end front.1 back)
 
 -- the same places, all moved by `at`
-apart_shift : (at from : ℕ) (ps : List ℕ) (end : ℕ) → Apart from ps end → Apart (at + from) (map (λ k. at + k) ps) (at + end)
+pub apart_shift : (at from : ℕ) (ps : List ℕ) (end : ℕ) → Apart from ps end → Apart (at + from) (map (λ k. at + k) ps) (at + end)
 apart_shift at from [] end apart = omega (arith, apart)
 apart_shift at from (p ∷ ps) end apart =
     let e : at + (p + 4) ≡ at + p + 4 = omega arith in
@@ -47,7 +47,7 @@ ends_behind from [] end apart = apart
 ends_behind from (p ∷ ps) end apart = omega (arith, apart.0, ends_behind (p + 4) ps end apart.1)
 
 -- each of them lies within `len` bytes
-all_fit : (from : ℕ) (ps : List ℕ) (end len : ℕ) → end + 4 ≤ len → Apart from ps end → AllByRecursion (λ p. p + 8 ≤ len) ps
+pub all_fit : (from : ℕ) (ps : List ℕ) (end len : ℕ) → end + 4 ≤ len → Apart from ps end → AllByRecursion (λ p. p + 8 ≤ len) ps
 all_fit from [] end len le apart = tt
 all_fit from (p ∷ ps) end len le apart = (omega (arith, le, ends_behind (p + 4) ps end apart.1), all_fit (p + 4) ps end len le apart.1)
 

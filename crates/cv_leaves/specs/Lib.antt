@@ -13,3 +13,4 @@ pub mod Place
 pub mod Blank
 pub mod Laws
 pub mod References
+pub mod Named

@@ -10,6 +10,8 @@
 //! - [`places`] returns the *places* of a checked record: the offsets in its body, in bytes, at
 //!   which there are type indices. They rise. [`ref_at`] reads the index at a place, and
 //!   [`set_ref`] writes another one there.
+//! - [`list_places`] checks a record and lists those of its places at which it names another
+//!   record, and not a simple type, in one walk.
 //! - [`type_name`] returns the name of the type, where it has one that can be read. A name that
 //!   can't be read is not a fault.
 //! - [`kind_of`] returns the kind, and [`leaf_text`] returns the name of its leaf.
@@ -17,21 +19,24 @@
 //! A leaf is one row of the table in `leaf`. The row has the places at fixed offsets, and it says
 //! what follows them: the indices of an argument list, for example, the entries of a method list
 //! or the members of a field list. What follows is cut into *parts*, one after the other. One step,
-//! `part_at` of `part`, finds the places in a part, where it ends, and whether it fits. The check
-//! and the places are two loops over that step. A kind of member is one row of the table in
-//! `member`.
+//! `part_at` of `part`, finds the places in a part, where it ends, and whether it fits. The check,
+//! the places and the list are three loops over that step. A kind of member is one row of the table
+//! in `member`.
 //!
 //! What is proved: a record is accepted exactly where it has places (`HasPlaces` of
 //! `specs/Place`: the record is made of these parts, and these are the places in them). A refusal
-//! names the first check that fails. [`places`] returns the places. A record keeps its places when
-//! an index is written at one of them.
+//! names the first check that fails. [`places`] returns the places. [`list_places`] accepts the same
+//! records as [`check`], and lists just the places at which there is an index from 0x1000 on. A
+//! record keeps its places when an index is written at one of them.
 //!
 //! [`laws`] says what holds of every record. A record has one list of places: those that the walk
 //! meets. They are at least four bytes apart and lie within the body. Numbers that are written at
 //! all of them are then the record's references. The record's places, its framing and its *blank*
 //! (the record with zeros at its places) stay as they are, and bytes stay bytes. The blank, filled
 //! with the record's own references, is the record again. The entries of a method list fill its
-//! body, and so do the members of a field list. No function allocates. ("CodeView Type Records".)
+//! body, and so do the members of a field list.
+//!
+//! Only [`list_places`] allocates: its list. ("CodeView Type Records".)
 //!
 //! The file `src/examples.rt` of the crate `test_examples` shows this crate in use, in a few lines.
 #![tactic(auto)]
@@ -42,6 +47,7 @@ pub mod laws;
 mod leaf;
 mod member;
 mod name;
+mod named;
 mod numeric;
 mod padding;
 mod part;
@@ -52,5 +58,6 @@ pub use checks::{check, kind_of};
 pub use fault::LeafFault;
 pub use leaf::leaf_text;
 pub use name::type_name;
+pub use named::list_places;
 pub use place::{RecordPlaces as Places, places};
 pub use reference::{ref_at, set_ref};

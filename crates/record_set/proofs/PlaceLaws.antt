@@ -5,7 +5,7 @@ use Rattle.std.proofs.lemmas.Bool.{cases_lt}
 use Rattle.std.proofs.lemmas.List.{length-map, get_or-map, map-append, take-map, get_or-take, get_or_append_left, get_or_default, length-take-le}
 use Rattle.std.proofs.Math.Seq.{get_or-append_seam}
 use Rattle.text_set.specs.TextSet.{Holds}
-use Rattle.closed_trees.specs.Named.{named_places}
+use Rattle.cv_leaves.specs.Named.{named_places}
 use Rattle.record_set.specs.RecordSet.{HasNamedPlaces}
 
 -- before the first record

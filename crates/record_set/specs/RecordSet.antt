@@ -1,6 +1,6 @@
 -- Records, each with the places at which it names others.
 use Rattle.std.specs.Prelude.{ℕ, ◌≡◌, ◌*◌, ◌<◌, ◌≤◌, List, [], length, map, get_or}
-use Rattle.closed_trees.specs.Named.{named_places}
+use Rattle.cv_leaves.specs.Named.{named_places}
 
 -- these are the places at which the records name others, record by record
 pub record HasNamedPlaces (records places : List (List ℕ)) : Type 0 where

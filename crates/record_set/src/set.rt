@@ -3,7 +3,7 @@
 ghost use Rattle.std.specs.Prelude.{◌≡◌, ◌+◌, ◌*◌, ◌%◌, ◌^◌, ◌<◌, ◌≤◌, ◌↔◌, [], length, get_or, take, IsTrue, IfOk, IfErr};
 ghost use Rattle.std.specs.List.{concat};
 ghost use Rattle.text_set.specs.TextSet.{AreDistinct, Holds};
-ghost use Rattle.closed_trees.specs.Named.{named_places};
+ghost use Rattle.cv_leaves.specs.Named.{named_places};
 
 use crate::lists::PlaceLists;
 use std::alloc::{AllocError, Allocator, Global};

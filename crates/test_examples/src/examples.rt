@@ -2,14 +2,14 @@
 
 ghost use Rattle.std.specs.Prelude.{◌≡◌};
 ghost use Rattle.tpi_records.specs.Records.{IsRecord};
-ghost use Rattle.closed_trees.specs.Named.{named_places};
+ghost use Rattle.cv_leaves.specs.Named.{named_places};
 
 use crate::orders::names_nodes;
 use byte_fields::{u16_at, u32_at};
 use byte_io::{In, Out, put_all};
-use closed_trees::{list_places, renumber_into};
+use closed_trees::renumber_into;
 use command_texts::{push_named, push_quoted};
-use cv_leaves::{places, ref_at, type_name};
+use cv_leaves::{list_places, places, ref_at, type_name};
 use msf_blocks::Layout;
 use msf_streams::{gather, pieces};
 use packed_texts::PackedTexts;
@@ -148,7 +148,7 @@ fn a_record_that_is_renumbered(rt: HostRuntime) -> Result<(), Fail> {
     let types = Types::check(rt.alloc(), read_records(rt.alloc(), &file, &mut buffer)?)?;
     let record = types.get(0).ok_or("no such type")?;
     let mut places = Vec::new(rt.alloc());
-    list_places(record, &mut places)?;
+    assert!(rt; list_places(record, &mut places)?);
     // it names only simple types, and these stay
     assert!(rt; places.is_empty());
     let mut copy = Vec::new(rt.alloc());
@@ -181,7 +181,7 @@ fn each_record_once(rt: HostRuntime) -> Result<(), Fail> {
     let types = Types::check(rt.alloc(), read_records(rt.alloc(), &file, &mut buffer)?)?;
     let record = types.get(0).ok_or("no such type")?;
     let mut places = Vec::new(rt.alloc());
-    list_places(record, &mut places)?;
+    assert!(rt; list_places(record, &mut places)?);
     let mut set = RecordSet::with_hasher(rt.alloc(), folding());
     let first = put_record(&mut set, record, &places)?;
     assert_eq!(rt; put_record(&mut set, record, &places)?, first);

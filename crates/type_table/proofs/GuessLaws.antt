@@ -17,10 +17,11 @@ use Rattle.cv_leaves.proofs.FilledLaws.{own_places, filled_checked, filled_place
 use Rattle.tpi_records.specs.Header.{first_index}
 use Rattle.closed_trees.specs.Types.{NamesThere}
 use Rattle.tpi_records.specs.Records.{IsRecord}
-use Rattle.closed_trees.specs.Named.{named_among, named_places}
+use Rattle.cv_leaves.specs.Named.{named_among, named_places}
 use Rattle.closed_trees.specs.Table.{IsTable, renumber, renumber_one, renumbered}
 use Rattle.closed_trees.proofs.RenumberLaws.{simple_number}
-use Rattle.closed_trees.proofs.NamedLaws.{named-none, named-simple, named-kept, named_apart}
+use Rattle.cv_leaves.proofs.ListLaws.{named-none}
+use Rattle.closed_trees.proofs.NamedLaws.{named-simple, named-kept, named_apart}
 
 -- ---- agreement outside the places
 

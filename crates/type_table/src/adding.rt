@@ -16,8 +16,8 @@ ghost use Rattle.type_table.specs.Merge.{StartsWith, IsRecordWalk, IsPut, IsAdde
 
 use crate::expected::is_at;
 use checked_types::{InOrder, record_at};
-use closed_trees::{list_places, renumber_into};
-use cv_leaves::check;
+use closed_trees::renumber_into;
+use cv_leaves::list_places;
 use record_set::RecordSet;
 use std::alloc::{AllocError, Allocator};
 use std::hash::BuildHasher;
@@ -72,8 +72,7 @@ impl<A: Allocator + Copy> Workspace<A> {
 /// where the record has a fault, or where it names a record without a number.
 ///
 /// `numbers` has the positions in the set of the records that may be named. `guess` is the position
-/// where the record is looked for first. A record that was `checked` is not checked again. Unless
-/// a position is returned, the set stays as it was.
+/// where the record is looked for first. Unless a position is returned, the set stays as it was.
 #[tactic(auto, using(closed_trees::proofs::RenumberLaws::padded_record, closed_trees::proofs::RenumberLaws::long_record, closed_trees::proofs::RenumberLaws::renumbered_long, closed_trees::proofs::NamedLaws::listed_short))]
 fn put_record<S: BuildHasher, A: Allocator>(
     texts: &mut RecordSet<S, A>,
@@ -81,15 +80,13 @@ fn put_record<S: BuildHasher, A: Allocator>(
     bytes: &[u8],
     numbers: &[u32],
     guess: usize,
-    checked: bool,
 ) -> Result<Option<usize>, AllocError>
     requires table { IsTable texts.old }
     requires framed { IsRecord bytes.now }
-    requires checked { checked ≡ true → IsChecked bytes.now }
     requires few { length (concat texts.old) + length bytes.now < 2 ^ 33 }
     ensures put { IfOk result (λ found.
         IfSome found (λ k. IsPut texts.old texts.new numbers.now bytes.now k)) }
-    ensures all { checked ≡ true → AreNumbered numbers.now (references bytes.now) →
+    ensures all { IsChecked bytes.now → AreNumbered numbers.now (references bytes.now) →
         IfOk result (λ found. IfNone found ⊥) }
     ensures none { IfOk result (λ found. IfNone found (texts.new ≡ texts.old)) }
     ensures err { IfErr result (λ _. texts.new ≡ texts.old) }
@@ -97,10 +94,9 @@ fn put_record<S: BuildHasher, A: Allocator>(
     if is_at(texts, guess, bytes, numbers) {
         return Ok(Some(guess));
     }
-    if !checked && check(bytes).is_err() {
+    if !list_places(bytes, &mut copy.places)? {
         return Ok(None);
     }
-    list_places(bytes, &mut copy.places)?;
     if !renumber_into(&mut copy.bytes, bytes, &copy.places, numbers)? {
         return Ok(None);
     }
@@ -144,7 +140,7 @@ pub fn add_in_order<S: BuildHasher, A: Allocator + Copy>(
     for position in order {
         let bytes = record_at(&mut cursor, position);
         let known = known_of(checked, many, position);
-        let Some(found) = put_record(texts, copy, bytes, &numbers[..known], guess, checked)? else {
+        let Some(found) = put_record(texts, copy, bytes, &numbers[..known], guess)? else {
             return Ok(false);
         };
         numbers[position] = found as u32;

@@ -10,7 +10,7 @@ ghost use Rattle.cv_leaves.specs.Place.{IsChecked};
 ghost use Rattle.cv_leaves.specs.References.{reference_at, references};
 ghost use Rattle.byte_fields.specs.Bytes.{AreBytes};
 ghost use Rattle.closed_trees.specs.Types.{NamesThere};
-ghost use Rattle.closed_trees.specs.Named.{named_places};
+ghost use Rattle.cv_leaves.specs.Named.{named_places};
 ghost use Rattle.closed_trees.specs.Table.{IsTable, renumber_one, renumbered};
 
 use closed_trees::number_for;

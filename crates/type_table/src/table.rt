@@ -16,7 +16,7 @@ use crate::fault::JoinFault;
 use crate::table_depths::measure_new;
 use canonical_list::canonical_list;
 use checked_types::{InOrder, Types, in_file_order};
-use closed_trees::list_places;
+use cv_leaves::list_places;
 use record_set::RecordSet;
 use std::alloc::{AllocError, Allocator, Global};
 use std::hash::BuildHasher;
@@ -200,6 +200,7 @@ impl<S: BuildHasher, A: Allocator + Copy> Table<S, A> {
         let mut places = Vec::new(alloc);
         for position in 0..canon.len() {
             let bytes = canon.texts.get(position);
+            // types have places, so all of them are listed
             list_places(bytes, &mut places)?;
             texts.intern(bytes, &places)?;
         }

@@ -1,4 +1,4 @@
-use Rattle.std.proofs.Common.{◌≡◌, ◌≤◌, ◌<◌, ◌+◌, ◌∷◌, [], ◌∙◌, List, ℕ, max, drop, sym, ap, arith, get_or, length, rules}
+use Rattle.std.proofs.Common.{◌≡◌, ◌≤◌, ◌<◌, ◌+◌, ◌∙◌, max, drop, ap, arith, get_or, length, rules}
 use Rattle.std.proofs.lemmas.List.{drop_more, drop_all}
 use Rattle.tpi_records.specs.Header.{first_index}
 use Rattle.cv_leaves.specs.References.{reference_at}

@@ -1,4 +1,5 @@
-use Rattle.std.proofs.Common.{◌≡◌, ◌≤◌, ◌∙◌, ℕ, List, [], length, take, replicate, get_or, sym, ap, arith, rules}
+use Rattle.std.proofs.Common.{◌≡◌, ◌≤◌, ◌∙◌, ℕ, List, [], length, take, replicate, get_or, sym, ap, arith}
+use Rattle.cv_leaves.specs.Place.{IsChecked}
 use Rattle.cv_leaves.specs.References.{references}
 use Rattle.closed_trees.specs.Table.{AreNumbered}
 use Rattle.type_table.specs.Merge.{IsPut}
@@ -17,13 +18,6 @@ record_at-bytes-requires g c =
     let so_far = c.loop-position in
     rw so_far.invariant.cursor (adding_next c.args.checked c.args.records.now so_far.position-iterator c.next.new.self c.args.texts.now so_far.texts so_far.numbers.items c.in-Some.position so_far.invariant.adding c.in-Some.ensures.steps).0
 
-pub put_record-requires-clause-checked : goal.put_record-requires-clause-checked
-put_record-requires-clause-checked g c =
-    let so_far = c.loop-position in
-    let next = adding_next c.args.checked c.args.records.now so_far.position-iterator c.next.new.self c.args.texts.now so_far.texts so_far.numbers.items c.in-Some.position so_far.invariant.adding c.in-Some.ensures.steps in
-    rw (c.record_at-bytes.ensures.value, so_far.invariant.cursor)
-    (adding_checked c.args.checked c.args.records.now so_far.position-iterator c.args.texts.now so_far.texts so_far.numbers.items c.in-Some.position so_far.invariant.adding next.0)
-
 pub returns-in_default-clause-all : goal.returns-in_default-clause-all
 returns-in_default-clause-all g c was =
     let so_far = c.loop-position in
@@ -33,7 +27,9 @@ returns-in_default-clause-all g c was =
     let whole : take c.known_of-known.result positions ≡ positions = ap (λ (n : ℕ). take n positions) many ∙ (starts_same positions).1 in
     let numbered : AreNumbered (take c.known_of-known.result positions) (references c.record_at-bytes.result.now) = rw (whole, read)
     (adding_numbered c.args.checked c.args.records.now so_far.position-iterator c.next.new.self c.args.texts.now so_far.texts positions c.in-Some.position so_far.invariant.adding c.in-Some.ensures.steps was) in
-    absurd (rw c.in_default.is at (c.in_ok-found.ensures.all was (rw c.deref.ensures.value numbered)))
+    let next = adding_next c.args.checked c.args.records.now so_far.position-iterator c.next.new.self c.args.texts.now so_far.texts positions c.in-Some.position so_far.invariant.adding c.in-Some.ensures.steps in
+    let checked : IsChecked c.record_at-bytes.result.now = rw read (adding_checked c.args.checked c.args.records.now so_far.position-iterator c.args.texts.now so_far.texts positions c.in-Some.position so_far.invariant.adding next.0 was) in
+    absurd (rw c.in_default.is at (c.in_ok-found.ensures.all checked (rw c.deref.ensures.value numbered)))
 
 pub loop-position-preserved : goal.loop-position-preserved
 loop-position-preserved g c =

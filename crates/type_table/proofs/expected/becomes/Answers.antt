@@ -1,4 +1,4 @@
-use Rattle.std.proofs.Common.{◌≡◌, ◌≤◌, ◌<◌, ◌+◌, ◌∷◌, [], ◌∙◌, ℕ, drop, length, get_or, refl, arith, rules}
+use Rattle.std.proofs.Common.{◌≡◌, ◌+◌, [], ℕ, drop, length, get_or, refl, arith, rules}
 use Rattle.std.proofs.lemmas.List.{drop_more, drop_all}
 use Rattle.std.specs.Prelude.{IsTrue}
 use Rattle.type_table.proofs.GuessLaws.{Became, becoming_starts, becoming_more, becoming_ends, became, all_left, first_left, next_left, offset_inside}

@@ -40,12 +40,13 @@ invariant_of-result g c =
     let whole : c.loop-position.texts ≡ canon = whole_taken canon c.loop-position.texts c.loop-position.position c.loop-position.invariant last in
     record { table = rw whole c.len-position-end.ensures.canon.table; short = rw whole (canon_short canon c.len-position-end.ensures.canon); measured = c.in_ok-measure_new.ensures.ok }
 
-pub list_places-requires-clause-checked : goal.list_places-requires-clause-checked
-list_places-requires-clause-checked g c =
+pub intern-requires-clause-listed : goal.intern-requires-clause-listed
+intern-requires-clause-listed g c =
     let canon = c.args.canon.now in
     let k = c.loop-position.position in
     let inside : k + 1 ≤ length canon = search rules in
-    rw (c.get-bytes.ensures, c.canon.view_is) (c.len-position-end.ensures.canon.table.good.checked k (omega (arith, inside)))
+    let checked : IsChecked c.get-bytes.result.now = rw (c.get-bytes.ensures, c.canon.view_is) (c.len-position-end.ensures.canon.table.good.checked k (omega (arith, inside))) in
+    rw c.deref.ensures.value (c.in_ok-list_places.ensures.listed (c.in_ok-list_places.ensures.found checked))
 
 pub intern-requires-clause-short : goal.intern-requires-clause-short
 intern-requires-clause-short g c =
@@ -53,7 +54,7 @@ intern-requires-clause-short g c =
     let k = c.loop-position.position in
     let inside : k + 1 ≤ length canon = search rules in
     let checked : IsChecked c.get-bytes.result.now = rw (c.get-bytes.ensures, c.canon.view_is) (c.len-position-end.ensures.canon.table.good.checked k (omega (arith, inside))) in
-    rw c.deref.ensures.value (listed_short c.get-bytes.result.now c.list_places.new.list.items checked c.in_ok-list_places.ensures)
+    rw c.deref.ensures.value (listed_short c.get-bytes.result.now c.list_places.new.list.items checked (c.in_ok-list_places.ensures.listed (c.in_ok-list_places.ensures.found checked)))
 
 pub loop-position-preserved : goal.loop-position-preserved
 loop-position-preserved g c =
