@@ -1,11 +1,14 @@
 -- How a table's canonical list is made, level by level.
-use Rattle.std.proofs.Common.{◌≡◌, ◌≢◌, ◌≤◌, ◌<◌, ◌%◌, ◌^◌, ◌+◌, ◌-◌, ℕ, zero, suc, Option, Some, None, List, [], ◌∷◌, ◌++◌, length, map, take, drop, get_or, refl, sym, ap, ◌∙◌, subst, arith, inl, inr, length-append}
+use Rattle.std.proofs.Common.{◌≡◌, ◌≢◌, ◌≤◌, ◌<◌, ◌%◌, ◌^◌, ◌+◌, ◌-◌, ℕ, true, zero, suc, Option, Some, None, List, [], ◌∷◌, ◌++◌, length, map, take, drop, get_or, refl, sym, ap, ◌∙◌, subst, arith, inl, inr, length-append}
 use Rattle.std.proofs.lemmas.Bool.{cases_lt, cases_order}
-use Rattle.std.proofs.lemmas.List.{get_or_default, get_or_append_left, drop_more, drop-drop, take-append-drop, map-append, length-map, get_or-map}
-use Rattle.std.proofs.lemmas.List.Elements.{Contains-get_or, Contains-append_left, Contains-append_right}
+use Rattle.std.proofs.lemmas.List.{get_or_default, get_or_append_left, drop_more, drop-drop, ext_get_or, take-append-drop, take_at, map-append, map-id, map_push, length-map, get_or-map}
+use Rattle.std.proofs.lemmas.List.FromFn.{get_or-map-range_with_len, get_or-range_with_len, length-map-range_with_len, length-range_with_len, map-range_with_len_more}
+use Rattle.std.proofs.lemmas.List.Elements.{All-head, All-tail, Contains-get_or, Contains-append_left, Contains-append_right}
 use Rattle.std.proofs.lemmas.List.Quantifiers.{all_pairs_push}
 use Rattle.std.proofs.lemmas.List.Sorted.{Contains-permutation, length_permutation, IsPermutation-map, IsPermutation-sym}
 use Rattle.std.proofs.lemmas.Map.Keys.{IsDistinct-IsPermutation}
+use Rattle.std.proofs.lemmas.Map.Steps.{length-le_from_distinct_below}
+use Rattle.std.proofs.lemmas.Map.Views.{Contains-from_any}
 use Rattle.std.proofs.lemmas.Map.Made.{AllPairs-from_IsDistinct, IsDistinct-from_AllPairs}
 use Rattle.std.proofs.lemmas.Bool.Decides.{Decides-eqb, eqb_tells}
 use Rattle.std.specs.declared.cmp.Ordering.TheVariants.{Greater}
@@ -13,7 +16,7 @@ use Rattle.std.specs.Ordering.{nat_cmp}
 use Rattle.std.specs.Cmp.Lexicographic.{slice_cmp}
 use Rattle.std.proofs.Math.Seq.{get_or-append_seam}
 use Rattle.std.specs.Prelude.{IfSome, IfNone, ◌==◌}
-use Rattle.std.specs.List.{AllByRecursion, AllPairs, Contains, concat}
+use Rattle.std.specs.List.{All, AllByRecursion, AllPairs, Contains, concat, range_with_len}
 use Rattle.std.specs.List.Sorted.{IsPermutation}
 use Rattle.text_set.proofs.TextSetLaws.{four_each}
 use Rattle.closed_trees.specs.Tree.{Tree, IsType, NamesLower}
@@ -21,7 +24,8 @@ use Rattle.closed_trees.specs.Depth.{AreDepths, HasLevels}
 use Rattle.closed_trees.specs.Canon.{text, texts, Canonical}
 use Rattle.closed_trees.specs.Table.{IsTable, AreNumbered, renumbered, HoldsBelow}
 use Rattle.canonical_list.specs.Links.{NoneFrom}
-use Rattle.canonical_list.specs.Rows.{row, Numbers}
+use Rattle.canonical_list.specs.declared.row.Row.{Row}
+use Rattle.canonical_list.specs.Rows.{row, nths, row_bytes, row_positions, AreInOrder, Numbers}
 use Rattle.canonical_list.specs.Finish.{ListsBelow, AtLevel, Numbered, IsCanonOf}
 use Rattle.closed_trees.proofs.WeightLaws.{concat_push, weight-none, weight_of_texts}
 use Rattle.closed_trees.proofs.RenumberLaws.{renumbered_long}
@@ -174,27 +178,51 @@ bounded_put numbers after position number bounded small here others k = elim (ca
 
 -- ---- Rows that are ready for the list
 
-same_all : {X : Type 0} (g h : X → List ℕ) (xs : List X) → map g xs ≡ map h xs → (x : X) → Contains xs x → g x ≡ h x
-same_all g h [] e x c = absurd (omega (arith, c.1))
-same_all g h (y ∷ xs) e x (zero, inside, at) = let first : g y ≡ h y = cc in rw (← at) first
-same_all g h (y ∷ xs) e x (suc k, inside, at) = let rest : map g xs ≡ map h xs = cc in same_all g h xs rest x (k, omega (arith, inside), at)
+range_more : (n : ℕ) → range_with_len 0 (n + 1) ≡ range_with_len 0 n ++ n ∷ []
+range_more n = sym (map-id (range_with_len 0 (n + 1))) ∙ map-range_with_len_more (λ k. k) 0 n n (omega arith) ∙ ap (λ (x : List ℕ). x ++ n ∷ []) (map-id (range_with_len 0 n))
 
-all_same : {X : Type 0} (g h : X → List ℕ) (xs : List X) → ((x : X) → Contains xs x → g x ≡ h x) → map g xs ≡ map h xs
-all_same g h [] each = refl
-all_same g h (y ∷ xs) each =
-    let first : g y ≡ h y = each y (0, omega arith, refl) in
-    let rest : map g xs ≡ map h xs = all_same g h xs (λ x c. each x (suc c.0, omega (arith, c.1), c.2)) in
-    rw (first, rest) refl
+-- one more row in the order in which they came
+pub nths_more : (ps : List Row) (p : Row) (n : ℕ) → nths ps ≡ range_with_len 0 n → p.nth ≡ n → nths (ps ++ p ∷ []) ≡ range_with_len 0 (n + 1)
+nths_more ps p n are is = map_push (λ p. p.nth) ps p ∙ rw (are, is) (sym (range_more n))
 
-two_maps : {X : Type 0} (g : ℕ → List ℕ) (position : X → ℕ) (xs : List X) → map g (map position xs) ≡ map (λ x. g (position x)) xs
-two_maps g position [] = refl
-two_maps g position (x ∷ xs) = let e = two_maps g position xs in rw e refl
+pub nths_inside : (ps : List Row) (n : ℕ) → nths ps ≡ range_with_len 0 n → All (λ p. p.nth < n) ps
+nths_inside ps n are k d inside =
+    let many : length ps ≡ n = sym (length-map ps (λ p. p.nth)) ∙ ap length are ∙ length-range_with_len 0 n in
+    let at : (get_or ps k d).nth ≡ 0 + k = sym (get_or-map (λ p. p.nth) ps k d 0 inside) ∙ ap (λ (x : List ℕ). get_or x k 0) are ∙ get_or-range_with_len 0 n k 0 (omega (arith, inside, many)) in
+    omega (arith, at, inside, many)
 
--- if rows fit their positions in one order, they fit them in any order
-pub moved_rows : {X : Type 0} (bytes : X → List ℕ) (position : X → ℕ) (xs ys : List X) (g : ℕ → List ℕ) → map bytes xs ≡ map g (map position xs) → IsPermutation xs ys → map bytes ys ≡ map g (map position ys)
-moved_rows bytes position xs ys g fit moved =
-    all_same bytes (λ x. g (position x)) ys (λ x c. same_all bytes (λ x. g (position x)) xs (fit ∙ two_maps g position xs) x (Contains-permutation ys xs x (IsPermutation-sym xs ys moved) c))
-    ∙ sym (two_maps g position ys)
+positions_by_nths : (positions : List ℕ) (ps : List Row) → map (λ k. get_or positions k 0) (nths ps) ≡ row_positions positions ps
+positions_by_nths positions [] = refl
+positions_by_nths positions (p ∷ ps) = ap (λ (x : List ℕ). get_or positions p.nth 0 ∷ x) (positions_by_nths positions ps)
+
+all_positions : (positions : List ℕ) (n : ℕ) → length positions ≡ n → map (λ k. get_or positions k 0) (range_with_len 0 n) ≡ positions
+all_positions positions n many =
+    let g : ℕ → ℕ = λ k. get_or positions k 0 in
+    let long : length (map g (range_with_len 0 n)) ≡ n = length-map-range_with_len g 0 n in
+    ext_get_or 0 (map g (range_with_len 0 n)) positions (long ∙ sym many) (λ i inside. get_or-map-range_with_len g 0 n i i 0 (omega (arith, inside, long)) (omega arith))
+
+-- all rows in another order have all positions in another order
+pub positions_moved : (positions : List ℕ) (before ps : List Row) (n : ℕ) → length positions ≡ n → nths before ≡ range_with_len 0 n → IsPermutation (nths before) (nths ps) → IsPermutation positions (row_positions positions ps)
+positions_moved positions before ps n many are moved =
+    let g : ℕ → ℕ = λ k. get_or positions k 0 in
+    let first : map g (nths before) ≡ positions = ap (map g) are ∙ all_positions positions n many in
+    subst (IsPermutation positions) (positions_by_nths positions ps) (subst (λ (x : List ℕ). IsPermutation x (map g (nths ps))) first (IsPermutation-map g (nths before) (nths ps) moved))
+
+-- if the bytes of all rows fit their positions, those of some rows do
+pub bytes_fit : (r : List (List ℕ)) (positions : List ℕ) (ps : List Row) (g : ℕ → List ℕ) → r ≡ map g positions → length positions ≡ length r → All (λ p. p.nth < length r) ps → row_bytes r ps ≡ map g (row_positions positions ps)
+bytes_fit r positions [] g fit many inside = refl
+bytes_fit r positions (p ∷ ps) g fit many inside =
+    let low : p.nth < length r = All-head (λ p. p.nth < length r) p ps inside in
+    let first : get_or r p.nth [] ≡ g (get_or positions p.nth 0) = ap (λ (x : List (List ℕ)). get_or x p.nth []) fit ∙ get_or-map g positions p.nth 0 [] (omega (arith, low, many)) in
+    let others : row_bytes r ps ≡ map g (row_positions positions ps) = bytes_fit r positions ps g fit many (All-tail (λ p. p.nth < length r) p ps inside) in
+    rw (first, others) refl
+
+-- what a vector holds after its slice was written
+pub written_whole : (old now : List Row) (len : ℕ) → length now ≡ length old → len ≡ length old → take len (now ++ drop (length now) old) ≡ now
+written_whole old now len same all = take_at now (drop (length now) old) len (omega (arith, same, all))
+
+eqb_same : (x y : ℕ) → (x == y) ≡ true → x ≡ y
+eqb_same x y same = elim (eqb_tells x y) [ inl w ↦ w.1 | inr apart ↦ absurd cc ]
 
 flips : (x y : ℕ) → (x == y) ≡ (y == x)
 flips x y = elim (eqb_tells x y) [
@@ -217,6 +245,13 @@ moved_level depths d ps qs h moved = record {
   distinct = AllPairs-from_IsDistinct Decides-eqb qs (IsDistinct-IsPermutation (λ x y. x == y) flips ps qs moved (IsDistinct-from_AllPairs Decides-eqb ps h.distinct));
 }
 
+-- a level has no more positions than there are
+pub level_few : (depths : List ℕ) (d : ℕ) (ps : List ℕ) → AtLevel depths d ps → length ps ≤ length depths
+level_few depths d ps h = length-le_from_distinct_below ps (length depths) (IsDistinct-from_AllPairs Decides-eqb ps h.distinct) (λ q found.
+    let c = Contains-from_any eqb_same q ps found in
+    let at : get_or ps c.0 0 ≡ q = get_or_default ps c.0 0 q c.1 ∙ c.2 in
+    omega (arith, (h.within c.0 c.1).0, at))
+
 -- the rows are those of the level at the positions ps, in order
 pub record Ready (r : List (List ℕ)) (d : ℕ) (f : ℕ → ℕ) (rows : List (List ℕ)) (ps : List ℕ) : Type 0 where
   pub fit : rows ≡ map (row r f) ps
@@ -237,16 +272,6 @@ level_rows r d f depths rows ps fit level many known sorted = record {
       let b : get_or rows (k + 1) [] ≡ row r f (get_or ps (k + 1) 0) = ap (λ (x : List (List ℕ)). get_or x (k + 1) []) fit ∙ get_or-map (row r f) ps (k + 1) 0 [] inside in
       rw (← a, ← b) (sorted k inside);
 }
-
-pub ready : {X : Type 0} (bytes : X → List ℕ) (position : X → ℕ) (xs ys : List X) (r : List (List ℕ)) (d : ℕ) (f : ℕ → ℕ) (depths : List ℕ) (rows : List (List ℕ)) (ps : List ℕ) → map bytes xs ≡ rows → map position xs ≡ ps → rows ≡ map (row r f) ps
-    → AtLevel depths d ps → length depths ≡ length r → AreDepths r depths → IsPermutation xs ys
-    → ((k : ℕ) → k + 1 < length xs → slice_cmp nat_cmp (get_or (map bytes ys) k []) (get_or (map bytes ys) (k + 1) []) ≢ Greater) → Ready r d f (map bytes ys) (map position ys)
-ready bytes position xs ys r d f depths rows ps is_rows is_ps fit level many known moved sorted =
-    let own : map bytes xs ≡ map (row r f) (map position xs) = is_rows ∙ fit ∙ ap (map (row r f)) (sym is_ps) in
-    let fits = moved_rows bytes position xs ys (row r f) own moved in
-    let there = moved_level depths d (map position xs) (map position ys) (rw is_ps level) (IsPermutation-map position xs ys moved) in
-    let long : length (map position ys) ≡ length xs = length-map ys position ∙ length_permutation xs ys moved in
-    record { fit = fits; are = level_rows r d f depths (map bytes ys) (map position ys) fits there many known (λ k inside. sorted k (omega (arith, inside, long))) }
 
 -- the level by which the rows continue the list
 level_of : (r : List (List ℕ)) (d : ℕ) (out rows : List (List ℕ)) (f : ℕ → ℕ) (ps : List ℕ) → IsTable r → length (concat r) < 2 ^ 32 → (l : ListsBelow r d out f) → Ready r d f rows ps → LevelOf r d l.trees f ps
@@ -344,8 +369,8 @@ listed_all r levels out f has l = (
 
 -- ---- What the loops need
 
-pub ready_level : (r : List (List ℕ)) (d : ℕ) (f : ℕ → ℕ) (depths : List ℕ) (rows moved_rows : List (List ℕ)) (ps qs : List ℕ) (n : ℕ) → rows ≡ map (row r f) ps → AtLevel depths d ps → length depths ≡ length r → AreDepths r depths → IsPermutation ps qs
-    → (rows ≡ map (row r f) ps → moved_rows ≡ map (row r f) qs) → n ≡ length qs → ((k : ℕ) → k + 1 < n → slice_cmp nat_cmp (get_or moved_rows k []) (get_or moved_rows (k + 1) []) ≢ Greater) → Ready r d f moved_rows qs
-ready_level r d f depths rows moved_rows ps qs n fit level many known moved fits long sorted =
+pub ready_level : (r : List (List ℕ)) (d : ℕ) (f : ℕ → ℕ) (depths : List ℕ) (rows moved_rows : List (List ℕ)) (ps qs : List ℕ) → rows ≡ map (row r f) ps → AtLevel depths d ps → length depths ≡ length r → AreDepths r depths → IsPermutation ps qs
+    → (rows ≡ map (row r f) ps → moved_rows ≡ map (row r f) qs) → AreInOrder moved_rows → Ready r d f moved_rows qs
+ready_level r d f depths rows moved_rows ps qs fit level many known moved fits sorted =
     let same = fits fit in
-    record { fit = same; are = level_rows r d f depths moved_rows qs same (moved_level depths d ps qs level moved) many known (λ k inside. sorted k (omega (arith, inside, long))) }
+    record { fit = same; are = level_rows r d f depths moved_rows qs same (moved_level depths d ps qs level moved) many known (λ k inside. sorted k (omega (arith, inside, ap length same, length-map qs (row r f)))) }

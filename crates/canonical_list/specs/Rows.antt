@@ -1,10 +1,15 @@
 -- How the records of a level continue a canonical list, once they are renumbered and sorted.
-use Rattle.std.specs.Prelude.{ℕ, zero, suc, ◌≡◌, ◌+◌, ◌*◌, ◌^◌, ◌<◌, List, [], ◌∷◌, drop, get_or}
+use Rattle.std.specs.Prelude.{ℕ, zero, suc, ◌≡◌, ◌≢◌, ◌+◌, ◌*◌, ◌^◌, ◌<◌, ◌≤◌, List, [], ◌∷◌, length, map, drop, get_or}
+use Rattle.std.specs.Cmp.Lexicographic.{slice_cmp}
+use Rattle.std.specs.List.{Contains}
+use Rattle.std.specs.Ordering.{nat_cmp}
+use Rattle.std.specs.declared.cmp.Ordering.TheVariants.{Greater}
 use Rattle.byte_fields.specs.Bytes.{AreBytes}
 use Rattle.closed_trees.specs.Tree.{Tree, IsTreeAt}
 use Rattle.closed_trees.specs.Depth.{depth}
 use Rattle.closed_trees.specs.Canon.{position_in}
 use Rattle.closed_trees.specs.Table.{renumbered}
+use Rattle.canonical_list.specs.declared.row.Row.{Row}
 
 -- f gives the position in l of each tree of r that is less deep than d
 abbrev pub Numbers : List (List ℕ) → ℕ → List Tree → (ℕ → ℕ) → Type 0
@@ -20,16 +25,47 @@ first_bytes n [] = 0
 first_bytes zero (b ∷ x) = 0
 first_bytes (suc n) (b ∷ x) = b * 256 ^ n + first_bytes n x
 
--- the head of a row: its first 4 bytes as one number
-unfoldable pub head : List ℕ → ℕ
-head x = first_bytes 4 x
+-- the head of a row at an offset: the 4 bytes from there on as one number
+unfoldable pub head : ℕ → List ℕ → ℕ
+head from x = first_bytes 4 (drop from x)
 
--- the key of a row: the next 8 bytes as one number
-unfoldable pub key : List ℕ → ℕ
-key x = first_bytes 8 (drop 4 x)
+-- the key of a row at an offset: the 8 bytes after its head as one number
+unfoldable pub key : ℕ → List ℕ → ℕ
+key from x = first_bytes 8 (drop (from + 4) x)
 
--- h is the head of x, which is made of bytes, and k its key
-pub record IsKeyed (h k : ℕ) (x : List ℕ) : Type 0 where
-  pub is_head : h ≡ head x
-  pub is_key : k ≡ key x
+-- at this offset, h is the head of x, which is made of bytes, and k its key
+pub record IsKeyed (from h k : ℕ) (x : List ℕ) : Type 0 where
+  pub is_head : h ≡ head from x
+  pub is_key : k ≡ key from x
   pub bytes : AreBytes x
+
+-- two rows have the same head and the same key
+abbrev pub AreTied : Row → Row → Type 0
+AreTied a b = (a.head ≡ b.head) × (a.key ≡ b.key)
+
+-- the rows from start up to end have one head and one key, and the row at end has another head or another key
+pub record IsStretch (run : List Row) (start end : ℕ) : Type 0 where
+  pub after : start < end
+  pub within : end ≤ length run
+  pub tied : (k : ℕ) (d : Row) → start ≤ k → k < end → AreTied (get_or run k d) (get_or run start d)
+  pub last : (d : Row) → end < length run → ¬ AreTied (get_or run end d) (get_or run start d)
+
+-- which rows of their level these are
+abbrev pub nths : List Row → List ℕ
+nths ps = map (λ p. p.nth) ps
+
+-- the bytes of these rows, where r has the bytes of all rows of the level
+abbrev pub row_bytes : List (List ℕ) → List Row → List (List ℕ)
+row_bytes r ps = map (λ p. get_or r p.nth []) ps
+
+-- the positions in the table of these rows, where `positions` has those of all rows of the level
+abbrev pub row_positions : List ℕ → List Row → List ℕ
+row_positions positions ps = map (λ p. get_or positions p.nth 0) ps
+
+-- the first `from` bytes of all xs make the same number
+abbrev pub AreAlike : ℕ → List (List ℕ) → Type 0
+AreAlike from xs = (x y : List ℕ) → Contains xs x → Contains xs y → first_bytes from x ≡ first_bytes from y
+
+-- no x comes after the next one in the order of bytes
+abbrev pub AreInOrder : List (List ℕ) → Type 0
+AreInOrder xs = (k : ℕ) → k + 1 < length xs → slice_cmp nat_cmp (get_or xs k []) (get_or xs (k + 1) []) ≢ Greater

@@ -6,11 +6,8 @@
 //! have their numbers.
 
 ghost use Rattle.std.specs.Prelude.{◌≡◌, ◌≢◌, ◌⊎◌, ◌↔◌, ◌+◌, ◌-◌, ◌%◌, ◌^◌, ◌<◌, ◌≤◌, ◌++◌, [], ◌∷◌, ℕ, List, length, get_or, map, take, drop, IfOk, IfErr};
-ghost use Rattle.std.specs.List.{All, AllByRecursion, Contains, concat};
+ghost use Rattle.std.specs.List.{All, AllByRecursion, Contains, concat, range_with_len};
 ghost use Rattle.std.specs.List.Sorted.{IsPermutation};
-ghost use Rattle.std.specs.Ordering.{nat_cmp};
-ghost use Rattle.std.specs.Cmp.Lexicographic.{slice_cmp};
-ghost use Rattle.std.specs.declared.cmp.Ordering.TheVariants.{Greater};
 ghost use Rattle.tpi_records.specs.Records.{IsRecord};
 ghost use Rattle.cv_leaves.specs.Place.{IsChecked};
 ghost use Rattle.cv_leaves.specs.References.{references};
@@ -18,11 +15,12 @@ ghost use Rattle.closed_trees.specs.Depth.{AreDepths, HasDepths, HasLevels};
 ghost use Rattle.cv_leaves.specs.Named.{named_places};
 ghost use Rattle.closed_trees.specs.Tree.{Tree, IsType};
 ghost use Rattle.closed_trees.specs.Table.{IsTable, AreNumbered, renumbered};
-ghost use Rattle.canonical_list.specs.Rows.{row, IsKeyed};
+ghost use Rattle.canonical_list.specs.Rows.{row, nths, row_bytes, row_positions, AreInOrder};
 ghost use Rattle.canonical_list.specs.Finish.{ListsBelow, AtLevel, Numbered, IsCanonOf};
 
 use crate::levels::Levels;
 use crate::row::Row;
+use crate::sort::{ROUNDS, sort_run};
 use closed_trees::{levels_of, renumber_into};
 use packed_texts::PackedTexts;
 use record_set::RecordSet;
@@ -121,76 +119,81 @@ fn collect<S: BuildHasher, A: Allocator + Copy>(
     Ok(())
 }
 
-/// Each row with its key and the position of its record.
-fn keyed_rows<'a, A: Allocator + Copy>(
-    alloc: A,
-    rows: &'a PackedTexts<A>,
-    positions: &[u32],
-) -> Result<Vec<Row<'a>, A>, AllocError>
-    requires many { length positions.now ≡ length rows.now }
-    ensures rows { IfOk result (λ v. map (λ p. p.bytes.now) v.items ≡ rows.now) }
-    ensures positions { IfOk result (λ v. map (λ p. p.position) v.items ≡ positions.now) }
-    ensures keyed { IfOk result (λ v. All (λ p. IsKeyed p.head p.key p.bytes.now) v.items) }
+/// The rows of a level as they came, without their heads and keys.
+fn unkeyed_rows<A: Allocator + Copy>(alloc: A, count: usize) -> Result<Vec<Row, A>, AllocError>
+    requires few { count < 2 ^ 32 }
+    ensures { IfOk result (λ v. nths v.items ≡ range_with_len 0 count) }
 {
-    let mut keyed = Vec::with_capacity(alloc, rows.len())?;
-    for k in 0..rows.len() {
-        keyed.push(Row::new(rows.get(k), positions[k]))?;
+    let mut unkeyed = Vec::with_capacity(alloc, count)?;
+    for nth in 0..count {
+        unkeyed.push(Row {
+            head: 0,
+            key: 0,
+            nth: nth as u32,
+        })?;
     }
-    Ok(keyed)
+    Ok(unkeyed)
 }
 
 /// Appends the rows to the list.
-fn append_rows<A: Allocator>(order: &[Row<'_>], out: &mut PackedTexts<A>) -> Result<(), AllocError>
-    requires padded { (x : List ℕ) → Contains (map (λ p. p.bytes.now) order.now) x →
+fn append_rows<A: Allocator>(
+    rows: &PackedTexts<A>,
+    order: &[Row],
+    out: &mut PackedTexts<A>,
+) -> Result<(), AllocError>
+    requires inside { All (λ p. p.nth < length rows.now) order.now }
+    requires padded { (x : List ℕ) → Contains (row_bytes rows.now order.now) x →
         length x % 4 ≡ 0 }
-    requires few { length (concat out.old) + length (concat (map (λ p. p.bytes.now) order.now))
+    requires few { length (concat out.old) + length (concat (row_bytes rows.now order.now))
         < 2 ^ 34 }
-    ensures { IfOk result (λ _. out.new ≡ out.old ++ map (λ p. p.bytes.now) order.now) }
+    ensures { IfOk result (λ _. out.new ≡ out.old ++ row_bytes rows.now order.now) }
 {
     for entry in order {
-        out.push(entry.bytes)?;
+        out.push(rows.get(entry.nth as usize))?;
     }
     Ok(())
 }
 
 /// Numbers the records of the rows in order, from `first` on.
-fn number_rows(order: &[Row<'_>], first: usize, numbers: &mut [u32])
+fn number_rows(positions: &[u32], order: &[Row], first: usize, numbers: &mut [u32])
+    requires inside { All (λ p. p.nth < length positions.now) order.now }
     requires within { (k : ℕ) → k < length order.now →
-        get_or (map (λ p. p.position) order.now) k 0 < length numbers.old }
+        get_or (row_positions positions.now order.now) k 0 < length numbers.old }
     requires few { first + length order.now < 2 ^ 31 }
     requires bounded { (k : ℕ) → get_or numbers.old k 0 < 2 ^ 31 }
-    ensures numbered { Numbered (map (λ p. p.position) order.now) first (length order.now)
-        numbers.old numbers.new }
+    ensures numbered { Numbered (row_positions positions.now order.now) first
+        (length order.now) numbers.old numbers.new }
     ensures same { length numbers.new ≡ length numbers.old }
     ensures bounded { (k : ℕ) → get_or numbers.new k 0 < 2 ^ 31 }
 {
     let mut number = first;
     for entry in order {
-        numbers[entry.position as usize] = number as u32;
+        let position = positions[entry.nth as usize];
+        numbers[position as usize] = number as u32;
         number += 1;
     }
 }
 
-/// The rows in the order of their bytes, each with the position of its record.
-fn sorted_rows<'a, A: Allocator + Copy>(
+/// The rows in the order of their bytes.
+fn sorted_rows<A: Allocator + Copy>(
     alloc: A,
-    rows: &'a PackedTexts<A>,
+    rows: &PackedTexts<A>,
     positions: &[u32],
-) -> Result<Vec<Row<'a>, A>, AllocError>
+) -> Result<Vec<Row, A>, AllocError>
     requires many { length positions.now ≡ length rows.now }
-    ensures moved { IfOk result (λ v. IsPermutation positions.now (map (λ p. p.position) v.items)) }
+    requires few { length rows.now < 2 ^ 32 }
+    ensures moved { IfOk result (λ v.
+        IsPermutation positions.now (row_positions positions.now v.items)) }
     ensures fit { IfOk result (λ v.
         (g : ℕ → List ℕ) → rows.now ≡ map g positions.now →
-        map (λ p. p.bytes.now) v.items ≡ map g (map (λ p. p.position) v.items)) }
-    ensures sorted { IfOk result (λ v.
-        (k : ℕ) → k + 1 < length v.items →
-        slice_cmp nat_cmp (get_or (map (λ p. p.bytes.now) v.items) k [])
-        (get_or (map (λ p. p.bytes.now) v.items) (k + 1) [])
-        ≢ Greater) }
+        row_bytes rows.now v.items ≡ map g (row_positions positions.now v.items)) }
+    ensures sorted { IfOk result (λ v. AreInOrder (row_bytes rows.now v.items)) }
+    ensures inside { IfOk result (λ v. All (λ p. p.nth < length rows.now) v.items) }
 {
-    let mut keyed = keyed_rows(alloc, rows, positions)?;
-    keyed.sort_unstable();
-    Ok(keyed)
+    let mut order = unkeyed_rows(alloc, rows.len())?;
+    let mut ties = Vec::new(alloc);
+    sort_run(rows, &mut order, 0, ROUNDS, &mut ties)?;
+    Ok(order)
 }
 
 /// Appends the next level to the list, and numbers its records.
@@ -218,8 +221,8 @@ fn list_level<S: BuildHasher, A: Allocator + Copy>(
     collect(alloc, table, depths, level, numbers, unsorted)?;
     let order = sorted_rows(alloc, &unsorted.rows, &unsorted.positions)?;
     let first = out.len();
-    append_rows(&order, out)?;
-    number_rows(&order, first, numbers);
+    append_rows(&unsorted.rows, &order, out)?;
+    number_rows(&unsorted.positions, &order, first, numbers);
     Ok(())
 }
 

@@ -15,5 +15,6 @@
 mod finish;
 mod levels;
 mod row;
+mod sort;
 
 pub use finish::canonical_list;

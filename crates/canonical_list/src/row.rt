@@ -1,40 +1,55 @@
-//! The rows of a level, each with the key by which it is sorted.
+//! The rows of a level, each with the bytes by which it is sorted next.
 
-ghost use Rattle.std.specs.Prelude.{◌≡◌, ◌<◌, ℕ, get_or};
-ghost use Rattle.canonical_list.specs.Rows.{IsKeyed, head, key};
+ghost use Rattle.std.specs.Prelude.{◌≡◌, ◌<◌, ◌+◌, ◌↔◌, ℕ, IsTrue, drop, get_or};
+ghost use Rattle.canonical_list.specs.Rows.{IsKeyed, AreTied, head, key};
 
-/// A row, its key in two parts, and the position of its record in the table.
+/// How many bytes the head and the key of a row are made of.
+pub const KEYED_BYTES: usize = 12;
+
+/// A row of a level, and 12 of its bytes from some offset on, as two numbers.
 ///
-/// Rows are ordered by their keys, and rows that have the same key by their bytes. This is the
-/// order of their bytes, and no bytes are read where two keys differ.
+/// Rows that are the same before this offset are ordered as these bytes are, and no memory is read
+/// for it.
 #[derive(Clone, Copy, PartialEq, Eq, PartialOrd, Ord)]
-pub struct Row<'a> {
-    // the first 4 bytes as one number, of which the first is the highest
+pub struct Row {
+    // the first 4 of the bytes as one number, of which the first is the highest
     pub head: u32,
     // the next 8 bytes, in the same way
     pub key: u64,
-    pub bytes: &'a [u8],
-    pub position: u32,
+    // which row of the level this is, from 0 and in the order in which they came
+    pub nth: u32,
 }
 
-impl<'a> Row<'a> {
-    /// The row of the record at a position.
-    pub fn new(bytes: &'a [u8], position: u32) -> Row<'a>
-        ensures keyed { IsKeyed result.head result.key result.bytes.now }
-        ensures bytes { result.bytes.now ≡ bytes.now }
-        ensures position { result.position ≡ position }
+impl Row {
+    /// The row of these bytes, with 12 of them from an offset on.
+    pub fn new(bytes: &[u8], from: usize, nth: u32) -> Row
+        ensures keyed { IsKeyed from result.head result.key bytes.now }
+        ensures nth { result.nth ≡ nth }
     {
-        let first = opening(bytes);
+        let first = opening(rest_from(bytes, from));
         Row {
             head: head_of(&first),
             key: key_of(&first),
-            bytes,
-            position,
+            nth,
         }
+    }
+
+    /// Whether two rows have the same head and the same key.
+    pub fn is_tied(&self, other: &Row) -> bool
+        ensures { IsTrue result ↔ AreTied self.now other.now }
+    {
+        self.head == other.head && self.key == other.key
     }
 }
 
-/// The first 12 bytes of a row. Zeros stand for the bytes that it lacks.
+/// The bytes from an offset on. There are none past the end.
+fn rest_from(bytes: &[u8], from: usize) -> &[u8]
+    ensures { result.now ≡ drop from bytes.now }
+{
+    &bytes[from.min(bytes.len())..]
+}
+
+/// The first 12 bytes of a text. Zeros stand for the bytes that it lacks.
 fn opening(bytes: &[u8]) -> [u8; 12]
     ensures { (i : ℕ) → i < 12 → get_or result i 0 ≡ get_or bytes.now i 0 }
 {
@@ -50,14 +65,14 @@ fn opening(bytes: &[u8]) -> [u8; 12]
 
 /// The first 4 of these bytes as one number.
 fn head_of(first: &[u8; 12]) -> u32
-    ensures { result ≡ head first.now }
+    ensures { result ≡ head 0 first.now }
 {
     u32::from_be_bytes([first[0], first[1], first[2], first[3]])
 }
 
 /// The last 8 of these bytes as one number.
 fn key_of(first: &[u8; 12]) -> u64
-    ensures { result ≡ key first.now }
+    ensures { result ≡ key 0 first.now }
 {
     u64::from_be_bytes([
         first[4], first[5], first[6], first[7], first[8], first[9], first[10], first[11],
