@@ -1,13 +1,13 @@
 -- Rows that are sorted by 12 bytes at a time are in the order of their bytes.
-use Rattle.std.proofs.Common.{◌≡◌, ◌≢◌, ◌⊎◌, ℕ, zero, suc, ◌+◌, ◌-◌, ◌*◌, ◌^◌, ◌<◌, ◌≤◌, false, List, [], ◌∷◌, ◌++◌, length, map, take, drop, set, get_or, replicate, refl, sym, ap, ◌∙◌, subst, arith, rules, inl, inr, length-append}
+use Rattle.std.proofs.Common.{◌≡◌, ◌≢◌, ◌⊎◌, ℕ, ◌+◌, ◌-◌, ◌*◌, ◌^◌, ◌<◌, ◌≤◌, false, List, [], ◌∷◌, ◌++◌, length, map, take, drop, set, get_or, replicate, refl, sym, ap, ◌∙◌, subst, arith, inl, inr}
 use Rattle.std.proofs.lemmas.Bool.{cases_lt, cases_order}
 use Rattle.std.proofs.lemmas.Cmp.{tied_itself, nat_cmp_total, nat_list_cmp_total}
-use Rattle.std.proofs.lemmas.List.{drop-drop, drop-map, get_or_append_left, get_or_default, get_or-append_right, get_or-drop, get_or-map, get_or-take, length-drop, length-map, length-take-le, map-append, map-set, set-get_or, take_more_set, take-map}
-use Rattle.std.proofs.lemmas.List.Elements.{All-contains, All-drop, All-head, All-map, All-push, All-tail, All-take, Contains-get_or}
+use Rattle.std.proofs.lemmas.List.{drop-drop, drop-map, get_or_append_left, get_or_default, get_or-append_right, get_or-drop, get_or-map, get_or-take, length-map, length-take-le, map-append, map-set, set-get_or, take-map}
+use Rattle.std.proofs.lemmas.List.Elements.{All-contains, All-drop, All-head, All-map, All-tail, All-take, Contains-get_or}
 use Rattle.std.proofs.lemmas.List.Sorted.{All-permutation, Contains-permutation, IsPermutation-map, IsPermutation-put_mid, IsPermutation-refl, IsPermutation-sym, IsPermutation-trans, IsNonDecreasingBy-from_all_adjacent, length_permutation}
 use Rattle.std.specs.Cmp.{nat_cmp_is}
 use Rattle.std.specs.Cmp.Lexicographic.{slice_cmp}
-use Rattle.std.specs.List.{All, Contains}
+use Rattle.std.specs.List.{All}
 use Rattle.std.specs.List.Sorted.{IsSorted, IsPermutation, IsNonDecreasingBy}
 use Rattle.std.specs.Ordering.{nat_cmp, is_lt, ordering_then, ordering_reverse}
 use Rattle.std.specs.declared.cmp.Ordering.{Ordering}
@@ -15,7 +15,7 @@ use Rattle.std.specs.declared.cmp.Ordering.TheVariants.{Less, Equal, Greater}
 use borrow.Rule.Slice.PartMut.{put_mid, mid_of, mid_len, put_same, drop_put}
 use Rattle.byte_fields.specs.Bytes.{AreBytes}
 use Rattle.canonical_list.specs.declared.row.Row.{Row}
-use Rattle.canonical_list.specs.Rows.{first_bytes, head, key, IsKeyed, AreTied, IsStretch, AreAlike, AreInOrder, nths, row_bytes}
+use Rattle.canonical_list.specs.Rows.{first_bytes, IsKeyed, IsStretch, AreAlike, AreInOrder, nths, row_bytes}
 use Rattle.canonical_list.proofs.KeyLaws.{first_bytes-less, first_bytes-next, key-below, none_left}
 
 -- ---- Rows by their numbers
@@ -215,6 +215,10 @@ map_put f a m ps qs =
 map_mid : {X : Type 0} (f : Row → X) (a m : ℕ) (ps : List Row) → map f (mid_of a m ps) ≡ mid_of a m (map f ps)
 map_mid f a m ps = rw (drop-map f a ps, take-map f m (drop a ps)) refl
 
+-- rows are moved if those of a stretch are
+pub put_moved : (a m : ℕ) (ps qs : List Row) → IsPermutation (nths (mid_of a m ps)) (nths qs) → IsPermutation (nths ps) (nths (put_mid a m ps qs))
+put_moved a m ps qs moved = rw (map_put (λ p. p.nth) a m ps qs) (IsPermutation-put_mid a m (nths ps) (nths qs) (rw (← map_mid (λ p. p.nth) a m ps) moved))
+
 before_put : {X : Type 0} (a m k : ℕ) (xs ys : List X) (d : X) → k < a → a ≤ length xs → get_or (put_mid a m xs ys) k d ≡ get_or xs k d
 before_put a m k xs ys d low inside =
     let in_front : k < length (take a xs) = omega (arith, low, length-take-le a xs inside) in
@@ -291,8 +295,7 @@ sorting_more from r before ps qs start end rising h stretch moved sorted =
     let many : length ps ≡ length before = many_moved before ps h.moved in
     let there : IsStretch before start end = same_stretch before ps start end h.rest many stretch in
     let long : length qs ≡ m = many_moved mid qs moved ∙ mid_len start end ps stretch.within in
-    let all_moved : IsPermutation (nths before) (nths after) = IsPermutation-trans (nths before) (nths ps) (nths after) h.moved
-    (rw (map_put (λ p. p.nth) start m ps qs) (IsPermutation-put_mid start m (nths ps) (nths qs) (rw (← map_mid (λ p. p.nth) start m ps) moved))) in
+    let all_moved : IsPermutation (nths before) (nths after) = IsPermutation-trans (nths before) (nths ps) (nths after) h.moved (put_moved start m ps qs moved) in
     let w : ℕ = lead n r (get_or before start d) in
     let one : All (λ p. lead n r p ≡ w) mid = one_lead from r before ps start end d rising h stretch in
     let one_still : All (λ p. lead n r p ≡ w) qs = nths_moved (λ k. first_bytes n (get_or r k []) ≡ w) mid qs moved one in

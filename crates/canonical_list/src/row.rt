@@ -8,8 +8,8 @@ pub const KEYED_BYTES: usize = 12;
 
 /// A row of a level, and 12 of its bytes from some offset on, as two numbers.
 ///
-/// Rows that are the same before this offset are ordered as these bytes are, and no memory is read
-/// for it.
+/// Rows that are the same before this offset are ordered by these bytes. To compare them no other
+/// memory is read.
 #[derive(Clone, Copy, PartialEq, Eq, PartialOrd, Ord)]
 pub struct Row {
     // the first 4 of the bytes as one number, of which the first is the highest
@@ -50,13 +50,13 @@ fn rest_from(bytes: &[u8], from: usize) -> &[u8]
 }
 
 /// The first 12 bytes of a text. Zeros stand for the bytes that it lacks.
-fn opening(bytes: &[u8]) -> [u8; 12]
+fn opening(bytes: &[u8]) -> [u8; KEYED_BYTES]
     ensures { (i : ℕ) → i < 12 → get_or result i 0 ≡ get_or bytes.now i 0 }
 {
-    match bytes.first_chunk::<12>() {
+    match bytes.first_chunk::<KEYED_BYTES>() {
         Some(first) => *first,
         None => {
-            let mut padded = [0u8; 12];
+            let mut padded = [0u8; KEYED_BYTES];
             padded[..bytes.len()].copy_from_slice(bytes);
             padded
         }
@@ -64,14 +64,14 @@ fn opening(bytes: &[u8]) -> [u8; 12]
 }
 
 /// The first 4 of these bytes as one number.
-fn head_of(first: &[u8; 12]) -> u32
+fn head_of(first: &[u8; KEYED_BYTES]) -> u32
     ensures { result ≡ head 0 first.now }
 {
     u32::from_be_bytes([first[0], first[1], first[2], first[3]])
 }
 
 /// The last 8 of these bytes as one number.
-fn key_of(first: &[u8; 12]) -> u64
+fn key_of(first: &[u8; KEYED_BYTES]) -> u64
     ensures { result ≡ key 0 first.now }
 {
     u64::from_be_bytes([

@@ -17,7 +17,7 @@ use std::alloc::{AllocError, Allocator};
 /// In how many rounds rows are sorted by 12 bytes before all their bytes are compared.
 pub const ROUNDS: u32 = 6;
 
-// So few rows are not worth a round.
+// So few rows are not worth a round: their bytes are compared at once.
 const FEW: usize = 4;
 
 /// The bytes of a row, and which row of the level it is.
@@ -65,7 +65,7 @@ fn sort_by_bytes<'a, A: Allocator + Copy>(
     ties: &mut Vec<Tied<'a>, A>,
 ) -> Result<(), AllocError>
     requires inside { All (λ p. p.nth < length rows.now) run.old }
-    ensures moved { IfOk result (λ _. IsPermutation (nths run.old) (nths run.new)) }
+    ensures moved { IsPermutation (nths run.old) (nths run.new) }
     ensures sorted { IfOk result (λ _. AreInOrder (row_bytes rows.now run.new)) }
 {
     collect_tied(rows, run, ties)?;
@@ -109,7 +109,9 @@ fn run_end(run: &[Row], start: usize) -> usize
     run.len()
 }
 
-/// Sorts rows whose first `from` bytes are the same, by their bytes.
+/// Sorts rows by their bytes, of which the first `from` are the same in all rows.
+///
+/// There are at most `rounds` rounds of 12 bytes each. Out of memory leaves the rows in some order.
 pub fn sort_run<'a, A: Allocator + Copy>(
     rows: &'a PackedTexts<A>,
     run: &mut [Row],
@@ -120,10 +122,10 @@ pub fn sort_run<'a, A: Allocator + Copy>(
     requires inside { All (λ p. p.nth < length rows.now) run.old }
     requires alike { AreAlike from (row_bytes rows.now run.old) }
     requires small { from + 12 * rounds < 2 ^ 32 }
-    ensures moved { IfOk result (λ _. IsPermutation (nths run.old) (nths run.new)) }
+    ensures moved { IsPermutation (nths run.old) (nths run.new) }
     ensures sorted { IfOk result (λ _. AreInOrder (row_bytes rows.now run.new)) }
 {
-    // A row alone is frequent, and is in order.
+    // Most stretches are one row, which is in order.
     if run.len() < 2 {
         return Ok(());
     }
@@ -131,16 +133,11 @@ pub fn sort_run<'a, A: Allocator + Copy>(
         return sort_by_bytes(rows, run, ties);
     }
     sort_by_keys(rows, run, from);
+    let next = from + KEYED_BYTES;
     let mut start = 0;
     while start < run.len() {
         let end = run_end(run, start);
-        sort_run(
-            rows,
-            &mut run[start..end],
-            from + KEYED_BYTES,
-            rounds - 1,
-            ties,
-        )?;
+        sort_run(rows, &mut run[start..end], next, rounds - 1, ties)?;
         start = end;
     }
     Ok(())

@@ -1,4 +1,4 @@
-use Rattle.std.proofs.Common.{◌≡◌, ◌++◌, ◌+◌, ◌<◌, ◌≤◌, ◌∙◌, [], List, ℕ, get_or, length, map, sym, ap, arith, rules}
+use Rattle.std.proofs.Common.{◌≡◌, ◌++◌, ◌+◌, ◌≤◌, ◌∙◌, [], List, ℕ, get_or, length, sym, ap, arith, rules}
 use Rattle.std.proofs.lemmas.List.{take-map, get_or-map, length-map}
 use Rattle.canonical_list.specs.declared.row.Row.{Row}
 use Rattle.canonical_list.specs.Rows.{row_bytes}

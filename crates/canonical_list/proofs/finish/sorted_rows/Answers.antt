@@ -1,7 +1,6 @@
-use Rattle.std.proofs.Common.{◌≡◌, ◌<◌, ◌++◌, ◌∙◌, length, take, drop, sym, ap, arith, rules}
-use Rattle.std.specs.List.{All, range_with_len}
-use Rattle.std.specs.List.Sorted.{IsPermutation}
-use Rattle.canonical_list.specs.Rows.{nths, row_bytes}
+use Rattle.std.proofs.Common.{◌≡◌, ◌<◌, ◌++◌, ◌∙◌, length, take, drop, sym, rules}
+use Rattle.std.specs.List.{All}
+use Rattle.canonical_list.specs.Rows.{row_bytes}
 use Rattle.canonical_list.proofs.FinishLaws.{bytes_fit, nths_inside, positions_moved, written_whole}
 use Rattle.canonical_list.proofs.SortLaws.{alike_at_first, nths_moved}
 use Rattle.canonical_list.proofs.finish.sorted_rows.Goals as goal

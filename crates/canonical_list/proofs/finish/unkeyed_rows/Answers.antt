@@ -1,4 +1,4 @@
-use Rattle.std.proofs.Common.{refl, rules}
+use Rattle.std.proofs.Common.{refl}
 use Rattle.canonical_list.proofs.FinishLaws.{nths_more}
 use Rattle.canonical_list.proofs.finish.unkeyed_rows.Goals as goal
 

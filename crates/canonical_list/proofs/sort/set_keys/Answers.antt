@@ -1,8 +1,7 @@
-use Rattle.std.proofs.Common.{◌≡◌, ◌<◌, ◌≤◌, ◌∙◌, [], get_or, length, take, sym, arith, rules}
+use Rattle.std.proofs.Common.{◌≡◌, ◌<◌, ◌≤◌, ◌∙◌, [], get_or, length, take, rules}
 use Rattle.std.proofs.lemmas.List.{take_all, take_more_set}
 use Rattle.std.proofs.lemmas.List.Elements.{All-push}
 use Rattle.std.proofs.lemmas.List.Sorted.{IsPermutation-refl}
-use Rattle.std.specs.List.{All}
 use Rattle.std.specs.List.Sorted.{IsPermutation}
 use Rattle.canonical_list.specs.declared.row.Row.{Row}
 use Rattle.canonical_list.specs.Rows.{IsKeyed, nths}
