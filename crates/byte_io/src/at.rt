@@ -56,6 +56,33 @@ pub trait ReadAt {
         ensures stays { is_broken self.old ≡ true → is_broken self.new ≡ true };
 }
 
+/// Reads `count` bytes from an offset on over those that a buffer has from `at` on.
+///
+/// The fault is `Read`, where the read fails.
+pub fn read_over<R: ReadAt>(
+    input: &mut R,
+    offset: u64,
+    count: u32,
+    buffer: &mut [u8],
+    at: usize,
+) -> Result<(), ReadFault>
+    requires inside { IfKnown (R.bytes input.old) (λ file. offset + count ≤ length file) }
+    requires room { at + count ≤ length buffer.old }
+    ensures keeps { R.bytes input.new ≡ R.bytes input.old }
+    ensures same { length buffer.new ≡ length buffer.old }
+    ensures value { OnOk result (IfKnown (R.bytes input.old) (λ file.
+        take (at + count) buffer.new ≡ take at buffer.old ++ take count (drop offset file))) }
+    ensures given { OnOk result
+        (GivesBehind (R.bytes input.old) offset (take at buffer.old) (take (at + count) buffer.new)) }
+    ensures first { IfErr result (λ fault.
+        (fault ≡ ReadFault.Read) × Breaks (R.bytes input.old) (R.is_broken input.new)) }
+{
+    match input.read_at(offset, &mut buffer[at..at + count as usize]) {
+        Some(()) => Ok(()),
+        None => Err(ReadFault::Read),
+    }
+}
+
 /// Reads `count` bytes from an offset on to the end of a buffer, straight into its room.
 ///
 /// The faults: `Memory` where the buffer can't grow, and then nothing is read; `Read` where the read

@@ -26,7 +26,7 @@ mod inputs;
 mod sink;
 mod source;
 
-pub use at::{AtFault, ReadAt, Seeking, read_more};
+pub use at::{AtFault, ReadAt, Seeking, read_more, read_over};
 pub use fault::NotTaken;
 pub use input::{ReadFault, read_all, read_into, skip_all};
 pub use inputs::{InputFault, Inputs, Opened};

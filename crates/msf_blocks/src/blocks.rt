@@ -5,8 +5,8 @@ ghost use Rattle.byte_io.specs.At.{Breaks, IfKnown};
 ghost use Rattle.msf_blocks.specs.BlockNumber.{IsBlockSize, blocks_for};
 ghost use Rattle.msf_blocks.specs.Blocks.{AreGivenIn, AreInside, in_blocks};
 
-use byte_io::{ReadAt, ReadFault, read_more};
-use std::alloc::Allocator;
+use byte_io::{ReadAt, ReadFault, read_over};
+use std::alloc::{AllocError, Allocator};
 
 /// How many bytes one read asks for, at most.
 const MOST: u32 = 1 << 30;
@@ -29,6 +29,49 @@ fn run_len(blocks: &[u32], position: u32, most: u32) -> u32
         }
     }
     most
+}
+
+/// Reads the bytes in blocks with these numbers over those of a buffer that has their length, run by
+/// run.
+fn read_runs<R: ReadAt>(
+    input: &mut R,
+    block_size: u32,
+    blocks: &[u32],
+    size: u32,
+    buffer: &mut [u8],
+) -> Result<(), ReadFault>
+    requires size { IsBlockSize block_size }
+    requires count { length blocks.now ≡ blocks_for block_size size }
+    requires inside { IfKnown (R.bytes input.old) (λ file. AreInside file block_size blocks.now) }
+    requires room { length buffer.old ≡ size }
+    ensures keeps { R.bytes input.new ≡ R.bytes input.old }
+    ensures same { length buffer.new ≡ size }
+    ensures value { OnOk result (IfKnown (R.bytes input.old) (λ file.
+        buffer.new ≡ in_blocks file block_size blocks.now size)) }
+    ensures given { OnOk result (AreGivenIn (R.bytes input.old) block_size blocks.now buffer.new) }
+    ensures first { IfErr result (λ fault.
+        (fault ≡ ReadFault.Read) × Breaks (R.bytes input.old) (R.is_broken input.new)) }
+{
+    let mut position = 0;
+    while (position as usize) < blocks.len() {
+        let run = run_len(blocks, position, MOST / block_size);
+        let done = position * block_size;
+        let count = (size - done).min(run * block_size);
+        let start = u64::from(blocks[position as usize]) * u64::from(block_size);
+        read_over(input, start, count, buffer, done as usize)?;
+        position += run;
+    }
+    Ok(())
+}
+
+/// Gives a buffer this length. Of the bytes that it has, the first ones stay, and zeros come after
+/// them where it had fewer.
+fn give_length<A: Allocator>(buffer: &mut Vec<u8, A>, len: usize) -> Result<(), AllocError>
+    ensures { OnOk result (length buffer.new.items ≡ len) }
+{
+    buffer.truncate(len);
+    buffer.reserve_exact(len - buffer.len())?;
+    buffer.resize(len, 0)
 }
 
 /// Reads the bytes in blocks with these numbers into a buffer, whose old bytes are dropped. There
@@ -57,15 +100,7 @@ pub fn read_blocks<R: ReadAt, A: Allocator>(
         ((fault ≡ ReadFault.Read) × Breaks (R.bytes input.old) (R.is_broken input.new))
         ⊎ (fault ≡ ReadFault.Memory)) }
 {
-    buffer.clear();
-    buffer.reserve_exact(size as usize)?;
-    let mut position = 0;
-    while (position as usize) < blocks.len() {
-        let run = run_len(blocks, position, MOST / block_size);
-        let count = (size - position * block_size).min(run * block_size);
-        let start = u64::from(blocks[position as usize]) * u64::from(block_size);
-        read_more(input, start, count, buffer)?;
-        position += run;
-    }
-    Ok(())
+    // The old bytes are read over. So zeros are written only where the buffer grows.
+    give_length(buffer, size as usize)?;
+    read_runs(input, block_size, blocks, size, buffer)
 }
