@@ -4,8 +4,11 @@ ghost use Rattle.std.specs.Prelude.{◌≡◌, ◌+◌, ◌*◌, ◌%◌, ◌^�
 ghost use Rattle.std.specs.List.{concat};
 ghost use Rattle.text_set.specs.TextSet.{AreDistinct, Holds};
 ghost use Rattle.cv_leaves.specs.Named.{named_places};
+ghost use Rattle.record_set.specs.RecordSet.{HasNamedPlaces};
 
+use crate::listed::Listed;
 use crate::lists::PlaceLists;
+use packed_texts::PackedTexts;
 use std::alloc::{AllocError, Allocator, Global};
 use std::hash::BuildHasher;
 use std::marker::Model;
@@ -61,6 +64,25 @@ impl<S: BuildHasher, A: Allocator> RecordSet<S, A> {
         ensures { IsTrue result ↔ (length self.now ≡ 0) }
     {
         self.records.is_empty()
+    }
+
+    /// The records with their places, without what serves to find one.
+    pub fn listed(&self) -> Listed<'_, A>
+        ensures { result ≡ self.now }
+    {
+        Listed::new(self.records.texts(), &self.places)
+    }
+
+    /// The records, and for each the places at which it names others. The memory that serves to
+    /// find a record is given back.
+    pub fn into_parts(self) -> (PackedTexts<A>, PlaceLists<A>)
+    where
+        S: Drop,
+        ensures records { result.0 ≡ self }
+        ensures places { HasNamedPlaces self result.1 }
+    {
+        let RecordSet { records, places } = self;
+        (records.into_texts(), places)
     }
 
     /// The bytes of all records, one after the other.

@@ -67,6 +67,27 @@ impl<S: BuildHasher, A: Allocator> TextSet<S, A> {
         self.texts.is_empty()
     }
 
+    /// The texts.
+    pub fn texts(&self) -> &PackedTexts<A>
+        ensures { result.now ≡ self.now }
+    {
+        &self.texts
+    }
+
+    /// The texts alone. The memory that serves to find one is given back.
+    pub fn into_texts(self) -> PackedTexts<A>
+    where
+        S: Drop,
+        ensures { result ≡ self }
+    {
+        let TextSet {
+            texts,
+            keys: _,
+            hasher: _,
+        } = self;
+        texts
+    }
+
     /// The bytes of all texts, one after the other.
     pub fn bytes(&self) -> &[u8]
         ensures value { result.now ≡ concat self.now }
