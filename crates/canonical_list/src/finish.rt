@@ -23,9 +23,8 @@ use crate::row::Row;
 use crate::sort::{ROUNDS, sort_run};
 use closed_trees::{levels_of, renumber_into};
 use packed_texts::PackedTexts;
-use record_set::RecordSet;
+use record_set::Listed;
 use std::alloc::{AllocError, Allocator};
-use std::hash::BuildHasher;
 
 /// Appends the row of a record to the other rows.
 #[tactic(auto, using(closed_trees::proofs::RenumberLaws::padded_record, closed_trees::proofs::RenumberLaws::renumbered_long))]
@@ -85,9 +84,9 @@ impl<A: Allocator + Copy> Unsorted<A> {
 }
 
 /// Collects the rows of a level.
-fn collect<S: BuildHasher, A: Allocator + Copy>(
+fn collect<A: Allocator + Copy>(
     alloc: A,
-    table: &RecordSet<S, A>,
+    table: &Listed<'_, A>,
     depths: &Levels<'_, A>,
     level: u32,
     numbers: &[u32],
@@ -197,9 +196,9 @@ fn sorted_rows<A: Allocator + Copy>(
 }
 
 /// Appends the next level to the list, and numbers its records.
-fn list_level<S: BuildHasher, A: Allocator + Copy>(
+fn list_level<A: Allocator + Copy>(
     alloc: A,
-    table: &RecordSet<S, A>,
+    table: &Listed<'_, A>,
     depths: &Levels<'_, A>,
     level: u32,
     numbers: &mut [u32],
@@ -229,9 +228,9 @@ fn list_level<S: BuildHasher, A: Allocator + Copy>(
 /// The canonical list of the types of a table, level by level.
 ///
 /// `numbers` has an entry of any value for each record; a record gets its number once it is listed.
-fn list_levels<S: BuildHasher, A: Allocator + Copy>(
+fn list_levels<A: Allocator + Copy>(
     alloc: A,
-    table: &RecordSet<S, A>,
+    table: &Listed<'_, A>,
     depths: &Levels<'_, A>,
     levels: u32,
     numbers: &mut [u32],
@@ -263,9 +262,9 @@ fn list_levels<S: BuildHasher, A: Allocator + Copy>(
 
 /// The canonical list of the types of a table whose depths are known.
 #[tactic(auto, using(crate::proofs::LinkLaws::zeros_small, crate::proofs::FinishLaws::table_small))]
-pub fn canonical_list<S: BuildHasher, A: Allocator + Copy>(
+pub fn canonical_list<A: Allocator + Copy>(
     alloc: A,
-    table: &RecordSet<S, A>,
+    table: &Listed<'_, A>,
     depths: &[u32],
 ) -> Result<PackedTexts<A>, AllocError>
     requires table { IsTable table.now }

@@ -199,7 +199,7 @@ fn list_all<I: Inputs, S: BuildHasher + Drop, A: Allocator + Copy>(
 {
     let mut merge = Merge::new(alloc, limit, hasher);
     add_all(alloc, inputs, &mut merge)?;
-    match merge.finish(alloc) {
+    match merge.into_canon(alloc) {
         Ok(canon) => Ok(canon),
         Err(_) => Err(MergeFault::Memory),
     }

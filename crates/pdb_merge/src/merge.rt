@@ -234,4 +234,19 @@ impl<S: BuildHasher, A: Allocator + Copy> Merge<S, A> {
     {
         self.table.finish(alloc)
     }
+
+    /// The canonical list of the types, with which the merge ends. The only fault is `Memory`.
+    ///
+    /// The memory of the merge is given back: what serves to look up a type before the list is made,
+    /// and all other memory after that.
+    pub fn into_canon(self, alloc: A) -> Result<Canon<A>, JoinFault>
+    where
+        S: Drop,
+        ensures value { IfOk result (λ canon. IsCanonOf canon (IsType self.types)) }
+        ensures taken { IfOk result (λ canon.
+            (files : List (List ℕ)) → HasTaken self files → IsCanonOf canon (HasType files)) }
+        ensures memory { IfErr result (λ fault. fault ≡ JoinFault.Memory) }
+    {
+        self.table.into_canon(alloc)
+    }
 }

@@ -6,6 +6,7 @@ ghost use Rattle.closed_trees.specs.Tree.{Tree, IsType};
 ghost use Rattle.closed_trees.specs.Canon.{weight};
 ghost use Rattle.closed_trees.specs.Depth.{HasDepths};
 ghost use Rattle.closed_trees.specs.Table.{IsTable, IsUnion};
+ghost use Rattle.type_table.specs.MeasuredTable.{IsMeasuredTable};
 ghost use Rattle.type_table.specs.Merge.{StartsWith, IsRecordWalk, IsAdded};
 ghost use Rattle.closed_trees.specs.Types.{AreTypes};
 ghost use Rattle.canonical_list.specs.Finish.{IsCanonOf};
@@ -17,7 +18,7 @@ use crate::table_depths::measure_new;
 use canonical_list::canonical_list;
 use checked_types::{InOrder, Types, in_file_order};
 use cv_leaves::list_places;
-use record_set::RecordSet;
+use record_set::{Listed, RecordSet};
 use std::alloc::{AllocError, Allocator, Global};
 use std::hash::BuildHasher;
 use std::marker::Model;
@@ -63,6 +64,22 @@ fn undo<S: BuildHasher, A: Allocator>(
 {
     texts.truncate(held);
     depths.truncate(held);
+}
+
+/// The canonical list of the types of a table whose depths are known.
+fn list_of<A: Allocator + Copy>(
+    alloc: A,
+    table: &Listed<'_, A>,
+    depths: &[u32],
+) -> Result<Canon<A>, JoinFault>
+    requires { IsMeasuredTable table.now depths.now }
+    ensures value { IfOk result (λ canon. IsCanonOf canon (IsType table.now)) }
+    ensures bytes { IfOk result (λ canon. length (concat canon) ≡ length (concat table.now)) }
+    ensures memory { IfErr result (λ fault. fault ≡ JoinFault.Memory) }
+{
+    let texts = canonical_list(alloc, table, depths)?;
+    are_bytes(texts.bytes());
+    Ok(Canon { texts })
 }
 
 /// A set of types, each once, in the order in which they came.
@@ -216,14 +233,34 @@ impl<S: BuildHasher, A: Allocator + Copy> Table<S, A> {
     /// Makes the canonical list of the types.
     ///
     /// The only fault is `Memory`. The table stays as it is in any case. This allocates the list.
-    /// While the list is made, the number of each type and the rows of one level are allocated too. Nothing recurses along references.
+    /// While the list is made, the number of each type and the rows of one level are allocated too.
+    /// Nothing recurses along references.
     pub fn finish(&self, alloc: A) -> Result<Canon<A>, JoinFault>
         ensures value { IfOk result (λ canon. IsCanonOf canon (IsType self.now)) }
         ensures bytes { IfOk result (λ canon. length (concat canon) ≡ length (concat self.now)) }
         ensures memory { IfErr result (λ fault. fault ≡ JoinFault.Memory) }
     {
-        let texts = canonical_list(alloc, &self.texts, &self.depths)?;
-        are_bytes(texts.bytes());
-        Ok(Canon { texts })
+        list_of(alloc, &self.texts.listed(), &self.depths)
+    }
+
+    /// Makes the canonical list of the types, and ends the table.
+    ///
+    /// The only fault is `Memory`. The memory that serves to look up a type is given back before the
+    /// list is made, and all other memory of the table after that. Everything else is as in
+    /// [`Table::finish`].
+    pub fn into_canon(self, alloc: A) -> Result<Canon<A>, JoinFault>
+    where
+        S: Drop,
+        ensures value { IfOk result (λ canon. IsCanonOf canon (IsType self)) }
+        ensures bytes { IfOk result (λ canon. length (concat canon) ≡ length (concat self)) }
+        ensures memory { IfErr result (λ fault. fault ≡ JoinFault.Memory) }
+    {
+        let Table {
+            texts,
+            depths,
+            work: _,
+        } = self;
+        let (records, places) = texts.into_parts();
+        list_of(alloc, &Listed::new(&records, &places), &depths)
     }
 }
