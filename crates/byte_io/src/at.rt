@@ -73,7 +73,8 @@ pub fn read_over<R: ReadAt>(
     ensures value { OnOk result (IfKnown (R.bytes input.old) (λ file.
         take (at + count) buffer.new ≡ take at buffer.old ++ take count (drop offset file))) }
     ensures given { OnOk result
-        (GivesBehind (R.bytes input.old) offset (take at buffer.old) (take (at + count) buffer.new)) }
+        (GivesBehind (R.bytes input.old) offset
+        (take at buffer.old) (take (at + count) buffer.new)) }
     ensures first { IfErr result (λ fault.
         (fault ≡ ReadFault.Read) × Breaks (R.bytes input.old) (R.is_broken input.new)) }
 {

@@ -20,11 +20,11 @@ use record_set::RecordSet;
 use std::alloc::Allocator;
 use std::hash::BuildHasher;
 use std::test::Fail;
-use test_samples::{TO_INT, folding, sample};
+use test_samples::{CONST, TO_FIRST, TO_INT, VOLATILE, folding, sample, stream_with};
 use text_set::TextSet;
 use topological_order::{Graph, topological_order};
 use tpi_records::{Records, tpi_header_bytes};
-use type_trees::{Table, Types};
+use type_trees::{Standing, Table, Types, compare};
 
 /// `byte_fields` reads little-endian numbers.
 #[test]
@@ -206,6 +206,23 @@ fn types_in_canonical_order(rt: HostRuntime) -> Result<(), Fail> {
     let canon = table.finish(rt.alloc())?;
     assert_eq!(rt; canon.len(), 2);
     assert_eq!(rt; canon.get(1), Some(TO_INT));
+    Ok(())
+}
+
+/// `type_difference` tells which types one list has and the other lacks, and where that begins.
+#[test]
+fn where_two_lists_differ(rt: HostRuntime) -> Result<(), Fail> {
+    // a const int and a pointer to it, and a volatile int and a pointer to it
+    let one = stream_with(rt.alloc(), &[CONST, TO_FIRST])?;
+    let other = stream_with(rt.alloc(), &[VOLATILE, TO_FIRST])?;
+    let first = Types::check(rt.alloc(), Records::read(rt.alloc(), &one)?)?;
+    let second = Types::check(rt.alloc(), Records::read(rt.alloc(), &other)?)?;
+    let difference = compare(rt.alloc(), &first, &second, folding())?;
+    let [ints, pointers] = difference.first.as_slice() else {
+        return Err("another number of records".into());
+    };
+    assert!(rt; matches!(ints, Standing::Origin));
+    assert!(rt; matches!(pointers, Standing::Follows));
     Ok(())
 }
 

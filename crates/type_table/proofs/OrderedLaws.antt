@@ -19,9 +19,11 @@ use Rattle.closed_trees.specs.Table.{IsTable, AreNumbered, renumber, renumbered}
 use Rattle.closed_trees.proofs.TreeLaws.{at_position, tree_there}
 use Rattle.closed_trees.proofs.TableLaws.{stands_still, renumber-none, renumber-simple, renumber-named}
 use Rattle.closed_trees.proofs.RenumberLaws.{renumbered_long}
+use Rattle.closed_trees.proofs.NextLaws.{in_range}
 use Rattle.checked_types.proofs.CheckLaws.{by_position, lower_names}
 use Rattle.checked_types.proofs.OrderLaws.{IsListing, NamesDone, front_counted, listing_counted, next_in_order, number_at, order_lists, order_weighs}
 use Rattle.type_table.specs.Merge.{IsRecordWalk, IsPut, IsAdded}
+use Rattle.type_table.specs.Numbers.{AreNumbers}
 use Rattle.type_table.proofs.AddLaws.{Adds, adds_more, adds_none, adds_all, table_few, holds_short, renumbered-is}
 
 -- ---- Records that are walked through as they stand
@@ -82,6 +84,7 @@ pub record IsAdding (checked : Bool) (records : List (List ℕ)) (left : List �
   pub adds : Adds records before after (λ p. get_or positions p 0) (Contains done)
   pub early : checked ≡ false → (k : ℕ) → Contains done k → IsEarly records k
   pub few : length (concat after) + sum_by (λ p. length (get_or records p [])) left < 2 ^ 33
+  pub light : length (concat after) + sum_by (λ p. length (get_or records p [])) left ≤ length (concat before) + length (concat records)
 
 -- an empty list that is made longer has zeros alone
 pub all_zeros : (old new : List ℕ) (n len : ℕ) → old ≡ [] → len ≡ 0 → new ≡ take n old ++ replicate (n - len) 0 → new ≡ replicate n 0
@@ -103,6 +106,7 @@ adding_starts checked records left before many positions table short all_short w
   adds = adds_none records before (λ p. get_or positions p 0) (Contains []) table (λ k on. none_in k on);
   early = λ un k on. absurd (none_in k on);
   few = omega (arith, short, all_short, order_weighs records left (walk_lists checked records left walk));
+  light = omega (arith, order_weighs records left (walk_lists checked records left walk));
 }
 
 -- the next one is the position of a record
@@ -199,6 +203,7 @@ adding_more checked records left others before after grown positions p m last fr
           (λ k new. elim (Contains-push_cases a.done p k new) [ inl old ↦ inl old | inr here ↦ inr (sym here) ]);
       early = λ un k on. elim (Contains-push_cases a.done p k on) [ inl old ↦ a.early un k old | inr here ↦ subst (IsEarly records) here (early un) ];
       few = omega (arith, few, holds_short after grown (renumbered f r) holds, renumbered_long f r put.checked);
+      light = omega (arith, a.light, ap (sum_by (λ q. length (get_or records q []))) split, sum_by-cons (λ q. length (get_or records q [])) p others, holds_short after grown (renumbered f r) holds, renumbered_long f r put.checked);
     }
   where
     all : a.done ++ left ≡ a.done ++ p ∷ others
@@ -233,3 +238,10 @@ all_added checked records left before after positions framed a none =
       value = adds_all records before after (λ p. get_or positions p 0) (Contains a.done) a.adds (λ k inside. (walk_lists checked records a.done walk).whole k inside);
       few = table_few after a.adds.table (omega (arith, a.few));
     }
+
+-- and the positions are those of the types
+pub added_numbers : (checked : Bool) (records : List (List ℕ)) (left : List ℕ) (before after : List (List ℕ)) (positions : List ℕ) → IsAdding checked records left before after positions → left ≡ [] → AreNumbers records after positions
+added_numbers checked records left before after positions a none =
+    let all : a.done ++ left ≡ a.done = ap (λ (xs : List ℕ). a.done ++ xs) none ∙ append-nil a.done in
+    let walk : IsRecordWalk checked records a.done = subst (IsRecordWalk checked records) all a.walk in
+    record { many = a.many; stand = λ i t at. a.adds.stand i t ((walk_lists checked records a.done walk).whole i (in_range records i t at)) at }

@@ -13,6 +13,7 @@ ghost use Rattle.cv_leaves.specs.References.{references};
 ghost use Rattle.byte_fields.specs.Bytes.{AreBytes};
 ghost use Rattle.closed_trees.specs.Table.{IsTable, AreNumbered};
 ghost use Rattle.type_table.specs.Merge.{StartsWith, IsRecordWalk, IsPut, IsAdded};
+ghost use Rattle.type_table.specs.Numbers.{AreNumbers};
 
 use crate::expected::is_at;
 use checked_types::{InOrder, record_at};
@@ -58,6 +59,14 @@ impl<A: Allocator + Copy> Workspace<A> {
                 places: Vec::new(alloc),
             },
         }
+    }
+
+    /// The numbers of the last input.
+    pub fn into_numbers(self) -> Vec<u32, A>
+        ensures { result.items ≡ self.numbers.items }
+    {
+        let Workspace { numbers, copy: _ } = self;
+        numbers
     }
 
     /// Gives the memory of a large input back.
@@ -128,6 +137,10 @@ pub fn add_in_order<S: BuildHasher, A: Allocator + Copy>(
     requires short { length (concat texts.old) < 2 ^ 32 }
     requires walk { IsRecordWalk checked records.now order }
     ensures added { IfOk result (λ all. IsTrue all → IsAdded records.now texts.old texts.new) }
+    ensures numbers { IfOk result (λ all.
+        IsTrue all → AreNumbers records.now texts.new work.new.numbers.items) }
+    ensures light { IfOk result (λ _.
+        length (concat texts.new) < length (concat texts.old) + 2 ^ 32) }
     ensures all { checked ≡ true → IfOk result (λ all. IsTrue all) }
     ensures front { StartsWith texts.new texts.old }
 {

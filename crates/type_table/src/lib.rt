@@ -7,6 +7,7 @@
 //! - [`Canon`] holds a set of types as its *canonical list*: each type once, in the order of the
 //!   depths, and at one depth in the order of the bytes of the records. The records name each other
 //!   by their positions in the list. Equal sets have equal canonical lists.
+//! - [`number_types`] puts types into a set of records, and tells at which position each is.
 //!
 //! What is proved: a table and a canonical list hold exactly the types that were put into them. A
 //! union that is refused as too large has more bytes than the limit, and the fault has their
@@ -21,10 +22,12 @@ mod canon;
 mod canon_records;
 mod expected;
 mod fault;
+mod numbers;
 mod table;
 mod table_depths;
 
 pub use canon::Canon;
 pub use canon_records::CanonRecords;
 pub use fault::JoinFault;
+pub use numbers::number_types;
 pub use table::Table;

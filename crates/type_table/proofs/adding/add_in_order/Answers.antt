@@ -4,7 +4,7 @@ use Rattle.cv_leaves.specs.References.{references}
 use Rattle.closed_trees.specs.Table.{AreNumbered}
 use Rattle.type_table.specs.Merge.{IsPut}
 use Rattle.type_table.proofs.AddLaws.{starts_same}
-use Rattle.type_table.proofs.OrderedLaws.{all_zeros, adding_starts, adding_next, adding_checked, adding_numbered, adding_more, all_added}
+use Rattle.type_table.proofs.OrderedLaws.{all_zeros, adding_starts, adding_next, adding_checked, adding_numbered, adding_more, all_added, added_numbers}
 use Rattle.type_table.proofs.adding.add_in_order.Goals as goal
 
 pub loop-position-init : goal.loop-position-init
@@ -48,3 +48,11 @@ pub returns-clause-added : goal.returns-clause-added
 returns-clause-added g c all =
     let so_far = c.loop-position in
     all_added c.args.checked c.args.records.now so_far.position-iterator c.args.texts.now so_far.texts so_far.numbers.items c.len-many.ensures.each so_far.invariant.adding (c.in-None.ensures.steps).0
+
+pub returns-clause-numbers : goal.returns-clause-numbers
+returns-clause-numbers g c all =
+    let so_far = c.loop-position in
+    added_numbers c.args.checked c.args.records.now so_far.position-iterator c.args.texts.now so_far.texts so_far.numbers.items so_far.invariant.adding (c.in-None.ensures.steps).0
+
+pub returns-clause-light : goal.returns-clause-light
+returns-clause-light g c = omega (arith, c.loop-position.invariant.adding.light, c.len-many.ensures.short)
