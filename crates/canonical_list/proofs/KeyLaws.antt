@@ -38,33 +38,33 @@ first_bytes-same (suc n) i x y same =
 -- the head and the key of a row at an offset are those of 12 bytes that are the same from there on
 pub head_same : (first x : List ℕ) (from : ℕ) → ((i : ℕ) → i < 12 → get_or first i 0 ≡ get_or (drop from x) i 0) → head 0 first ≡ head from x
 unfolding head
-head_same first x from same = first_bytes-same 4 0 first (drop from x) (λ k inside. same k (omega (arith, inside)))
+head_same first x from same = first_bytes-same 8 0 first (drop from x) (λ k inside. same k (omega (arith, inside)))
 
 pub key_same : (first x : List ℕ) (from : ℕ) → ((i : ℕ) → i < 12 → get_or first i 0 ≡ get_or (drop from x) i 0) → key 0 first ≡ key from x
 unfolding key
-key_same first x from same = first_bytes-same 8 4 first (drop from x) (λ k inside. same k (omega (arith, inside))) ∙ ap (first_bytes 8) (drop-drop 4 from x)
+key_same first x from same = first_bytes-same 4 8 first (drop from x) (λ k inside. same k (omega (arith, inside))) ∙ ap (first_bytes 4) (drop-drop 8 from x)
 
--- the head is the number of the first 4 bytes
-pub head_is : (x : List ℕ) → head 0 x ≡ get_or x 0 0 * 256 ^ 3 + get_or x 1 0 * 256 ^ 2 + get_or x 2 0 * 256 + get_or x 3 0
+-- the head is the number of the first 8 bytes
+pub head_is : (x : List ℕ)
+    → head 0 x ≡ get_or x 0 0 * 256 ^ 7 + get_or x 1 0 * 256 ^ 6 + get_or x 2 0 * 256 ^ 5 + get_or x 3 0 * 256 ^ 4 + get_or x 4 0 * 256 ^ 3 + get_or x 5 0 * 256 ^ 2 + get_or x 6 0 * 256 + get_or x 7 0
 unfolding head
-head_is x = omega (arith, first_bytes-at 0 3 x, first_bytes-at 1 2 x, first_bytes-at 2 1 x, first_bytes-at 3 0 x, none_left (drop 4 x))
-
--- the key is the number of the 8 bytes after them
-pub key_is : (x : List ℕ)
-    → key 0 x ≡ get_or x 4 0 * 256 ^ 7 + get_or x 5 0 * 256 ^ 6 + get_or x 6 0 * 256 ^ 5 + get_or x 7 0 * 256 ^ 4 + get_or x 8 0 * 256 ^ 3 + get_or x 9 0 * 256 ^ 2 + get_or x 10 0 * 256 + get_or x 11 0
-unfolding key
-key_is x = omega (
+head_is x = omega (
   arith,
-  first_bytes-at 4 7 x,
-  first_bytes-at 5 6 x,
-  first_bytes-at 6 5 x,
-  first_bytes-at 7 4 x,
-  first_bytes-at 8 3 x,
-  first_bytes-at 9 2 x,
-  first_bytes-at 10 1 x,
-  first_bytes-at 11 0 x,
-  none_left (drop 12 x),
+  first_bytes-at 0 7 x,
+  first_bytes-at 1 6 x,
+  first_bytes-at 2 5 x,
+  first_bytes-at 3 4 x,
+  first_bytes-at 4 3 x,
+  first_bytes-at 5 2 x,
+  first_bytes-at 6 1 x,
+  first_bytes-at 7 0 x,
+  none_left (drop 8 x),
 )
+
+-- the key is the number of the 4 bytes after them
+pub key_is : (x : List ℕ) → key 0 x ≡ get_or x 8 0 * 256 ^ 3 + get_or x 9 0 * 256 ^ 2 + get_or x 10 0 * 256 + get_or x 11 0
+unfolding key
+key_is x = omega (arith, first_bytes-at 8 3 x, first_bytes-at 9 2 x, first_bytes-at 10 1 x, first_bytes-at 11 0 x, none_left (drop 12 x))
 
 -- zeros after a row do not show
 zeros_after : (x : List ℕ) (m i : ℕ) → get_or (x ++ replicate m 0) i 0 ≡ get_or x i 0
@@ -117,16 +117,16 @@ first_bytes-more (suc n) m [] = omega arith
 first_bytes-more (suc n) m (b ∷ x) = rw (suc-add, pow-add) (omega (arith, first_bytes-more n m x))
 
 -- the head and the key at an offset are the 12 bytes after those before it
-pub first_bytes-next : (from : ℕ) (x : List ℕ) → first_bytes (from + 12) x ≡ first_bytes from x * 256 ^ 12 + (head from x * 2 ^ 64 + key from x)
+pub first_bytes-next : (from : ℕ) (x : List ℕ) → first_bytes (from + 12) x ≡ first_bytes from x * 256 ^ 12 + (head from x * 2 ^ 32 + key from x)
 unfolding head key
 first_bytes-next from x = omega (
   arith,
   first_bytes-more from 12 x,
-  first_bytes-more 4 8 (drop from x),
-  ap (first_bytes 8) (drop-drop 4 from x),
+  first_bytes-more 8 4 (drop from x),
+  ap (first_bytes 4) (drop-drop 8 from x),
 )
 
--- the key is a number of 8 bytes
-pub key-below : (from : ℕ) (x : List ℕ) → AreBytes x → key from x < 2 ^ 64
+-- the key is a number of 4 bytes
+pub key-below : (from : ℕ) (x : List ℕ) → AreBytes x → key from x < 2 ^ 32
 unfolding key
-key-below from x bytes = first_bytes-below 8 (drop (from + 4) x) (λ i. rw (get_or-drop (from + 4) x i 0) (bytes (from + 4 + i)))
+key-below from x bytes = first_bytes-below 4 (drop (from + 8) x) (λ i. rw (get_or-drop (from + 8) x i 0) (bytes (from + 8 + i)))

@@ -106,18 +106,18 @@ pub record AreRising (from : ℕ) (r : List (List ℕ)) (ps : List Row) : Type 0
   pub inside : All (λ p. p.nth < length r) ps
   pub alike : AreAlike from (row_bytes r ps)
   pub keyed : All (λ p. IsKeyed from p.head p.key (get_or r p.nth [])) ps
-  pub rising : IsNonDecreasingBy (λ p. p.head * 2 ^ 64 + p.key) ps
+  pub rising : IsNonDecreasingBy (λ p. p.head * 2 ^ 32 + p.key) ps
 
 -- sorted by their heads, then by their keys, and then by anything, rows rise
 pub keys_rise : (from : ℕ) (r : List (List ℕ)) (ps : List Row) → All (λ p. IsKeyed from p.head p.key (get_or r p.nth [])) ps
-    → IsSorted (λ a b. ordering_then (nat_cmp a.head b.head) (ordering_then (nat_cmp a.key b.key) (nat_cmp a.nth b.nth))) ps → IsNonDecreasingBy (λ p. p.head * 2 ^ 64 + p.key) ps
+    → IsSorted (λ a b. ordering_then (nat_cmp a.head b.head) (ordering_then (nat_cmp a.key b.key) (nat_cmp a.nth b.nth))) ps → IsNonDecreasingBy (λ p. p.head * 2 ^ 32 + p.key) ps
 keys_rise from r ps keyed sorted =
-    let word : Row → ℕ = λ p. p.head * 2 ^ 64 + p.key in
+    let word : Row → ℕ = λ p. p.head * 2 ^ 32 + p.key in
     let next : (k : ℕ) (d : Row) → k + 1 < length ps → word (get_or ps k d) ≤ word (get_or ps (k + 1) d) = λ k d inside.
     let a : Row = get_or ps k d in
     let b : Row = get_or ps (k + 1) d in
     let this = keyed k d (omega (arith, inside)) in
-    let small : a.key < 2 ^ 64 = omega (arith, this.is_key, key-below from (get_or r a.nth []) this.bytes) in
+    let small : a.key < 2 ^ 32 = omega (arith, this.is_key, key-below from (get_or r a.nth []) this.bytes) in
     let above = sorted k d (omega arith) inside in
     elim (at_least a.head b.head (ordering_then (nat_cmp b.key a.key) (nat_cmp b.nth a.nth)) above) [
       | inl less ↦ omega (arith, less, small)
@@ -126,7 +126,7 @@ keys_rise from r ps keyed sorted =
     IsNonDecreasingBy-from_all_adjacent word ps next
 
 pub rows_rise : (from : ℕ) (r : List (List ℕ)) (before ps : List Row) → All (λ p. p.nth < length r) before → AreAlike from (row_bytes r before) → IsPermutation (nths before) (nths ps)
-    → All (λ p. IsKeyed from p.head p.key (get_or r p.nth [])) ps → IsNonDecreasingBy (λ p. p.head * 2 ^ 64 + p.key) ps → AreRising from r ps
+    → All (λ p. IsKeyed from p.head p.key (get_or r p.nth [])) ps → IsNonDecreasingBy (λ p. p.head * 2 ^ 32 + p.key) ps → AreRising from r ps
 rows_rise from r before ps inside alike moved keyed rising = record {
   inside = nths_moved (λ k. k < length r) before ps moved inside;
   alike = alike_moved from r before ps moved alike;
@@ -140,7 +140,7 @@ lead n r p = first_bytes n (get_or r p.nth [])
 
 -- the first bytes, then the head and the key
 lead_is : (from : ℕ) (r : List (List ℕ)) (ps : List Row) (k : ℕ) (d : Row) → AreRising from r ps → k < length ps
-    → lead (from + 12) r (get_or ps k d) ≡ lead from r (get_or ps k d) * 256 ^ 12 + ((get_or ps k d).head * 2 ^ 64 + (get_or ps k d).key)
+    → lead (from + 12) r (get_or ps k d) ≡ lead from r (get_or ps k d) * 256 ^ 12 + ((get_or ps k d).head * 2 ^ 32 + (get_or ps k d).key)
 lead_is from r ps k d h inside =
     let x : List ℕ = get_or r (get_or ps k d).nth [] in
     let this = h.keyed k d inside in
@@ -177,10 +177,10 @@ stretch_below from r ps start end d h stretch inside =
     let tied = stretch.tied (end - 1) d low high in
     let this = h.keyed (end - 1) d before in
     let next = h.keyed end d inside in
-    let small_a : a.key < 2 ^ 64 = omega (arith, this.is_key, key-below from (get_or r a.nth []) this.bytes) in
-    let small_b : b.key < 2 ^ 64 = omega (arith, next.is_key, key-below from (get_or r b.nth []) next.bytes) in
+    let small_a : a.key < 2 ^ 32 = omega (arith, this.is_key, key-below from (get_or r a.nth []) this.bytes) in
+    let small_b : b.key < 2 ^ 32 = omega (arith, next.is_key, key-below from (get_or r b.nth []) next.bytes) in
     let rises = h.rising (end - 1) end d (omega arith) inside in
-    let apart : a.head * 2 ^ 64 + a.key ≢ b.head * 2 ^ 64 + b.key = λ e.
+    let apart : a.head * 2 ^ 32 + a.key ≢ b.head * 2 ^ 32 + b.key = λ e.
     let heads : a.head ≡ b.head = omega (arith, e, small_a, small_b) in
     stretch.last d inside (sym heads ∙ tied.0, omega (arith, e, heads, tied.1)) in
     omega (arith, lead_is from r ps (end - 1) d h before, lead_is from r ps end d h inside, same_start from r ps (end - 1) end d h.alike before inside, rises, apart)

@@ -25,13 +25,13 @@ first_bytes n [] = 0
 first_bytes zero (b ∷ x) = 0
 first_bytes (suc n) (b ∷ x) = b * 256 ^ n + first_bytes n x
 
--- the head of a row at an offset: the 4 bytes from there on as one number
+-- the head of a row at an offset: the 8 bytes from there on as one number
 unfoldable pub head : ℕ → List ℕ → ℕ
-head from x = first_bytes 4 (drop from x)
+head from x = first_bytes 8 (drop from x)
 
--- the key of a row at an offset: the 8 bytes after its head as one number
+-- the key of a row at an offset: the 4 bytes after its head as one number
 unfoldable pub key : ℕ → List ℕ → ℕ
-key from x = first_bytes 8 (drop (from + 4) x)
+key from x = first_bytes 4 (drop (from + 8) x)
 
 -- at this offset, h is the head of x, which is made of bytes, and k its key
 pub record IsKeyed (from h k : ℕ) (x : List ℕ) : Type 0 where

@@ -12,13 +12,16 @@ pub const KEYED_BYTES: usize = 12;
 /// memory is read.
 #[derive(Clone, Copy, PartialEq, Eq, PartialOrd, Ord)]
 pub struct Row {
-    // the first 4 of the bytes as one number, of which the first is the highest
-    pub head: u32,
-    // the next 8 bytes, in the same way
-    pub key: u64,
+    // the first 8 of the bytes as one number, of which the first is the highest
+    pub head: u64,
+    // the next 4 bytes, in the same way
+    pub key: u32,
     // which row of the level this is, from 0 and in the order in which they came
     pub nth: u32,
 }
+
+// Fields lie in the order of the source, and these leave no space between them.
+const _: () = prove!(size_of::<Row>() == 16);
 
 impl Row {
     /// The row of these bytes, with 12 of them from an offset on.
@@ -63,18 +66,18 @@ fn opening(bytes: &[u8]) -> [u8; KEYED_BYTES]
     }
 }
 
-/// The first 4 of these bytes as one number.
-fn head_of(first: &[u8; KEYED_BYTES]) -> u32
+/// The first 8 of these bytes as one number.
+fn head_of(first: &[u8; KEYED_BYTES]) -> u64
     ensures { result ≡ head 0 first.now }
 {
-    u32::from_be_bytes([first[0], first[1], first[2], first[3]])
+    u64::from_be_bytes([
+        first[0], first[1], first[2], first[3], first[4], first[5], first[6], first[7],
+    ])
 }
 
-/// The last 8 of these bytes as one number.
-fn key_of(first: &[u8; KEYED_BYTES]) -> u64
+/// The last 4 of these bytes as one number.
+fn key_of(first: &[u8; KEYED_BYTES]) -> u32
     ensures { result ≡ key 0 first.now }
 {
-    u64::from_be_bytes([
-        first[4], first[5], first[6], first[7], first[8], first[9], first[10], first[11],
-    ])
+    u32::from_be_bytes([first[8], first[9], first[10], first[11]])
 }

@@ -90,7 +90,7 @@ fn sort_by_keys<A: Allocator>(rows: &PackedTexts<A>, run: &mut [Row], from: usiz
     requires inside { All (λ p. p.nth < length rows.now) run.old }
     ensures moved { IsPermutation (nths run.old) (nths run.new) }
     ensures keyed { All (λ p. IsKeyed from p.head p.key (get_or rows.now p.nth [])) run.new }
-    ensures rising { IsNonDecreasingBy (λ p. p.head * 2 ^ 64 + p.key) run.new }
+    ensures rising { IsNonDecreasingBy (λ p. p.head * 2 ^ 32 + p.key) run.new }
 {
     set_keys(rows, run, from);
     run.sort_unstable();
