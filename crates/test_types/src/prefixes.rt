@@ -3,7 +3,7 @@
 use super::calls::{add_stream, copied, empty_table, list_of};
 use std::alloc::{AllocError, Global};
 use std::test::Fail;
-use test_samples::{bytes_of, folding, stream_with};
+use test_samples::{folding, stream_of};
 
 /// An argument list whose arguments are ints, but for the last one.
 fn ending(alloc: Global, count: u16, last: u32) -> Result<Vec<u8>, AllocError> {
@@ -19,18 +19,28 @@ fn ending(alloc: Global, count: u16, last: u32) -> Result<Vec<u8>, AllocError> {
     Ok(record)
 }
 
+/// The last arguments, in the order in which the types come.
+const LAST: [u32; 6] = [0x14, 0x10, 0x12, 0x15, 0x11, 0x13];
+
+/// The records that end with these arguments, one after the other.
+fn endings(alloc: Global, count: u16, arguments: &[u32]) -> Result<Vec<u8>, AllocError> {
+    let mut bytes = Vec::new(alloc);
+    for last in arguments {
+        bytes.extend_from_slice(&ending(alloc, count, *last)?)?;
+    }
+    Ok(bytes)
+}
+
 #[test]
 fn equal_bytes_before_the_first_other_one(rt: HostRuntime) -> Result<(), Fail> {
-    // The first other byte is at the offset 8, 12, 16, 20 and 65,004.
-    for count in [1, 2, 3, 4, 16_250] {
-        let least = ending(rt.alloc(), count, 0x10)?;
-        let middle = ending(rt.alloc(), count, 0x11)?;
-        let greatest = ending(rt.alloc(), count, 0x12)?;
-        let stream = stream_with(rt.alloc(), &[&greatest, &least, &middle])?;
+    // The first other byte is at the offset 8, 12, 16, 20, 68, 72, 76 and 65,004.
+    for count in [1, 2, 3, 4, 16, 17, 18, 16_250] {
+        let stream = stream_of(rt.alloc(), 6, &endings(rt.alloc(), count, &LAST)?)?;
         let mut table = empty_table(rt.alloc(), folding());
         add_stream(&mut table, rt.alloc(), &stream, 1 << 20)?;
         let canon = list_of(rt.alloc(), &table)?;
-        let want = bytes_of(rt.alloc(), &[&least, &middle, &greatest])?;
+        let sorted = [0x10, 0x11, 0x12, 0x13, 0x14, 0x15];
+        let want = endings(rt.alloc(), count, &sorted)?;
         assert!(rt; copied(rt.alloc(), &canon)? == want, "{count} arguments");
     }
     Ok(())
