@@ -17,7 +17,7 @@ use pdb_commands::run_check;
 use pdb_info::{Info, Settings, guid_of};
 use pdb_merge::{Buffer, merge_to, read_records, read_types};
 use record_set::RecordSet;
-use std::alloc::Allocator;
+use std::alloc::{AllocError, Allocator, Global};
 use std::hash::BuildHasher;
 use std::test::Fail;
 use test_samples::{CONST, TO_FIRST, TO_INT, VOLATILE, folding, sample, stream_with};
@@ -209,20 +209,38 @@ fn types_in_canonical_order(rt: HostRuntime) -> Result<(), Fail> {
     Ok(())
 }
 
+/// The types of a TPI stream.
+fn types_in(alloc: Global, stream: &[u8]) -> Result<Types<'_>, Fail> {
+    let records = Records::read(alloc, stream)?;
+    Ok(Types::check(alloc, records)?)
+}
+
+/// How the records of one list of types stand to another list.
+fn standings(
+    alloc: Global,
+    first: &Types<'_>,
+    second: &Types<'_>,
+) -> Result<Vec<Standing>, AllocError> {
+    let difference = compare(alloc, first, second, folding())?;
+    Ok(difference.first)
+}
+
+/// How the records of one stream stand to those of another one.
+fn standings_in(alloc: Global, one: &[u8], other: &[u8]) -> Result<Vec<Standing>, Fail> {
+    let first = types_in(alloc, one)?;
+    let second = types_in(alloc, other)?;
+    Ok(standings(alloc, &first, &second)?)
+}
+
 /// `type_difference` tells which types one list has and the other lacks, and where that begins.
 #[test]
 fn where_two_lists_differ(rt: HostRuntime) -> Result<(), Fail> {
     // a const int and a pointer to it, and a volatile int and a pointer to it
     let one = stream_with(rt.alloc(), &[CONST, TO_FIRST])?;
     let other = stream_with(rt.alloc(), &[VOLATILE, TO_FIRST])?;
-    let first = Types::check(rt.alloc(), Records::read(rt.alloc(), &one)?)?;
-    let second = Types::check(rt.alloc(), Records::read(rt.alloc(), &other)?)?;
-    let difference = compare(rt.alloc(), &first, &second, folding())?;
-    let [ints, pointers] = difference.first.as_slice() else {
-        return Err("another number of records".into());
-    };
-    assert!(rt; matches!(ints, Standing::Origin));
-    assert!(rt; matches!(pointers, Standing::Follows));
+    let found = standings_in(rt.alloc(), &one, &other)?;
+    let want = [Standing::Origin, Standing::Follows];
+    assert_eq!(rt; found.as_slice(), want.as_slice());
     Ok(())
 }
 

@@ -19,29 +19,56 @@ fn ending(alloc: Global, count: u16, last: u32) -> Result<Vec<u8>, AllocError> {
     Ok(record)
 }
 
-/// The last arguments, in the order in which the types come.
+/// The last arguments, in the order in which the types come, and in the order of their bytes.
 const LAST: [u32; 6] = [0x14, 0x10, 0x12, 0x15, 0x11, 0x13];
 
-/// The records that end with these arguments, one after the other.
+const SORTED: [u32; 6] = [0x10, 0x11, 0x12, 0x13, 0x14, 0x15];
+
+/// How many arguments the lists have. The first other byte is at the offset 8, 12, 16, 20, 68, 72,
+/// 76 and 65,004.
+const COUNTS: [u16; 8] = [1, 2, 3, 4, 16, 17, 18, 16_250];
+
+/// Appends the argument list that ends with this argument.
+fn push_ending(
+    bytes: &mut Vec<u8>,
+    alloc: Global,
+    count: u16,
+    last: u32,
+) -> Result<(), AllocError> {
+    let record = ending(alloc, count, last)?;
+    bytes.extend_from_slice(&record)
+}
+
+/// The argument lists that end with these arguments, one after the other.
 fn endings(alloc: Global, count: u16, arguments: &[u32]) -> Result<Vec<u8>, AllocError> {
     let mut bytes = Vec::new(alloc);
     for last in arguments {
-        bytes.extend_from_slice(&ending(alloc, count, *last)?)?;
+        push_ending(&mut bytes, alloc, count, *last)?;
     }
     Ok(bytes)
 }
 
+/// The canonical list of the types of a stream.
+fn listed(alloc: Global, stream: &[u8]) -> Result<Vec<u8>, Fail> {
+    let mut table = empty_table(alloc, folding());
+    add_stream(&mut table, alloc, stream, 1 << 20)?;
+    let canon = list_of(alloc, &table)?;
+    copied(alloc, &canon)
+}
+
+/// Whether the lists of so many arguments are listed in the order of their bytes.
+fn are_in_order(alloc: Global, count: u16) -> Result<bool, Fail> {
+    let records = endings(alloc, count, &LAST)?;
+    let stream = stream_of(alloc, 6, &records)?;
+    let list = listed(alloc, &stream)?;
+    let want = endings(alloc, count, &SORTED)?;
+    Ok(list == want)
+}
+
 #[test]
 fn equal_bytes_before_the_first_other_one(rt: HostRuntime) -> Result<(), Fail> {
-    // The first other byte is at the offset 8, 12, 16, 20, 68, 72, 76 and 65,004.
-    for count in [1, 2, 3, 4, 16, 17, 18, 16_250] {
-        let stream = stream_of(rt.alloc(), 6, &endings(rt.alloc(), count, &LAST)?)?;
-        let mut table = empty_table(rt.alloc(), folding());
-        add_stream(&mut table, rt.alloc(), &stream, 1 << 20)?;
-        let canon = list_of(rt.alloc(), &table)?;
-        let sorted = [0x10, 0x11, 0x12, 0x13, 0x14, 0x15];
-        let want = endings(rt.alloc(), count, &sorted)?;
-        assert!(rt; copied(rt.alloc(), &canon)? == want, "{count} arguments");
+    for count in COUNTS {
+        assert!(rt; are_in_order(rt.alloc(), count)?, "{count} arguments");
     }
     Ok(())
 }
