@@ -29,21 +29,19 @@
 
 mod buffer;
 mod fault;
-mod files;
 pub mod laws;
 mod merge;
-mod merged;
+mod merging;
 mod read;
 mod read_at;
 mod summary;
-mod written;
 
 pub use buffer::Buffer;
 pub use fault::{AddFault, MergeFault, OutFault, PdbFault};
-pub use files::merge_files;
 pub use merge::Merge;
-pub use merged::merge_to;
+pub use merging::merge_files::merge_files;
+pub use merging::merge_to::merge_to;
+pub use merging::write_merged::write_merged;
 pub use read::{read_records, read_types};
 pub use read_at::{read_records_at, read_records_of, read_types_at, read_types_of};
 pub use summary::Summary;
-pub use written::write_merged;

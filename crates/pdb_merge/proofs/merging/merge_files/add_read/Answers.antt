@@ -3,7 +3,7 @@ use Rattle.byte_io.specs.Inputs.{Give}
 use Rattle.std.proofs.lemmas.List.{take_more}
 use Rattle.pdb_merge.proofs.InputLaws.{given_file, some_bytes, more_read, unread_refuses, file_refuses}
 use Rattle.pdb_merge.proofs.MergingLaws.{stops_whole, alone_whole}
-use Rattle.pdb_merge.proofs.files.add_read.Goals as goal
+use Rattle.pdb_merge.proofs.merging.merge_files.add_read.Goals as goal
 
 pub check_rest-requires : goal.check_rest-requires
 check_rest-requires g c =

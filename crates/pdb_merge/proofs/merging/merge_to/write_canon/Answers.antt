@@ -1,7 +1,7 @@
 use Rattle.std.proofs.Common.{arith}
 use Rattle.type_table.proofs.CanonTableLaws.{canon_short}
 use Rattle.canonical_list.proofs.FinishLaws.{table_small}
-use Rattle.pdb_merge.proofs.merged.write_canon.Goals as goal
+use Rattle.pdb_merge.proofs.merging.merge_to.write_canon.Goals as goal
 
 pub overflow_cast-types : goal.overflow_cast-types
 overflow_cast-types g c =

@@ -1,6 +1,6 @@
 use Rattle.pdb_merge.specs.Merged.{type_stream, merged_file}
 use Rattle.pdb_merge.proofs.FitLaws.{merged_writable}
-use Rattle.pdb_merge.proofs.written.write_merged_len.Goals as goal
+use Rattle.pdb_merge.proofs.merging.write_merged.write_merged_len.Goals as goal
 
 pub returns-clause-value : goal.returns-clause-value
 unfolding merged_file type_stream

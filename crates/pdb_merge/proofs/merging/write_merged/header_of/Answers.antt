@@ -1,7 +1,7 @@
 use Rattle.std.proofs.Common.{arith}
 use Rattle.type_table.proofs.CanonTableLaws.{canon_short}
 use Rattle.canonical_list.proofs.FinishLaws.{table_small}
-use Rattle.pdb_merge.proofs.written.header_of.Goals as goal
+use Rattle.pdb_merge.proofs.merging.write_merged.header_of.Goals as goal
 
 pub overflow_cast-count : goal.overflow_cast-count
 overflow_cast-count g c =

@@ -1,7 +1,7 @@
 use Rattle.std.proofs.Common.{◌≤◌, arith}
 use Rattle.std.proofs.lemmas.Result.{err_from_is_err_and}
 use Rattle.pdb_merge.proofs.InputLaws.{every_read}
-use Rattle.pdb_merge.proofs.files.add_all.Goals as goal
+use Rattle.pdb_merge.proofs.merging.merge_files.add_all.Goals as goal
 
 pub returns-in_err-add_input-clause-refuses : goal.returns-in_err-add_input-clause-refuses
 returns-in_err-add_input-clause-refuses g c =

@@ -1,5 +1,5 @@
 use Rattle.pdb_merge.proofs.FileLaws.{wrote, wrote_part}
-use Rattle.pdb_merge.proofs.merged.merge_to.Goals as goal
+use Rattle.pdb_merge.proofs.merging.merge_to.merge_to.Goals as goal
 
 pub returns-clause-value : goal.returns-clause-value
 returns-clause-value g c = λ given is.

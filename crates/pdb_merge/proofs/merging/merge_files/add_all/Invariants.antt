@@ -4,7 +4,7 @@ use Rattle.byte_io.specs.Inputs.{Give, CanRead}
 use Rattle.closed_trees.specs.Tree.{IsType}
 use Rattle.pdb_merge.specs.Union.{Within}
 use Rattle.pdb_merge.specs.Merging.{HasTaken}
-use Rattle.pdb_merge.proofs.files.add_all.Given as goal
+use Rattle.pdb_merge.proofs.merging.merge_files.add_all.Given as goal
 
 abbrev pub invariant-loop-input : goal.invariant-loop-input
 invariant-loop-input g l = record {

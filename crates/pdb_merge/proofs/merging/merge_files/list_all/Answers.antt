@@ -4,7 +4,7 @@ use Rattle.pdb_merge.specs.Answer.{AcceptsFiles}
 use Rattle.pdb_merge.specs.Merging.{MergeView}
 use Rattle.pdb_merge.proofs.MergingLaws.{taken_can}
 use Rattle.pdb_merge.proofs.ReadBackLaws.{canon_within}
-use Rattle.pdb_merge.proofs.files.list_all.Goals as goal
+use Rattle.pdb_merge.proofs.merging.merge_files.list_all.Goals as goal
 
 pub returns-in-Ok-clause-accepts : goal.returns-in-Ok-clause-accepts
 returns-in-Ok-clause-accepts g c =

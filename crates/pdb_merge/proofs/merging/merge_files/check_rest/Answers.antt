@@ -1,5 +1,5 @@
 use Rattle.pdb_merge.proofs.InputLaws.{is_unread, more_read, unread_refuses}
-use Rattle.pdb_merge.proofs.files.check_rest.Goals as goal
+use Rattle.pdb_merge.proofs.merging.merge_files.check_rest.Goals as goal
 
 pub returns-in-Err-clause-refuses : goal.returns-in-Err-clause-refuses
 returns-in-Err-clause-refuses g c = λ limit.

@@ -10,9 +10,9 @@ ghost use Rattle.pdb_merge.specs.Merged.{merged_file, WroteFile, Wrote, WrotePar
 ghost use Rattle.pdb_merge.specs.declared.fault.MergeFault.{MergeFault};
 
 use crate::fault::OutFault;
-use crate::files::merge_files;
+use crate::merging::merge_files::merge_files;
+use crate::merging::write_merged::write_merged_len;
 use crate::summary::Summary;
-use crate::written::write_merged_len;
 use byte_io::{Inputs, Sink};
 use msf_streams::WriteFault;
 use pdb_info::Settings;

@@ -1,6 +1,6 @@
 use Rattle.std.proofs.Common.{◌≡◌}
 use Rattle.pdb_merge.proofs.InputLaws.{on_ok}
-use Rattle.pdb_merge.proofs.files.add_opened.Goals as goal
+use Rattle.pdb_merge.proofs.merging.merge_files.add_opened.Goals as goal
 
 pub returns-in-Ok-clause-taken : goal.returns-in-Ok-clause-taken
 returns-in-Ok-clause-taken g c = λ file has files taken.
