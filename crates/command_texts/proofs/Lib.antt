@@ -1,3 +1,4 @@
+pub mod DifferenceLaws
 pub mod RecordsLaws
 pub mod StreamsLaws
 pub mod TextLaws

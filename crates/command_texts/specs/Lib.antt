@@ -1,4 +1,5 @@
 pub mod Check
+pub mod Difference
 pub mod Info
 pub mod Record
 pub mod Records

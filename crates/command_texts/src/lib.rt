@@ -2,9 +2,9 @@
 //!
 //! [`push_index`], [`push_kind`], [`push_named`] and [`push_quoted`] append a number, a line with a
 //! name and a number, or bytes in quotes. The others make what one command prints, or a part of it:
-//! [`record_text`], [`record_lines`], [`push_type_line`], [`layout_text`], [`push_checked`], and for
-//! `info` [`push_info_header`], [`push_names`] and [`push_features`]. [`names_length`] says how many
-//! bytes `info` asks for before it appends the names.
+//! [`record_text`], [`record_lines`], [`push_type_line`], [`layout_text`], [`push_checked`],
+//! [`push_difference`], and for `info` [`push_info_header`], [`push_names`] and [`push_features`].
+//! [`names_length`] says how many bytes `info` asks for before it appends the names.
 //!
 //! What is proved: after Ok the text is the old one, and after it the bytes that `specs/` names for
 //! the values. The only fault is that memory is out, and nothing is said of the text after it. Of
@@ -18,6 +18,7 @@
 #![tactic(auto)]
 
 mod check;
+mod difference;
 mod info;
 mod record;
 mod records;
@@ -26,6 +27,7 @@ mod text;
 mod types;
 
 pub use check::push_checked;
+pub use difference::{Scope, push_difference};
 pub use info::{names_length, push_features, push_info_header, push_names};
 pub use record::record_text;
 pub use records::record_lines;
