@@ -2,6 +2,7 @@
 use Rattle.std.proofs.Common.{◌≡◌, ◌∙◌, ◌<◌, ◌≤◌, ◌+◌, ◌⊎◌, ℕ, List, [], Option, Some, None, length, map, get_or, refl, sym, ap, subst, arith, inl, inr}
 use Rattle.std.proofs.lemmas.Bool.{cases_lt}
 use Rattle.std.specs.Prelude.{Result, Ok, Err, IfOk, OnOk, IfSome, slice_get, option_map}
+use Rattle.std.proofs.lemmas.List.{length-map}
 use Rattle.std.proofs.lemmas.Option.{slice_get-map, slice_get_cases, get_or_from_slice_get}
 use Rattle.byte_io.specs.At.{Bytes}
 use Rattle.byte_io.specs.Inputs.{Give, CanRead, HasBytes}
@@ -9,14 +10,19 @@ use Rattle.byte_io.specs.declared.inputs.Opened.{Opened}
 use Rattle.byte_io.specs.declared.inputs.InputFault.{InputFault}
 use Rattle.byte_io.specs.declared.inputs.InputFault.TheVariants as inputs
 use Rattle.byte_io.specs.declared.input.ReadFault.TheVariants as reads
-use Rattle.pdb_merge.specs.Fault.{merge_from_input, merge_from_add, AddNamesFault, NamesFault}
-use Rattle.pdb_merge.specs.Answer.{RefusesFiles}
-use Rattle.pdb_merge.specs.Union.{CanMerge, IsMergeFault, ReadsFirst}
+use Rattle.pdb_merge.specs.Fault.{merge_from_input, merge_from_add, add_from_pdb, AddNamesFault, NamesFault}
+use Rattle.pdb_merge.specs.Answer.{RefusesFiles, RefusesReading}
+use Rattle.pdb_merge.specs.Read.{HasPdbFault}
+use Rattle.pdb_merge.specs.Union.{AcceptedBelow, CanMerge, IsMergeFault, IsReadingFault, ReadsFirst}
+use Rattle.pdb_merge.proofs.MemoryLaws.{pdb_named}
+use Rattle.pdb_merge.proofs.ReadLaws.{accepted_unrefused}
 use Rattle.pdb_merge.proofs.UnionLaws.{refuses_files}
 use Rattle.pdb_merge.specs.declared.fault.AddFault.{AddFault}
 use Rattle.pdb_merge.specs.declared.fault.AddFault.TheVariants as add
 use Rattle.pdb_merge.specs.declared.fault.MergeFault.{MergeFault}
 use Rattle.pdb_merge.specs.declared.fault.MergeFault.TheVariants as merge
+use Rattle.pdb_merge.specs.declared.fault.PdbFault.{PdbFault}
+use Rattle.pdb_merge.specs.declared.fault.PdbFault.TheVariants as pdb
 
 -- ---- files that can all be read
 
@@ -155,3 +161,49 @@ pub file_refuses : {A : Type 0} (known : Option (List (Result (List ℕ) InputFa
     → AddNamesFault inner → outer ≡ merge_from_add i inner → ((given : List (List ℕ)) → Give known given → IsMergeFault given limit outer)
     → ((given : List (List ℕ)) → Give known given → CanMerge given limit → outer ≡ merge.Memory) → RefusesFiles known limit outer
 file_refuses known i limit inner outer all named made first found = refuses_files known limit outer first (refused_last known i inner outer all made) (add_named i inner outer named made) found
+
+-- ---- inputs whose types are not read
+
+-- where every file is accepted, only out of memory stops the reading
+reading_alone : {A : Type 0} (files : List (List ℕ)) (fault : MergeFault A) → IsReadingFault files fault → AcceptedBelow files (length files) → fault ≡ merge.Memory
+reading_alone files (merge.Input file inner) stops accepted = absurd stops
+reading_alone files (merge.Refused file inner) (inside, below, refused) accepted =
+    let has = accepted file inside in
+    absurd (accepted_unrefused (get_or files file []) has.0 inner has.1 refused)
+reading_alone files (merge.TooLarge file heavy) stops accepted = absurd stops
+reading_alone files merge.Memory stops accepted = refl
+
+-- the first fault of the files refuses reading, where reading comes first
+refuses_reading : {A : Type 0} (known : Option (List (Result (List ℕ) InputFault))) (fault : MergeFault A) → ((given : List (List ℕ)) → Give known given → IsReadingFault given fault)
+    → IfSome known (λ each. ReadsFirst each fault) → NamesFault fault → RefusesReading known fault
+refuses_reading known fault first reads named = record {
+  first = first;
+  reads = reads;
+  named = named;
+  found = λ given gives accepted. reading_alone given fault (first given gives) accepted;
+}
+
+-- the fault of an input that is not read, where those before it are, refuses reading
+pub unread_refuses_reading : {A : Type 0} (known : Option (List (Result (List ℕ) InputFault))) (i : ℕ) (inner : InputFault) (outer : MergeFault A) → IfSome known (λ each. CanRead each i)
+    → IsUnread known i inner → outer ≡ merge_from_input i inner → RefusesReading known outer
+unread_refuses_reading known i inner outer before is made =
+    refuses_reading known outer (λ given gives. rw (given_unread known given i inner outer gives is made) tt) (unread_first known i inner outer before is made) (input_named i inner outer made)
+
+-- an input within the inputs is within the files that they give
+given_inside : (known : Option (List (Result (List ℕ) InputFault))) (files : List (List ℕ)) (i : ℕ) → Give known files → IfSome known (λ each. i < length each) → i < length files
+given_inside known files i given inside = rw length-map at (rw given at inside)
+
+-- the fault of a file stops the reading, where the files before it are accepted
+file_stops : {A : Type 0} (files : List (List ℕ)) (i : ℕ) (inner : PdbFault A) (outer : MergeFault A) → i < length files → outer ≡ merge_from_add i (add_from_pdb inner)
+    → AcceptedBelow files i × (HasPdbFault (get_or files i []) inner ⊎ (inner ≡ pdb.Memory)) → IsReadingFault files outer
+file_stops files i pdb.Memory outer inside made (below, is) = rw made tt
+file_stops files i inner outer inside made (below, inl refused) = rw made (inside, below, refused)
+file_stops files i inner outer inside made (below, inr memory) = absurd cc
+
+-- the fault of a file refuses reading, where all are read, and those before it are accepted
+pub file_refuses_reading : {A : Type 0} (known : Option (List (Result (List ℕ) InputFault))) (i : ℕ) (inner : PdbFault A) (outer : MergeFault A) → IfSome known (λ each. CanRead each (length each))
+    → IfSome known (λ each. i < length each) → outer ≡ merge_from_add i (add_from_pdb inner)
+    → ((given : List (List ℕ)) → Give known given → AcceptedBelow given i × (HasPdbFault (get_or given i []) inner ⊎ (inner ≡ pdb.Memory))) → RefusesReading known outer
+file_refuses_reading known i inner outer all inside made has =
+    refuses_reading known outer (λ given gives. file_stops given i inner outer (given_inside known given i gives inside) made (has given gives))
+    (refused_last known i (add_from_pdb inner) outer all made) (add_named i (add_from_pdb inner) outer (pdb_named inner (add_from_pdb inner) refl) made)

@@ -114,6 +114,12 @@ IsMergeFault files limit (merge.TooLarge file bytes) =
 IsMergeFault files limit merge.Memory = Unit {0}
 IsMergeFault files limit (merge.Input file fault) = ⊥
 
+-- this is why the types of the files are not read: those before one of them are accepted, and it has this fault; or it is out of memory
+abbrev pub IsReadingFault : {A : Type 0} → List (List ℕ) → MergeFault A → Type 0
+IsReadingFault files (merge.Refused file fault) = (file < length files) × AcceptedBelow files file × HasPdbFault (get_or files file []) fault
+IsReadingFault files merge.Memory = Unit {0}
+IsReadingFault files _ = ⊥
+
 -- reading comes first: this fault is that of the first input that cannot be read, or every input can be read, or it is out of memory
 abbrev pub ReadsFirst : {A : Type 0} → List (Result (List ℕ) InputFault) → MergeFault A → Type 0
 ReadsFirst each (merge.Input file fault) = IsFirstUnread each file fault

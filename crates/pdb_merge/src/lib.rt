@@ -12,6 +12,8 @@
 //! - [`read_records_at`] and [`read_types_at`] read the type records and the types by position: of
 //!   the file only its directory and the blocks of its TPI stream. [`read_records_of`] and
 //!   [`read_types_of`] do so where the layout of the file was read before.
+//! - [`read_input_types`] reads the types of one of several inputs, as a merge reads it. They are lent
+//!   from an [`InputBuffer`].
 //! - [`merge_to`] merges files: it writes one file with the types of all of them, each once, into
 //!   a sink. [`merge_files`] returns their canonical list, and [`write_merged`] writes the file of
 //!   such a list. [`Merge`] takes files one after the other, whole or by position.
@@ -29,6 +31,7 @@
 
 mod buffer;
 mod fault;
+mod input_types;
 pub mod laws;
 mod merge;
 mod merging;
@@ -38,6 +41,7 @@ mod summary;
 
 pub use buffer::Buffer;
 pub use fault::{AddFault, MergeFault, OutFault, PdbFault};
+pub use input_types::{InputBuffer, read_input_types};
 pub use merge::Merge;
 pub use merging::merge_files::merge_files;
 pub use merging::merge_to::merge_to;

@@ -8,7 +8,7 @@ ghost use Rattle.closed_trees.specs.Tree.{IsType};
 ghost use Rattle.canonical_list.specs.Finish.{IsCanonOf};
 ghost use Rattle.pdb_info.specs.Settings.{record_limit};
 ghost use Rattle.pdb_merge.specs.Fault.{merge_from_add, merge_from_input, AddNamesFault};
-ghost use Rattle.pdb_merge.specs.Answer.{AcceptsFiles, RefusesFiles};
+ghost use Rattle.pdb_merge.specs.Answer.{AcceptsFiles, RefusesFiles, RefusesReading};
 ghost use Rattle.pdb_merge.specs.Union.{HasType, Within, CanMerge, IsMergeFault};
 ghost use Rattle.pdb_merge.specs.Merging.{HasTaken};
 
@@ -22,7 +22,7 @@ use std::hash::BuildHasher;
 use type_trees::Canon;
 
 /// The fault of the file at this position.
-fn at_file<A: Allocator>(file: usize, fault: AddFault<A>) -> MergeFault<A>
+pub(crate) fn at_file<A: Allocator>(file: usize, fault: AddFault<A>) -> MergeFault<A>
     ensures { result ≡ merge_from_add file fault }
 {
     match fault {
@@ -33,7 +33,7 @@ fn at_file<A: Allocator>(file: usize, fault: AddFault<A>) -> MergeFault<A>
 }
 
 /// The fault of reading the file at this position.
-fn input_fault<A: Allocator>(file: usize, fault: InputFault) -> MergeFault<A>
+pub(crate) fn input_fault<A: Allocator>(file: usize, fault: InputFault) -> MergeFault<A>
     ensures { result ≡ merge_from_input file fault }
 {
     match fault {
@@ -43,10 +43,14 @@ fn input_fault<A: Allocator>(file: usize, fault: InputFault) -> MergeFault<A>
 }
 
 /// Checks that the inputs from this one on can be read.
-fn check_rest<I: Inputs, A: Allocator>(inputs: &I, first: usize) -> Result<(), MergeFault<A>>
+pub(crate) fn check_rest<I: Inputs, A: Allocator>(
+    inputs: &I,
+    first: usize,
+) -> Result<(), MergeFault<A>>
     requires { IfSome (I.known inputs.now) (λ each. CanRead each first) }
     ensures value { OnOk result (IfSome (I.known inputs.now) (λ each. CanRead each (length each))) }
     ensures refuses { (limit : ℕ) → IfErr result (RefusesFiles (I.known inputs.now) limit) }
+    ensures reading { IfErr result (RefusesReading (I.known inputs.now)) }
 {
     for input in first..inputs.count() {
         if let Err(fault) = inputs.check(input) {
