@@ -1,4 +1,5 @@
 pub mod BoundLaws
+pub mod DifferenceLaws
 pub mod FreeLaws
 pub mod InfoLaws
 pub mod LayoutLaws

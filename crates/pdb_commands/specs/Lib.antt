@@ -1,4 +1,5 @@
 pub mod Check
+pub mod Difference
 pub mod Fault
 pub mod Info
 pub mod Merge

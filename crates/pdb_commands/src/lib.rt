@@ -3,8 +3,8 @@
 //! Most commands show a file: [`run_records`], [`run_record`], [`run_types`], [`run_check`],
 //! [`run_info`] and [`run_streams`]. Such a command reads a [`Source`](msf_blocks::Source) to its
 //! end, makes its whole text, and then writes it into a [`Sink`](msf_blocks::Sink). [`run_merge`]
-//! writes one file with the types of several files, and a report on it. Each refusal is a
-//! [`RunFault`]. [`run_shown`] runs any command that shows a file, with a limit on the stream that it
+//! writes one file with the types of several files, and a report on it. [`run_diff`] shows the types
+//! that only one of two files has. Each refusal is a [`RunFault`]. [`run_shown`] runs any command that shows a file, with a limit on the stream that it
 //! reads, and [`check_type_stream`] is that limit.
 //!
 //! [`run_records_at`], [`run_record_at`], [`run_types_at`], [`run_check_at`], [`run_info_at`],
@@ -27,6 +27,7 @@
 mod bound;
 mod check;
 mod command;
+mod difference;
 mod fault;
 mod info;
 mod merge;
@@ -38,6 +39,8 @@ mod types;
 
 pub use bound::{check_type_stream, check_type_stream_at};
 pub use check::{run_check, run_check_at};
+pub use command_texts::Scope;
+pub use difference::run_diff;
 pub use fault::RunFault;
 pub use info::{run_info, run_info_at};
 pub use merge::run_merge;
