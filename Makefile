@@ -41,8 +41,10 @@ test:
 	tools/columns
 	tests/program $(PROGRAM)
 	tests/examples $(PROGRAM)
+	tests/examples $(PROGRAM) examples/differences
 	tests/answers $(PROGRAM)
 	tests/rows $(PROGRAM)
+	tests/difference $(PROGRAM)
 	tests/failures $(PROGRAM)
 	tests/position $(PROGRAM)
 	tests/surroundings $(PROGRAM)

@@ -13,7 +13,7 @@ _pdbmerge_words() { # WORD WORDS
 }
 
 _pdbmerge() {
-    local commands='merge records record types check streams info help'
+    local commands='merge diff records record types check streams info help'
     local sizes='512 1024 2048 4096 8192 16384 32768'
     local word=${COMP_WORDS[COMP_CWORD]}
     local before=${COMP_WORDS[COMP_CWORD - 1]}
@@ -30,6 +30,7 @@ _pdbmerge() {
     fi
     case $command in
         merge) options='--guid --age --limit --block-size --max-bytes -h --help' ;;
+        diff) options='--origins --max-bytes -h --help' ;;
         records | record | types | check | streams | info) options='--max-bytes -h --help' ;;
         help)
             if ((COMP_CWORD == 2)); then
@@ -56,16 +57,19 @@ _pdbmerge() {
         _pdbmerge_words "$word" "$options"
         return
     fi
-    # All commands but merge read one file. The number behind an option is none.
+    # How many files were given. The number behind an option is none.
     given=0
     for ((k = 2; k < COMP_CWORD; k++)); do
         if [[ ${COMP_WORDS[k]} != -* && ${COMP_WORDS[k]} != '=' && ${COMP_WORDS[k - 1]} != --max-bytes && ${COMP_WORDS[k - 1]} != '=' ]]; then
-            given=1
+            given=$((given + 1))
         fi
     done
-    if [[ $command == merge || $given == 0 ]]; then
-        _pdbmerge_files "$word"
-    fi
+    # merge reads any number of files, diff two, and each other command one.
+    case $command in
+        merge) _pdbmerge_files "$word" ;;
+        diff) ((given < 2)) && _pdbmerge_files "$word" ;;
+        *) ((given < 1)) && _pdbmerge_files "$word" ;;
+    esac
 }
 
 complete -F _pdbmerge pdbmerge

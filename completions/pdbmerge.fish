@@ -16,22 +16,26 @@ function __pdbmerge_has_no_command
     test (count (commandline -opc)) = 1
 end
 
-# Whether the command of the line is one of the given ones, and nothing but options follows it.
-function __pdbmerge_has_only
+# Whether the command of the line is one of the given ones, and fewer files than MANY follow it. The
+# number behind an option is none.
+function __pdbmerge_has_fewer # MANY COMMANDS
     set -l words (commandline -opc)
-    contains -- "$words[2]" $argv
+    contains -- "$words[2]" $argv[2..]
     or return 1
     set -l before ''
+    set -l given 0
     for word in $words[3..]
         string match -q -- '-*' $word
         or test "$before" = --max-bytes
-        or return 1
+        or set given (math $given + 1)
         set before $word
     end
+    test $given -lt $argv[1]
 end
 
 complete -c pdbmerge -f
 complete -c pdbmerge -n __pdbmerge_has_no_command -a merge -d 'Merges the types of files into one'
+complete -c pdbmerge -n __pdbmerge_has_no_command -a diff -d 'Shows the types that only one of two files has'
 complete -c pdbmerge -n __pdbmerge_has_no_command -a records -d 'Shows each type record'
 complete -c pdbmerge -n __pdbmerge_has_no_command -a record -d 'Shows one type record'
 complete -c pdbmerge -n __pdbmerge_has_no_command -a types -d 'Shows each type record, with the types that it names'
@@ -44,9 +48,11 @@ complete -c pdbmerge -n 'not __pdbmerge_command_is help' -s h -l help -d 'Prints
 complete -c pdbmerge -n '__pdbmerge_command_is merge' -x -l guid -d 'The GUID of the file that is written'
 complete -c pdbmerge -n '__pdbmerge_command_is merge' -x -l age -d 'Its age'
 complete -c pdbmerge -n '__pdbmerge_command_is merge' -x -l limit -d 'How many bytes the types may have together'
-complete -c pdbmerge -n '__pdbmerge_command_is merge records record types check streams info' -x -l max-bytes -d 'The greatest number of bytes of a file or a stream'
+complete -c pdbmerge -n '__pdbmerge_command_is merge diff records record types check streams info' -x -l max-bytes -d 'The greatest number of bytes of a file or a stream'
 complete -c pdbmerge -n '__pdbmerge_command_is merge' -x -l block-size -a '512 1024 2048 4096 8192 16384 32768' -d 'How many bytes a block of the file has'
+complete -c pdbmerge -n '__pdbmerge_command_is diff' -l origins -d 'Only the types where the difference begins'
 
 complete -c pdbmerge -n '__pdbmerge_command_is merge' -a '(__pdbmerge_files)'
-complete -c pdbmerge -n '__pdbmerge_has_only records record types check streams info' -a '(__pdbmerge_files)'
-complete -c pdbmerge -n '__pdbmerge_has_only help' -a 'merge records record types check streams info help'
+complete -c pdbmerge -n '__pdbmerge_has_fewer 2 diff' -a '(__pdbmerge_files)'
+complete -c pdbmerge -n '__pdbmerge_has_fewer 1 records record types check streams info' -a '(__pdbmerge_files)'
+complete -c pdbmerge -n '__pdbmerge_has_fewer 1 help' -a 'merge diff records record types check streams info help'

@@ -5,6 +5,7 @@ ghost use Rattle.std.specs.Prelude.{◌≡◌, []};
 use crate::fault::LineFault;
 use crate::index::read_index;
 use clap::{Arg, ArgAction, ArgMatches, Command};
+use pdb_commands::{Scope, Shown};
 use pdb_info::Settings;
 use std::alloc::{AllocError, Global};
 use uuid::Uuid;
@@ -18,6 +19,10 @@ const ABOUT: &str =
 
 /// What `merge` does.
 const MERGE: &str = "Merges the types of files into one: the same types give the same bytes";
+
+/// What `diff` does.
+const DIFF: &str =
+    "Shows the types that only one of two files has: A's own after '- ', B's own after '+ '";
 
 /// A command that reads one file and shows something of it.
 struct ShownCommand {
@@ -103,6 +108,12 @@ const STATUSES: &str =
     "Exit status: 0 done; 1 refused, with one line on standard error that begins \
     with 'pdbmerge: '\nand the fault's number and name; 2 the arguments are wrong.";
 
+/// The exit statuses of `diff`, at the end of its help text.
+const DIFF_STATUSES: &str =
+    "Exit status: 0 the files have the same types; 3 they differ; 1 refused, with one line on \
+    standard\nerror that begins with 'pdbmerge: ' and the fault's number and name; 2 the arguments \
+    are wrong.";
+
 /// The limit of `merge` where its arguments give none, in bytes.
 const LIMIT: u32 = 1_073_741_824;
 
@@ -117,35 +128,17 @@ const MAX_BYTES: u32 = u32::MAX;
 pub enum Line {
     /// There are no arguments.
     Usage,
-    /// `records [--max-bytes N] FILE`
-    Records {
+    /// A command that reads one file: its name, as `types [--max-bytes N] FILE`, and for `record`
+    /// an INDEX after the file.
+    Show {
+        shown: Shown,
         file: String,
         max_bytes: u32,
     },
-    /// `record [--max-bytes N] FILE INDEX`
-    Record {
-        file: String,
-        index: u32,
-        max_bytes: u32,
-    },
-    /// `types [--max-bytes N] FILE`
-    Types {
-        file: String,
-        max_bytes: u32,
-    },
-    /// `check [--max-bytes N] FILE`
-    Check {
-        file: String,
-        max_bytes: u32,
-    },
-    /// `info [--max-bytes N] FILE`
-    Info {
-        file: String,
-        max_bytes: u32,
-    },
-    /// `streams [--max-bytes N] FILE`
-    Streams {
-        file: String,
+    /// `diff [--origins] [--max-bytes N] A B`
+    Diff {
+        scope: Scope,
+        files: Vec<String>,
         max_bytes: u32,
     },
     /// `merge --guid G --age N [--limit L] [--block-size B] [--max-bytes N] OUT IN...`
@@ -219,6 +212,29 @@ fn merging<'a>(alloc: Global) -> Result<Command<'a>, AllocError> {
     command.arg(inputs(alloc))
 }
 
+/// The command that shows the types that only one of two files has.
+#[inline(never)]
+fn differing<'a>(alloc: Global) -> Result<Command<'a>, AllocError> {
+    let origins = Arg::new(alloc, "origins")
+        .long("origins")
+        .help("Only the types whose own named types are all in the other file: where it begins")
+        .action(ArgAction::SetTrue);
+    command(alloc, "diff", DIFF)
+        .after_help(DIFF_STATUSES)
+        .arg(origins)?
+        .arg(option(alloc, &MAX))?
+        .arg(path(
+            alloc,
+            "A",
+            "The PDB file whose own types are shown with '- '",
+        ))?
+        .arg(path(
+            alloc,
+            "B",
+            "The PDB file whose own types are shown with '+ '",
+        ))
+}
+
 /// The program without its commands.
 #[inline(never)]
 fn bare<'a>(alloc: Global) -> Result<Command<'a>, AllocError> {
@@ -233,6 +249,7 @@ fn bare<'a>(alloc: Global) -> Result<Command<'a>, AllocError> {
 #[inline(never)]
 fn program<'a>(alloc: Global) -> Result<Command<'a>, AllocError> {
     let mut program = bare(alloc)?.subcommand(merging(alloc)?)?;
+    program = program.subcommand(differing(alloc)?)?;
     for command in &SHOWN {
         program = program.subcommand(showing(alloc, command)?)?;
     }
@@ -245,19 +262,6 @@ fn argument_of(alloc: Global, arguments: &ArgMatches<'_>, name: &str) -> Result<
         Some(argument) => Ok(String::from_str(alloc, argument)?),
         None => Err(LineFault::Word),
     }
-}
-
-/// The file that a command names.
-fn file_of(alloc: Global, arguments: &ArgMatches<'_>) -> Result<String, LineFault> {
-    argument_of(alloc, arguments, "FILE")
-}
-
-/// The type index that a command names.
-fn index_of(arguments: &ArgMatches<'_>) -> Result<u32, LineFault> {
-    arguments
-        .get_str("INDEX")
-        .and_then(read_index)
-        .ok_or(LineFault::Word)
 }
 
 /// The number in the argument that has a name.
@@ -299,6 +303,30 @@ fn inputs_of(alloc: Global, arguments: &ArgMatches<'_>) -> Result<Vec<String>, L
     Ok(inputs)
 }
 
+/// The two files that are compared.
+fn compared_of(alloc: Global, arguments: &ArgMatches<'_>) -> Result<Vec<String>, LineFault> {
+    let mut files = Vec::new(alloc);
+    files.push(argument_of(alloc, arguments, "A")?)?;
+    files.push(argument_of(alloc, arguments, "B")?)?;
+    Ok(files)
+}
+
+/// What the command with this name shows of a file.
+fn shown_of(name: &str, arguments: &ArgMatches<'_>) -> Result<Shown, LineFault> {
+    match name {
+        "records" => Ok(Shown::Records),
+        "record" => {
+            let index = arguments.get_str("INDEX").and_then(read_index);
+            Ok(Shown::Record(index.ok_or(LineFault::Word)?))
+        }
+        "types" => Ok(Shown::Types),
+        "check" => Ok(Shown::Check),
+        "streams" => Ok(Shown::Streams),
+        "info" => Ok(Shown::Info),
+        _ => Err(LineFault::Word),
+    }
+}
+
 /// Reads the arguments of a command line, which come without the program's name.
 pub fn read_line(alloc: Global, arguments: &[String]) -> Result<Line, LineFault>
     ensures usage { arguments.now ≡ [] → result ≡ Ok Line.Usage }
@@ -308,37 +336,26 @@ pub fn read_line(alloc: Global, arguments: &[String]) -> Result<Line, LineFault>
     }
     let matches = program(alloc)?.try_get_matches_from(arguments)?;
     match matches.subcommand() {
-        Some(("records", arguments)) => Ok(Line::Records {
-            file: file_of(alloc, arguments)?,
-            max_bytes: max_bytes_of(arguments)?,
-        }),
-        Some(("record", arguments)) => Ok(Line::Record {
-            file: file_of(alloc, arguments)?,
-            index: index_of(arguments)?,
-            max_bytes: max_bytes_of(arguments)?,
-        }),
-        Some(("types", arguments)) => Ok(Line::Types {
-            file: file_of(alloc, arguments)?,
-            max_bytes: max_bytes_of(arguments)?,
-        }),
-        Some(("check", arguments)) => Ok(Line::Check {
-            file: file_of(alloc, arguments)?,
-            max_bytes: max_bytes_of(arguments)?,
-        }),
-        Some(("streams", arguments)) => Ok(Line::Streams {
-            file: file_of(alloc, arguments)?,
-            max_bytes: max_bytes_of(arguments)?,
-        }),
-        Some(("info", arguments)) => Ok(Line::Info {
-            file: file_of(alloc, arguments)?,
-            max_bytes: max_bytes_of(arguments)?,
-        }),
         Some(("merge", arguments)) => Ok(Line::Merge {
             settings: settings_of(arguments)?,
             out: argument_of(alloc, arguments, "OUT")?,
             inputs: inputs_of(alloc, arguments)?,
             max_bytes: max_bytes_of(arguments)?,
         }),
-        _ => Err(LineFault::Word),
+        Some(("diff", arguments)) => Ok(Line::Diff {
+            scope: if arguments.get_flag("origins") {
+                Scope::Origins
+            } else {
+                Scope::All
+            },
+            files: compared_of(alloc, arguments)?,
+            max_bytes: max_bytes_of(arguments)?,
+        }),
+        Some((name, arguments)) => Ok(Line::Show {
+            shown: shown_of(name, arguments)?,
+            file: argument_of(alloc, arguments, "FILE")?,
+            max_bytes: max_bytes_of(arguments)?,
+        }),
+        None => Err(LineFault::Word),
     }
 }

@@ -24,7 +24,7 @@ use hold::hold;
 use inputs::InputFiles;
 use line::{Line, USAGE, read_line};
 use output::NewFile;
-use pdb_commands::{RunFault, Shown, run_merge, run_shown, run_shown_file};
+use pdb_commands::{RunFault, Scope, Shown, run_diff, run_merge, run_shown, run_shown_file};
 use pdb_info::Settings;
 use report::{REPORT_LENGTH, is_standard_output, print};
 use std::env;
@@ -32,6 +32,9 @@ use std::hash::{BuildHasher, BuildHasherDefault, DefaultHasher, RandomState};
 use std::io::{self, ErrorKind, writer};
 use std::process::ExitCode;
 use std::rt::Env;
+
+/// The exit status of `diff` where the files differ in their types.
+const DIFFERENT: u8 = 3;
 
 /// The arguments of the command line, without the program's name.
 fn arguments<R: Env + AllocGlobal>(rt: &R) -> Result<Vec<String>, LineFault> {
@@ -104,6 +107,36 @@ fn merge_into(
     }
 }
 
+/// Prints the types that only one of two files has. Returns the exit status.
+fn compare_with<S: BuildHasher + Drop>(
+    rt: &HostRuntime,
+    inputs: &InputFiles<'_, HostRuntime>,
+    scope: Scope,
+    hasher: S,
+) -> Result<ExitCode, ProgramFault> {
+    let mut out = Out::new(writer(rt));
+    if run_diff(rt.alloc(), inputs, scope, &mut out, hasher)? {
+        Ok(ExitCode::SUCCESS)
+    } else {
+        Ok(ExitCode::from(DIFFERENT))
+    }
+}
+
+/// Compares the types of two files, with hashes as [`merge_into`] has them.
+fn compare(
+    rt: &HostRuntime,
+    inputs: &InputFiles<'_, HostRuntime>,
+    scope: Scope,
+) -> Result<ExitCode, ProgramFault> {
+    match RandomState::new(rt) {
+        Ok(hasher) => compare_with(rt, inputs, scope, hasher),
+        Err(_) => {
+            let hasher: BuildHasherDefault<DefaultHasher> = BuildHasherDefault::new();
+            compare_with(rt, inputs, scope, hasher)
+        }
+    }
+}
+
 /// Runs a command that shows a file. What it prints goes to standard output. A regular file is read
 /// only as far as the command needs it.
 fn show(rt: &HostRuntime, command: Shown, file: &str, max_bytes: u32) -> Result<(), ProgramFault> {
@@ -138,23 +171,22 @@ fn show(rt: &HostRuntime, command: Shown, file: &str, max_bytes: u32) -> Result<
     Ok(())
 }
 
-/// Runs a command.
-fn run(rt: &HostRuntime, line: &Line) -> Result<(), ProgramFault> {
+/// Runs a command. Returns the exit status.
+fn run(rt: &HostRuntime, line: &Line) -> Result<ExitCode, ProgramFault> {
     match line {
         Line::Usage => {
             put_all(&mut Out::new(writer(rt)), USAGE.as_bytes()).map_err(|_| RunFault::Write)?;
-            Ok(())
         }
-        Line::Records { file, max_bytes } => show(rt, Shown::Records, file.as_str(), *max_bytes),
-        Line::Record {
+        Line::Show {
+            shown,
             file,
-            index,
             max_bytes,
-        } => show(rt, Shown::Record(*index), file.as_str(), *max_bytes),
-        Line::Types { file, max_bytes } => show(rt, Shown::Types, file.as_str(), *max_bytes),
-        Line::Check { file, max_bytes } => show(rt, Shown::Check, file.as_str(), *max_bytes),
-        Line::Info { file, max_bytes } => show(rt, Shown::Info, file.as_str(), *max_bytes),
-        Line::Streams { file, max_bytes } => show(rt, Shown::Streams, file.as_str(), *max_bytes),
+        } => show(rt, *shown, file.as_str(), *max_bytes)?,
+        Line::Diff {
+            scope,
+            files,
+            max_bytes,
+        } => return compare(rt, &InputFiles::new(rt, files, *max_bytes), *scope),
         Line::Merge {
             settings,
             out,
@@ -168,8 +200,9 @@ fn run(rt: &HostRuntime, line: &Line) -> Result<(), ProgramFault> {
                 out: out.as_str(),
                 max_bytes: *max_bytes,
             },
-        ),
+        )?,
     }
+    Ok(ExitCode::SUCCESS)
 }
 
 /// Prints why the arguments are refused, or the help that they ask for.
@@ -201,7 +234,7 @@ fn main(rt: HostRuntime) -> ExitCode {
         }
     };
     match run(&rt, &line) {
-        Ok(()) => ExitCode::SUCCESS,
+        Ok(status) => status,
         Err(fault) => refuse(&rt, &fault),
     }
 }
