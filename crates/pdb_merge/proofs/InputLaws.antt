@@ -13,7 +13,7 @@ use Rattle.byte_io.specs.declared.input.ReadFault.TheVariants as reads
 use Rattle.pdb_merge.specs.Fault.{merge_from_input, merge_from_add, add_from_pdb, AddNamesFault, NamesFault}
 use Rattle.pdb_merge.specs.Answer.{RefusesFiles, RefusesReading}
 use Rattle.pdb_merge.specs.Read.{HasPdbFault}
-use Rattle.pdb_merge.specs.Union.{AcceptedBelow, CanMerge, IsMergeFault, IsReadingFault, ReadsFirst}
+use Rattle.pdb_merge.specs.Union.{AcceptedBelow, CanMerge, IsMergeFault, IsReadingFault, IsReadingFaultAt, ReadsFirst}
 use Rattle.pdb_merge.proofs.MemoryLaws.{pdb_named}
 use Rattle.pdb_merge.proofs.ReadLaws.{accepted_unrefused}
 use Rattle.pdb_merge.proofs.UnionLaws.{refuses_files}
@@ -199,6 +199,17 @@ file_stops : {A : Type 0} (files : List (List ℕ)) (i : ℕ) (inner : PdbFault 
 file_stops files i pdb.Memory outer inside made (below, is) = rw made tt
 file_stops files i inner outer inside made (below, inl refused) = rw made (inside, below, refused)
 file_stops files i inner outer inside made (below, inr memory) = absurd cc
+
+-- the fault of a file is a fault at its position
+pub file_stops_at : {A : Type 0} (files : List (List ℕ)) (i : ℕ) (inner : PdbFault A) (outer : MergeFault A) → outer ≡ merge_from_add i (add_from_pdb inner)
+    → HasPdbFault (get_or files i []) inner ⊎ (inner ≡ pdb.Memory) → IsReadingFaultAt files i outer
+file_stops_at files i pdb.Memory outer made is = rw made tt
+file_stops_at files i inner outer made (inl refused) = rw made (refl, refused)
+file_stops_at files i inner outer made (inr memory) = absurd cc
+
+-- so is out of memory
+pub memory_stops_at : {A : Type 0} (files : List (List ℕ)) (i : ℕ) (outer : MergeFault A) → outer ≡ merge.Memory → IsReadingFaultAt files i outer
+memory_stops_at files i outer is = rw is tt
 
 -- the fault of a file refuses reading, where all are read, and those before it are accepted
 pub file_refuses_reading : {A : Type 0} (known : Option (List (Result (List ℕ) InputFault))) (i : ℕ) (inner : PdbFault A) (outer : MergeFault A) → IfSome known (λ each. CanRead each (length each))

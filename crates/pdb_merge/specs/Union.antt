@@ -120,6 +120,12 @@ IsReadingFault files (merge.Refused file fault) = (file < length files) × Accep
 IsReadingFault files merge.Memory = Unit {0}
 IsReadingFault files _ = ⊥
 
+-- this is why the types of the file at this position are not read: it has this fault, or it is out of memory
+abbrev pub IsReadingFaultAt : {A : Type 0} → List (List ℕ) → ℕ → MergeFault A → Type 0
+IsReadingFaultAt files position (merge.Refused file fault) = (file ≡ position) × HasPdbFault (get_or files position []) fault
+IsReadingFaultAt files position merge.Memory = Unit {0}
+IsReadingFaultAt files position _ = ⊥
+
 -- reading comes first: this fault is that of the first input that cannot be read, or every input can be read, or it is out of memory
 abbrev pub ReadsFirst : {A : Type 0} → List (Result (List ℕ) InputFault) → MergeFault A → Type 0
 ReadsFirst each (merge.Input file fault) = IsFirstUnread each file fault

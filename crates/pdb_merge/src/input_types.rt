@@ -5,7 +5,7 @@ ghost use Rattle.byte_io.specs.At.{IfOf};
 ghost use Rattle.byte_io.specs.Inputs.{Give, CanRead, HasBytes};
 ghost use Rattle.pdb_merge.specs.Answer.{RefusesReading};
 ghost use Rattle.pdb_merge.specs.Read.{IsAccepted, HasPdbFault};
-ghost use Rattle.pdb_merge.specs.Union.{AcceptedBelow};
+ghost use Rattle.pdb_merge.specs.Union.{AcceptedBelow, IsReadingFaultAt};
 
 use crate::buffer::Buffer;
 use crate::fault::{AddFault, MergeFault, PdbFault};
@@ -84,10 +84,13 @@ fn refuse<I: Inputs, A: Allocator>(inputs: &I, input: usize, fault: PdbFault<A>)
     requires few { input + 1 < 2 ^ 64 }
     requires inside { IfSome (I.known inputs.now) (λ each. input < length each) }
     requires read { IfSome (I.known inputs.now) (λ each. CanRead each (input + 1)) }
-    ensures { ((files : List (List ℕ)) → Give (I.known inputs.now) files →
+    ensures refuses { ((files : List (List ℕ)) → Give (I.known inputs.now) files →
         AcceptedBelow files input
         × (HasPdbFault (get_or files input []) fault ⊎ (fault ≡ PdbFault.Memory))) →
         RefusesReading (I.known inputs.now) result }
+    ensures own { (files : List (List ℕ)) → Give (I.known inputs.now) files →
+        HasPdbFault (get_or files input []) fault ⊎ (fault ≡ PdbFault.Memory) →
+        IsReadingFaultAt files input result }
 {
     match check_rest(inputs, input + 1) {
         Ok(()) => at_file(input, AddFault::from(fault)),
@@ -111,6 +114,8 @@ fn whole_types<'a, I: Inputs, A: Allocator + Copy>(
     ensures refuses { ((files : List (List ℕ)) → Give (I.known inputs.now) files →
         AcceptedBelow files input) →
         IfErr result (RefusesReading (I.known inputs.now)) }
+    ensures own { (files : List (List ℕ)) → Give (I.known inputs.now) files →
+        IfErr result (IsReadingFaultAt files input) }
 {
     let file = match inputs.read(input, &mut held.bytes) {
         Ok(file) => file,
@@ -146,6 +151,9 @@ pub fn read_input_types<'a, I: Inputs, A: Allocator + Copy>(
     ensures refuses { ((files : List (List ℕ)) → Give (I.known inputs.now) files →
         AcceptedBelow files input) →
         IfErr result (RefusesReading (I.known inputs.now)) }
+    // Where every input can be read, the fault is that of this one.
+    ensures own { (files : List (List ℕ)) → Give (I.known inputs.now) files →
+        IfErr result (IsReadingFaultAt files input) }
 {
     let held = &mut buffer.opened;
     let whole = &mut buffer.whole;

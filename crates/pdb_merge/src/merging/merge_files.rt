@@ -51,6 +51,8 @@ pub(crate) fn check_rest<I: Inputs, A: Allocator>(
     ensures value { OnOk result (IfSome (I.known inputs.now) (λ each. CanRead each (length each))) }
     ensures refuses { (limit : ℕ) → IfErr result (RefusesFiles (I.known inputs.now) limit) }
     ensures reading { IfErr result (RefusesReading (I.known inputs.now)) }
+    ensures found { (files : List (List ℕ)) → Give (I.known inputs.now) files →
+        IfErr result (λ fault. fault ≡ MergeFault.Memory) }
 {
     for input in first..inputs.count() {
         if let Err(fault) = inputs.check(input) {

@@ -1,4 +1,4 @@
-use Rattle.pdb_merge.proofs.InputLaws.{more_read, opened_file, opened_read, unread_refuses_reading}
+use Rattle.pdb_merge.proofs.InputLaws.{more_read, opened_file, opened_read, unread_refuses_reading, given_unread, memory_stops_at}
 use Rattle.pdb_merge.proofs.input_types.read_input_types.Goals as goal
 
 pub refuse-requires-clause-read : goal.refuse-requires-clause-read
@@ -23,6 +23,16 @@ returns-in-Err-clause-refuses g c = λ accepted.
 pub returns-in-Err-Of-clause-refuses : goal.returns-in-Err-Of-clause-refuses
 returns-in-Err-Of-clause-refuses g c = λ accepted.
     let first = rw c.in-Err-Of.field-0-is at c.in-Err-Of.ensures.first in
-    c.refuse.ensures (λ files given.
+    c.refuse.ensures.refuses (λ files given.
     let there = opened_file (g.I.Inputs.known c.args.inputs.now) files c.args.input g.I.File.ReadAt.bytes c.in-Ok.opened given c.in-Ok.ensures.value in
     (accepted files given, first _ there.1))
+
+pub returns-in-Err-clause-own : goal.returns-in-Err-clause-own
+returns-in-Err-clause-own g c = λ files given.
+    memory_stops_at files c.args.input c.input_fault.result (given_unread (g.I.Inputs.known c.args.inputs.now) files c.args.input c.in-Err.fault c.input_fault.result given c.in-Err.ensures.fault c.input_fault.ensures)
+
+pub returns-in-Err-Of-clause-own : goal.returns-in-Err-Of-clause-own
+returns-in-Err-Of-clause-own g c = λ files given.
+    let first = rw c.in-Err-Of.field-0-is at c.in-Err-Of.ensures.first in
+    let there = opened_file (g.I.Inputs.known c.args.inputs.now) files c.args.input g.I.File.ReadAt.bytes c.in-Ok.opened given c.in-Ok.ensures.value in
+    c.refuse.ensures.own files given (first _ there.1)

@@ -1,4 +1,4 @@
-use Rattle.pdb_merge.proofs.InputLaws.{given_file, some_bytes, more_read, unread_refuses_reading}
+use Rattle.pdb_merge.proofs.InputLaws.{given_file, some_bytes, more_read, unread_refuses_reading, given_unread, memory_stops_at}
 use Rattle.pdb_merge.proofs.input_types.whole_types.Goals as goal
 
 pub refuse-requires-clause-read : goal.refuse-requires-clause-read
@@ -22,6 +22,15 @@ returns-in-Err-clause-refuses g c = λ accepted.
 
 pub returns-in-Err-read_types-clause-refuses : goal.returns-in-Err-read_types-clause-refuses
 returns-in-Err-read_types-clause-refuses g c = λ accepted.
-    c.refuse.ensures (λ files given.
+    c.refuse.ensures.refuses (λ files given.
     let there = given_file (g.I.Inputs.known c.args.inputs.now) files c.args.input c.in-Ok.file.now given c.in-Ok.ensures.value in
     (accepted files given, rw there.1 c.in-Err-read_types.ensures.first))
+
+pub returns-in-Err-clause-own : goal.returns-in-Err-clause-own
+returns-in-Err-clause-own g c = λ files given.
+    memory_stops_at files c.args.input c.input_fault.result (given_unread (g.I.Inputs.known c.args.inputs.now) files c.args.input c.in-Err.fault c.input_fault.result given c.in-Err.ensures.fault c.input_fault.ensures)
+
+pub returns-in-Err-read_types-clause-own : goal.returns-in-Err-read_types-clause-own
+returns-in-Err-read_types-clause-own g c = λ files given.
+    let there = given_file (g.I.Inputs.known c.args.inputs.now) files c.args.input c.in-Ok.file.now given c.in-Ok.ensures.value in
+    c.refuse.ensures.own files given (rw there.1 c.in-Err-read_types.ensures.first)
