@@ -1,3 +1,4 @@
+pub mod Fault
 pub mod At
 pub mod Input
 pub mod Inputs

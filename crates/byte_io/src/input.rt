@@ -4,6 +4,7 @@ ghost use Rattle.std.specs.Prelude.{◌≡◌, ◌⊎◌, ◌<◌, ◌≤◌, �
 ghost use Rattle.std.specs.Io.KnownBytes.{Consumes, IsAtEnd};
 ghost use Rattle.byte_io.specs.Input.{GivesAll, GivesMore, IsNotRead, HasGiven};
 ghost use Rattle.byte_io.specs.declared.input.ReadFault.TheVariants.{Memory};
+ghost use Rattle.byte_io.specs.Fault.{read_number};
 
 use crate::source::Source;
 use std::alloc::{AllocError, Allocator};
@@ -30,6 +31,19 @@ pub enum ReadFault {
     /// Out of memory.
     #[error("33 Memory")]
     Memory,
+}
+
+impl ReadFault {
+    /// The number of the fault, which stands in its text.
+    pub fn number(&self) -> u32
+        ensures { result ≡ read_number self.now }
+    {
+        match self {
+            ReadFault::Read => 37,
+            ReadFault::TooLong => 38,
+            ReadFault::Memory => 33,
+        }
+    }
 }
 
 impl From<AllocError> for ReadFault {

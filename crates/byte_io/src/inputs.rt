@@ -3,6 +3,7 @@
 ghost use Rattle.std.specs.Prelude.{◌≡◌, ◌⊎◌, ◌<◌, ℕ, List, Option, Some, Result, Ok, Err, length, map, slice_get, IfOk, IfErr, IfSome};
 ghost use Rattle.byte_io.specs.Inputs.{HasBytes};
 ghost use Rattle.byte_io.specs.declared.input.ReadFault.TheVariants as reads;
+ghost use Rattle.byte_io.specs.Fault.{input_number};
 
 use crate::at::ReadAt;
 use crate::input::ReadFault;
@@ -18,6 +19,18 @@ pub enum InputFault {
     /// The input was not read to its end.
     #[error("{0}")]
     Read(ReadFault),
+}
+
+impl InputFault {
+    /// The number of the fault, which stands in its text.
+    pub fn number(&self) -> u32
+        ensures { result ≡ input_number self.now }
+    {
+        match self {
+            InputFault::Open => 40,
+            InputFault::Read(fault) => fault.number(),
+        }
+    }
 }
 
 /// An input that was opened.

@@ -1,3 +1,4 @@
+pub mod Fault
 pub mod Graph
 pub mod Order
 pub mod Check

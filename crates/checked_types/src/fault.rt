@@ -3,6 +3,7 @@
 ghost use Rattle.std.specs.Prelude.{◌≡◌};
 ghost use Rattle.checked_types.specs.declared.fault.TypeFault.TheVariants.{Memory};
 ghost use Rattle.checked_types.specs.Check.{IsOfRecord};
+ghost use Rattle.checked_types.specs.Fault.{type_number};
 
 use cv_leaves::LeafFault;
 use std::alloc::{AllocError, AllocFailed, Allocator, Global};
@@ -40,6 +41,20 @@ pub enum TypeFault<A: Allocator = Global> {
     /// passed its checks.
     #[error("33 Memory")]
     Memory,
+}
+
+impl<A: Allocator> TypeFault<A> {
+    /// The number of the fault, which stands in its text.
+    pub fn number(&self) -> u32
+        ensures { result ≡ type_number self.now }
+    {
+        match self {
+            TypeFault::Leaf { fault, .. } => fault.number(),
+            TypeFault::Ref { .. } => 31,
+            TypeFault::Cycle { .. } => 34,
+            TypeFault::Memory => 33,
+        }
+    }
 }
 
 /// Writes the text of a cycle, with all its type indices.

@@ -1,3 +1,4 @@
+pub mod Fault
 pub mod Field
 pub mod Attributes
 pub mod Table

@@ -1,5 +1,8 @@
 //! Why a record is refused.
 
+ghost use Rattle.std.specs.Prelude.{◌≡◌};
+ghost use Rattle.cv_leaves.specs.Fault.{leaf_number};
+
 use thiserror::Error;
 
 /// The first check that a record fails.
@@ -28,4 +31,20 @@ pub enum LeafFault {
     /// body's end.
     #[error("30 Pad {0}")]
     Pad(u32),
+}
+
+impl LeafFault {
+    /// The number of the fault, which stands in its text.
+    pub fn number(&self) -> u32
+        ensures { result ≡ leaf_number self.now }
+    {
+        match self {
+            LeafFault::Leaf(_) => 25,
+            LeafFault::Body(_) => 26,
+            LeafFault::Member { .. } => 27,
+            LeafFault::Numeric(_) => 28,
+            LeafFault::Name(_) => 29,
+            LeafFault::Pad(_) => 30,
+        }
+    }
 }

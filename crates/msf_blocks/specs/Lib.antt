@@ -1,3 +1,4 @@
+pub mod Fault
 pub mod BlockNumber
 pub mod Superblock
 pub mod Directory

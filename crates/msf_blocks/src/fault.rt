@@ -2,6 +2,7 @@
 
 ghost use Rattle.std.specs.Prelude.{◌≡◌};
 ghost use Rattle.msf_blocks.specs.declared.fault.MsfFault.TheVariants.{Memory};
+ghost use Rattle.msf_blocks.specs.Fault.{msf_number};
 
 use std::alloc::{AllocError, AllocFailed};
 use thiserror::Error;
@@ -45,6 +46,27 @@ pub enum MsfFault {
     /// Out of memory for the lists of block numbers. All checks passed.
     #[error("33 Memory")]
     Memory,
+}
+
+impl MsfFault {
+    /// The number of the fault, which stands in its text.
+    pub fn number(&self) -> u32
+        ensures { result ≡ msf_number self.now }
+    {
+        match self {
+            MsfFault::Short => 1,
+            MsfFault::Magic => 2,
+            MsfFault::BlockSize(_) => 3,
+            MsfFault::FreeMapBlock(_) => 4,
+            MsfFault::FileSize { .. } => 5,
+            MsfFault::DirectorySize(_) => 6,
+            MsfFault::BlockMapAddr(_) => 7,
+            MsfFault::DirectoryBlock { .. } => 8,
+            MsfFault::DirectoryShort { .. } => 9,
+            MsfFault::StreamBlock { .. } => 10,
+            MsfFault::Memory => 33,
+        }
+    }
 }
 
 impl From<AllocError> for MsfFault {

@@ -1,3 +1,4 @@
+pub mod Fault
 pub mod Streams
 pub mod Image
 pub mod Put

@@ -3,6 +3,8 @@
 ghost use Rattle.std.specs.Prelude.{◌≡◌};
 ghost use Rattle.msf_streams.specs.declared.fault.StreamFault.TheVariants.{Memory};
 ghost use Rattle.msf_streams.specs.declared.fault.WriteFault.{WriteFault};
+ghost use Rattle.msf_streams.specs.Fault.{stream_number};
+ghost use Rattle.msf_streams.specs.Fault.{write_number};
 
 use byte_io::NotTaken;
 use std::alloc::{AllocError, AllocFailed};
@@ -17,6 +19,18 @@ pub enum StreamFault {
     /// Out of memory for the contents of the stream. The stream exists.
     #[error("33 Memory")]
     Memory,
+}
+
+impl StreamFault {
+    /// The number of the fault, which stands in its text.
+    pub fn number(&self) -> u32
+        ensures { result ≡ stream_number self.now }
+    {
+        match self {
+            StreamFault::NoStream(_) => 11,
+            StreamFault::Memory => 33,
+        }
+    }
 }
 
 impl From<AllocError> for StreamFault {
@@ -48,6 +62,19 @@ pub enum WriteFault {
     /// The sink took only the first bytes of the image, or none.
     #[error("36 Write")]
     Write,
+}
+
+impl WriteFault {
+    /// The number of the fault, which stands in its text.
+    pub fn number(&self) -> u32
+        ensures { result ≡ write_number self.now }
+    {
+        match self {
+            WriteFault::Image => 35,
+            WriteFault::Memory => 33,
+            WriteFault::Write => 36,
+        }
+    }
 }
 
 impl From<AllocError> for WriteFault {

@@ -9,8 +9,13 @@ use Rattle.pdb_merge.specs.declared.fault.OutFault.{OutFault}
 use Rattle.pdb_merge.specs.declared.fault.OutFault.TheVariants as outs
 use Rattle.byte_io.specs.declared.input.ReadFault.{ReadFault}
 use Rattle.byte_io.specs.declared.input.ReadFault.TheVariants as reads
+use Rattle.std.specs.Prelude.{ℕ}
+use Rattle.byte_io.specs.Fault.{read_number}
+use Rattle.cv_leaves.specs.Fault.{leaf_number}
+use Rattle.pdb_info.specs.Fault.{info_number}
+use Rattle.pdb_merge.specs.Fault.{pdb_number, merge_number}
 use Rattle.pdb_commands.specs.declared.fault.RunFault.{RunFault}
-use Rattle.pdb_commands.specs.declared.fault.RunFault.TheVariants.{Read, Info, Pdb, Merge, Memory, Write}
+use Rattle.pdb_commands.specs.declared.fault.RunFault.TheVariants.{Read, TooLong, Info, Pdb, Merge, NoRecord, Leaf, Memory, Write}
 
 -- a fault of reading
 abbrev pub run_from_read : {A : Type 0} → ReadFault → RunFault A
@@ -37,3 +42,15 @@ abbrev pub run_from_out : {A : Type 0} → OutFault A → RunFault A
 run_from_out (outs.Merge fault) = run_from_merge fault
 run_from_out outs.Memory = Memory
 run_from_out outs.Write = Write
+
+-- the number of a fault
+abbrev pub run_number : {A : Type 0} → RunFault A → ℕ
+run_number (Read fault) = read_number fault
+run_number TooLong = 38
+run_number (Pdb fault) = pdb_number fault
+run_number (Info fault) = info_number fault
+run_number (Merge fault) = merge_number fault
+run_number (NoRecord _) = 39
+run_number (Leaf _ fault) = leaf_number fault
+run_number Memory = 33
+run_number Write = 36

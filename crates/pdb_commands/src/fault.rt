@@ -1,7 +1,7 @@
 //! Why a command is refused.
 
 ghost use Rattle.std.specs.Prelude.{◌≡◌};
-ghost use Rattle.pdb_commands.specs.Fault.{run_from_read, run_from_info, run_from_pdb, run_from_merge, run_from_out};
+ghost use Rattle.pdb_commands.specs.Fault.{run_from_read, run_from_info, run_from_pdb, run_from_merge, run_from_out, run_number};
 ghost use Rattle.pdb_commands.specs.declared.fault.RunFault.TheVariants.{Memory, Write};
 
 use byte_io::{NotTaken, ReadFault};
@@ -43,6 +43,25 @@ pub enum RunFault<A: Allocator = Global> {
     /// A sink did not take the whole text or the whole file.
     #[error("36 Write")]
     Write,
+}
+
+impl<A: Allocator> RunFault<A> {
+    /// The number of the fault, which stands in its text.
+    pub fn number(&self) -> u32
+        ensures { result ≡ run_number self.now }
+    {
+        match self {
+            RunFault::Read(fault) => fault.number(),
+            RunFault::TooLong => 38,
+            RunFault::Pdb(fault) => fault.number(),
+            RunFault::Info(fault) => fault.number(),
+            RunFault::Merge(fault) => fault.number(),
+            RunFault::NoRecord(_) => 39,
+            RunFault::Leaf { fault, .. } => fault.number(),
+            RunFault::Memory => 33,
+            RunFault::Write => 36,
+        }
+    }
 }
 
 impl<A: Allocator> From<AllocError> for RunFault<A> {

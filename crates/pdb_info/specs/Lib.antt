@@ -1,3 +1,4 @@
+pub mod Fault
 pub mod Guid
 pub mod Header
 pub mod Names

@@ -2,6 +2,7 @@
 
 ghost use Rattle.std.specs.Prelude.{◌≡◌};
 ghost use Rattle.pdb_info.specs.declared.fault.InfoFault.TheVariants.{Memory};
+ghost use Rattle.pdb_info.specs.Fault.{info_number};
 
 use std::alloc::{AllocError, AllocFailed};
 use thiserror::Error;
@@ -26,6 +27,21 @@ pub enum InfoFault {
     /// Out of memory for the names or the feature codes. All checks passed.
     #[error("33 Memory")]
     Memory,
+}
+
+impl InfoFault {
+    /// The number of the fault, which stands in its text.
+    pub fn number(&self) -> u32
+        ensures { result ≡ info_number self.now }
+    {
+        match self {
+            InfoFault::InfoShort => 12,
+            InfoFault::NamesShort(_) => 13,
+            InfoFault::NamesCount { .. } => 14,
+            InfoFault::NameOffset(_) => 15,
+            InfoFault::Memory => 33,
+        }
+    }
 }
 
 impl From<AllocError> for InfoFault {

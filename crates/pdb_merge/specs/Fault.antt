@@ -1,4 +1,10 @@
 -- The faults of crates below, as faults of a file. Out of memory is always `Memory`.
+use Rattle.byte_io.specs.Fault.{input_number}
+use Rattle.msf_blocks.specs.Fault.{msf_number}
+use Rattle.msf_streams.specs.Fault.{stream_number}
+use Rattle.pdb_info.specs.Fault.{info_number}
+use Rattle.tpi_records.specs.Fault.{tpi_number}
+use Rattle.checked_types.specs.Fault.{type_number}
 use Rattle.byte_io.specs.declared.input.ReadFault.TheVariants as reads
 use Rattle.byte_io.specs.declared.inputs.InputFault.{InputFault}
 use Rattle.byte_io.specs.declared.inputs.InputFault.TheVariants as inputs
@@ -12,13 +18,15 @@ use Rattle.tpi_records.specs.declared.fault.TpiFault.{TpiFault}
 use Rattle.tpi_records.specs.declared.fault.TpiFault.TheVariants as tpi
 use Rattle.checked_types.specs.declared.fault.TypeFault.{TypeFault}
 use Rattle.checked_types.specs.declared.fault.TypeFault.TheVariants as types
-use Rattle.std.specs.Prelude.{ℕ, ◌≢◌}
+use Rattle.std.specs.Prelude.{ℕ, Option, Some, None, ◌≢◌}
 use Rattle.type_table.specs.declared.fault.JoinFault.{JoinFault}
 use Rattle.type_table.specs.declared.fault.JoinFault.TheVariants as join
 use Rattle.pdb_merge.specs.declared.fault.AddFault.{AddFault}
 use Rattle.pdb_merge.specs.declared.fault.AddFault.TheVariants as add
 use Rattle.pdb_merge.specs.declared.fault.MergeFault.{MergeFault}
 use Rattle.pdb_merge.specs.declared.fault.MergeFault.TheVariants as merge
+use Rattle.pdb_merge.specs.declared.fault.OutFault.{OutFault}
+use Rattle.pdb_merge.specs.declared.fault.OutFault.TheVariants as out
 use Rattle.pdb_merge.specs.declared.fault.PdbFault.{PdbFault}
 use Rattle.pdb_merge.specs.declared.fault.PdbFault.TheVariants as fault
 
@@ -82,3 +90,40 @@ abbrev pub NamesFault : {A : Type 0} → MergeFault A → Type 0
 NamesFault (merge.Input file inner) = inner ≢ inputs.Read reads.Memory
 NamesFault (merge.Refused file inner) = inner ≢ fault.Memory
 NamesFault _ = Unit {0}
+
+-- ---- the number of a fault
+
+-- the number of a fault of a file
+abbrev pub pdb_number : {A : Type 0} → PdbFault A → ℕ
+pdb_number (fault.Msf inner) = msf_number inner
+pdb_number (fault.Stream inner) = stream_number inner
+pdb_number (fault.Info inner) = info_number inner
+pdb_number (fault.Tpi inner) = tpi_number inner
+pdb_number (fault.Type inner) = type_number inner
+pdb_number fault.Memory = 33
+
+-- the number of a fault of the file that is added
+abbrev pub add_number : {A : Type 0} → AddFault A → ℕ
+add_number (add.Refused inner) = pdb_number inner
+add_number (add.TooLarge _) = 32
+add_number add.Memory = 33
+
+-- the number of a fault of merging
+abbrev pub merge_number : {A : Type 0} → MergeFault A → ℕ
+merge_number (merge.Input _ inner) = input_number inner
+merge_number (merge.Refused _ inner) = pdb_number inner
+merge_number (merge.TooLarge _ _) = 32
+merge_number merge.Memory = 33
+
+-- the number of a fault of merging into a sink
+abbrev pub out_number : {A : Type 0} → OutFault A → ℕ
+out_number (out.Merge inner) = merge_number inner
+out_number out.Memory = 33
+out_number out.Write = 36
+
+-- the position of the file that a fault names
+abbrev pub faulty_file : {A : Type 0} → MergeFault A → Option ℕ
+faulty_file (merge.Input file _) = Some file
+faulty_file (merge.Refused file _) = Some file
+faulty_file (merge.TooLarge file _) = Some file
+faulty_file merge.Memory = None

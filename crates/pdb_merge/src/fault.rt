@@ -1,7 +1,7 @@
 //! Why a file is not accepted, and why files are not merged.
 
 ghost use Rattle.std.specs.Prelude.{◌≡◌};
-ghost use Rattle.pdb_merge.specs.Fault.{pdb_from_msf, pdb_from_stream, pdb_from_info, pdb_from_tpi, pdb_from_type, add_from_pdb, add_from_join};
+ghost use Rattle.pdb_merge.specs.Fault.{pdb_from_msf, pdb_from_stream, pdb_from_info, pdb_from_tpi, pdb_from_type, add_from_pdb, add_from_join, pdb_number, add_number, merge_number, out_number, faulty_file};
 ghost use Rattle.pdb_merge.specs.declared.fault.PdbFault.TheVariants.{Memory};
 ghost use Rattle.pdb_merge.specs.declared.fault.OutFault.TheVariants as out;
 
@@ -38,6 +38,22 @@ pub enum PdbFault<A: Allocator = Global> {
     /// Out of memory.
     #[error("33 Memory")]
     Memory,
+}
+
+impl<A: Allocator> PdbFault<A> {
+    /// The number of the fault, which stands in its text.
+    pub fn number(&self) -> u32
+        ensures { result ≡ pdb_number self.now }
+    {
+        match self {
+            PdbFault::Msf(fault) => fault.number(),
+            PdbFault::Stream(fault) => fault.number(),
+            PdbFault::Info(fault) => fault.number(),
+            PdbFault::Tpi(fault) => fault.number(),
+            PdbFault::Type(fault) => fault.number(),
+            PdbFault::Memory => 33,
+        }
+    }
 }
 
 impl<A: Allocator> From<AllocError> for PdbFault<A> {
@@ -117,6 +133,19 @@ pub enum AddFault<A: Allocator = Global> {
     Memory,
 }
 
+impl<A: Allocator> AddFault<A> {
+    /// The number of the fault, which stands in its text.
+    pub fn number(&self) -> u32
+        ensures { result ≡ add_number self.now }
+    {
+        match self {
+            AddFault::Refused(fault) => fault.number(),
+            AddFault::TooLarge { .. } => 32,
+            AddFault::Memory => 33,
+        }
+    }
+}
+
 impl<A: Allocator> From<PdbFault<A>> for AddFault<A> {
     ghost from_gives = { λ inner fault. fault ≡ add_from_pdb inner };
 
@@ -157,6 +186,32 @@ pub enum MergeFault<A: Allocator = Global> {
     Memory,
 }
 
+impl<A: Allocator> MergeFault<A> {
+    /// The number of the fault, which stands in its text.
+    pub fn number(&self) -> u32
+        ensures { result ≡ merge_number self.now }
+    {
+        match self {
+            MergeFault::Input { fault, .. } => fault.number(),
+            MergeFault::Refused { fault, .. } => fault.number(),
+            MergeFault::TooLarge { .. } => 32,
+            MergeFault::Memory => 33,
+        }
+    }
+
+    /// The position of the file that the fault names, from 0. `None` where it names no file.
+    pub fn file(&self) -> Option<usize>
+        ensures { result ≡ faulty_file self.now }
+    {
+        match self {
+            MergeFault::Input { file, .. }
+            | MergeFault::Refused { file, .. }
+            | MergeFault::TooLarge { file, .. } => Some(*file),
+            MergeFault::Memory => None,
+        }
+    }
+}
+
 /// Why no file was written.
 #[derive(Debug, PartialEq, Eq, Drop, Error)]
 pub enum OutFault<A: Allocator = Global> {
@@ -169,6 +224,19 @@ pub enum OutFault<A: Allocator = Global> {
     /// The sink took the first bytes of the file, but not all of them.
     #[error("36 Write")]
     Write,
+}
+
+impl<A: Allocator> OutFault<A> {
+    /// The number of the fault, which stands in its text.
+    pub fn number(&self) -> u32
+        ensures { result ≡ out_number self.now }
+    {
+        match self {
+            OutFault::Merge(fault) => fault.number(),
+            OutFault::Memory => 33,
+            OutFault::Write => 36,
+        }
+    }
 }
 
 impl<A: Allocator> From<MergeFault<A>> for OutFault<A> {

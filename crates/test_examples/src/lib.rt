@@ -13,6 +13,8 @@ mod clashes;
 #[cfg(test)]
 mod examples;
 #[cfg(test)]
+mod faults;
+#[cfg(test)]
 mod orders;
 #[cfg(test)]
 mod positions;

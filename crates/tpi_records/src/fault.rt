@@ -2,6 +2,7 @@
 
 ghost use Rattle.std.specs.Prelude.{◌≡◌};
 ghost use Rattle.tpi_records.specs.declared.fault.TpiFault.TheVariants.{Memory};
+ghost use Rattle.tpi_records.specs.Fault.{tpi_number};
 
 use std::alloc::{AllocError, AllocFailed};
 use thiserror::Error;
@@ -43,6 +44,26 @@ pub enum TpiFault {
     /// Out of memory for the table of records. All checks passed.
     #[error("33 Memory")]
     Memory,
+}
+
+impl TpiFault {
+    /// The number of the fault, which stands in its text.
+    pub fn number(&self) -> u32
+        ensures { result ≡ tpi_number self.now }
+    {
+        match self {
+            TpiFault::Short => 16,
+            TpiFault::Version(_) => 17,
+            TpiFault::HeaderSize(_) => 18,
+            TpiFault::Begin(_) => 19,
+            TpiFault::End(_) => 20,
+            TpiFault::Bytes { .. } => 21,
+            TpiFault::RecordShort { .. } => 22,
+            TpiFault::RecordLen { .. } => 23,
+            TpiFault::RecordCount { .. } => 24,
+            TpiFault::Memory => 33,
+        }
+    }
 }
 
 impl From<AllocError> for TpiFault {

@@ -1,3 +1,4 @@
+pub mod Fault
 pub mod Merge
 pub mod MeasuredTable
 pub mod Numbers

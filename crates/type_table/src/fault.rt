@@ -2,6 +2,7 @@
 
 ghost use Rattle.std.specs.Prelude.{◌≡◌};
 ghost use Rattle.type_table.specs.declared.fault.JoinFault.TheVariants as join;
+ghost use Rattle.type_table.specs.Fault.{join_number};
 
 use std::alloc::{AllocError, AllocFailed};
 use thiserror::Error;
@@ -18,6 +19,18 @@ pub enum JoinFault {
     /// Out of memory.
     #[error("33 Memory")]
     Memory,
+}
+
+impl JoinFault {
+    /// The number of the fault, which stands in its text.
+    pub fn number(&self) -> u32
+        ensures { result ≡ join_number self.now }
+    {
+        match self {
+            JoinFault::TooLarge { .. } => 32,
+            JoinFault::Memory => 33,
+        }
+    }
 }
 
 impl From<AllocError> for JoinFault {
