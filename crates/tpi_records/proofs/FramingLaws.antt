@@ -5,7 +5,7 @@ use Rattle.std.proofs.lemmas.List.{append-nil, drop-drop, take-append-drop, take
 use Rattle.std.proofs.lemmas.List.Folds.{concat-append}
 use Rattle.byte_fields.specs.Number.{number_at}
 use Rattle.byte_fields.proofs.NumberLaws.{number_at-take, number_at-append}
-use Rattle.tpi_records.specs.Records.{IsRecord, IsFlaw, HasFlaw, Begins}
+use Rattle.tpi_records.specs.Records.{IsRecord, BeginsWith, IsFlaw, HasFlaw, Begins}
 use Rattle.tpi_records.specs.declared.fault.TpiFault.{TpiFault}
 use Rattle.tpi_records.specs.declared.fault.TpiFault.TheVariants.{Short, Version, HeaderSize, Begin, End, Bytes, RecordShort, RecordLen, RecordCount, Memory}
 use Rattle.tpi_records.specs.Header.{first_index}
@@ -75,6 +75,9 @@ no_flaw r rest index (End _) is flaw = flaw
 no_flaw r rest index (Bytes _ _) is flaw = flaw
 no_flaw r rest index (RecordCount _ _) is flaw = flaw
 no_flaw r rest index Memory is flaw = flaw
+
+pub front_unflawed : (bytes r : List ℕ) (index : ℕ) (fault : TpiFault) → BeginsWith bytes r → IsFlaw bytes index fault → ⊥
+front_unflawed bytes r index fault begins flaw = no_flaw r begins.rest index fault begins.is_record (rw begins.parts at flaw)
 
 -- bytes that are records do not also begin with other records and a fault after them
 unflawed : (records front : List (List ℕ)) (rest : List ℕ) (index : ℕ) (fault : TpiFault) → AllByRecursion IsRecord records → AllByRecursion IsRecord front

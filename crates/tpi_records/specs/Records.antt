@@ -34,6 +34,12 @@ pub record Begins (bytes : List ℕ) (records : List (List ℕ)) (rest : List �
   pub parts : bytes ≡ concat records ++ rest
   pub each : AllByRecursion IsRecord records
 
+-- the bytes begin with this record
+pub record BeginsWith (bytes r : List ℕ) : Type 0 where
+  pub is_record : IsRecord r
+  pub rest : List ℕ
+  pub parts : bytes ≡ r ++ rest
+
 -- the record at the front of the bytes, whose type index is this one, has this fault
 abbrev pub IsFlaw : List ℕ → ℕ → TpiFault → Type 0
 IsFlaw bytes expected (RecordShort index) = (index ≡ expected) × IsCutShort bytes

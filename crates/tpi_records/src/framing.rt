@@ -1,9 +1,9 @@
 //! Checks that bytes are records, one after the other.
 
-ghost use Rattle.std.specs.Prelude.{◌≡◌, ◌⊎◌, ◌+◌, ◌%◌, ◌==◌, ◌^◌, ◌<◌, ◌≤◌, ◌++◌, ◌∷◌, [], IsTrue, if◌then◌else◌, length, take, drop, List, ℕ, IfOk, IfErr};
+ghost use Rattle.std.specs.Prelude.{◌≡◌, ◌⊎◌, ◌+◌, ◌%◌, ◌==◌, ◌^◌, ◌<◌, ◌≤◌, ◌++◌, ◌∷◌, [], IsTrue, if◌then◌else◌, length, take, drop, List, ℕ, IsOk, IfOk, IfErr};
 ghost use Rattle.byte_fields.specs.Number.{number_at};
 ghost use Rattle.tpi_records.specs.Header.{HasTpiHeader};
-ghost use Rattle.tpi_records.specs.Records.{IsRecord, IsFlaw, IsFramed, HasFlaw, IsMiscounted, records_in, starts_below, starts_for, framed_bytes};
+ghost use Rattle.tpi_records.specs.Records.{IsRecord, BeginsWith, IsFlaw, IsFramed, HasFlaw, IsMiscounted, records_in, starts_below, starts_for, framed_bytes};
 
 use crate::fault::TpiFault;
 use crate::header::{FIRST_INDEX, LENGTH, TpiHeader};
@@ -36,6 +36,25 @@ fn record_len(bytes: &[u8], start: usize, index: u32) -> Result<usize, TpiFault>
         return Err(TpiFault::RecordShort { index });
     }
     Ok(whole)
+}
+
+/// The record at the front of some bytes: the whole record, with its length field. Its type index is
+/// `index`, which a fault names. What follows the record is not looked at.
+///
+/// The faults are those of a record in [`Records::read`](crate::Records::read), in the same order:
+/// `RecordShort`, `RecordLen`, `RecordShort`. This does not allocate.
+/// ("The PDB TPI and IPI Streams", "Type Records".)
+pub fn first_record(bytes: &[u8], index: u32) -> Result<&[u8], TpiFault>
+    ensures value { IfOk result (λ r. BeginsWith bytes.now r.now) }
+    // Bytes that begin with a record are never refused.
+    ensures found { (r : List ℕ) → BeginsWith bytes.now r → IsOk result }
+    ensures first { IfErr result (IsFlaw bytes.now index) }
+{
+    if bytes.is_empty() {
+        return Err(TpiFault::RecordShort { index });
+    }
+    let len = record_len(bytes, 0, index)?;
+    Ok(&bytes[..len])
 }
 
 /// The bytes of the records, which the header frames.

@@ -8,6 +8,7 @@
 //! - [`TpiHeader::read`] checks the header and gives what it says of the records.
 //! - [`Records::read`] checks the header and the records, and lends the records from the stream.
 //!   Each record is lent whole, with its length field.
+//! - [`first_record`] lends the record at the front of some bytes.
 //! - [`tpi_header_bytes`] makes the header of a stream that is written.
 //! - [`TpiFault`] says which check a stream fails first.
 //!
@@ -39,6 +40,7 @@ mod records;
 
 pub use cursor::Cursor;
 pub use fault::TpiFault;
+pub use framing::first_record;
 pub use header::{FIRST_INDEX, TpiHeader, tpi_header_bytes};
 pub use iter::Iter;
 pub use records::Records;
