@@ -1,0 +1,5 @@
+pub mod NumberLaws
+pub mod OffsetLaws
+pub mod HeaderLaws
+pub mod FaultLaws
+pub mod DiffLaws

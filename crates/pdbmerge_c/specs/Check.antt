@@ -1,0 +1,32 @@
+-- What a check answers.
+use Rattle.std.specs.Prelude.{ℕ, ◌≡◌, ◌⊎◌, None, List, length}
+use Rattle.std.specs.List.{concat}
+use Rattle.std.specs.declared.alloc.Global.{Global}
+use Rattle.byte_fields.specs.Check.{first_failing}
+use Rattle.msf_blocks.specs.Layout.{layout_checks}
+use Rattle.closed_trees.specs.Depth.{HasLevels}
+use Rattle.pdb_merge.specs.Fault.{pdb_number}
+use Rattle.pdb_merge.specs.Read.{IsAccepted, HasPdbFault}
+use Rattle.pdb_merge.specs.declared.fault.PdbFault.{PdbFault}
+use Rattle.pdb_merge.specs.declared.fault.PdbFault.TheVariants.{Memory}
+use Rattle.pdbmerge_c.specs.declared.check.Counts.{Counts}
+use Rattle.pdbmerge_c.specs.declared.fault.Fault.{Fault}
+use Rattle.pdbmerge_c.specs.Fault.{IsTold, no_input}
+
+-- the file is accepted, and has so much
+pub record Checks (file : List ℕ) (counts : Counts) : Type 0 where
+  pub records : List (List ℕ)
+  pub accepted : IsAccepted file records
+  pub many : counts.records ≡ length records
+  pub long : counts.bytes ≡ length (concat records)
+  pub levels : HasLevels records counts.levels
+
+-- this is the first fault of the file on the way to its types, or it is out of memory, where the container has no fault
+abbrev pub IsFaultOfFile : {A : Type 0} → List ℕ → PdbFault A → Type 0
+IsFaultOfFile file why = HasPdbFault file why ⊎ ((why ≡ Memory) × (first_failing (layout_checks file) ≡ None))
+
+-- what is told is such a fault
+pub record RefusesCheck (file : List ℕ) (fault : Fault) : Type 0 where
+  pub why : PdbFault Global
+  pub is_fault : IsFaultOfFile file why
+  pub told : IsTold fault (pdb_number why) no_input

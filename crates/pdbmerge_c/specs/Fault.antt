@@ -1,0 +1,24 @@
+-- What a call says of its fault.
+use Rattle.std.specs.Prelude.{ℕ, ◌≡◌, Option, Some, None}
+use Rattle.pdbmerge_c.specs.declared.fault.Fault.{Fault}
+
+-- the input of a fault that names none: the highest number of eight bytes
+abbrev pub no_input : ℕ
+no_input = 18446744073709551615
+
+-- the number for the position of an input, or for none
+abbrev pub input_code : Option ℕ → ℕ
+input_code (Some input) = input
+input_code None = no_input
+
+-- the fault has this number, and names this input
+pub record IsTold (fault : Fault) (number input : ℕ) : Type 0 where
+  pub number_is : fault.number ≡ number
+  pub input_is : fault.input ≡ input
+
+-- the fault has the number that was returned; where all went well, and for a fault of the call's own, it names no input
+pub record IsSaid (fault : Fault) (result : ℕ) : Type 0 where
+  pub number_is : fault.number ≡ result
+  pub none : result ≡ 0 → fault.input ≡ no_input
+  pub room : result ≡ 100 → fault.input ≡ no_input
+  pub settings : result ≡ 101 → fault.input ≡ no_input

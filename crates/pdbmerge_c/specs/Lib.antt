@@ -1,0 +1,10 @@
+pub mod Fault
+pub mod Given
+pub mod Identify
+pub mod Check
+pub mod Merge
+pub mod Stream
+pub mod Records
+pub mod References
+pub mod Name
+pub mod Diff

@@ -1,0 +1,66 @@
+-- What a merge answers.
+use Rattle.std.specs.Prelude.{ℕ, ◌≡◌, ◌≤◌, ◌<◌, List, Option, Some, Result, Ok, length, map}
+use Rattle.std.specs.Borrow.{Bor}
+use Rattle.std.specs.declared.alloc.Global.{Global}
+use Rattle.byte_io.specs.declared.inputs.InputFault.{InputFault}
+use Rattle.msf_blocks.specs.BlockNumber.{IsBlockSize}
+use Rattle.pdb_info.specs.Settings.{SettingsView, limit_of_records, record_limit}
+use Rattle.pdb_merge.specs.Answer.{RefusesFiles}
+use Rattle.pdb_merge.specs.Fault.{merge_number, faulty_file}
+use Rattle.pdb_merge.specs.Merged.{IsFileOf}
+use Rattle.pdb_merge.specs.Union.{HasType, Weighs}
+use Rattle.pdb_merge.specs.declared.fault.MergeFault.{MergeFault}
+use Rattle.pdb_merge.specs.declared.fault.OutFault.{OutFault}
+use Rattle.pdb_merge.specs.declared.fault.OutFault.TheVariants as out
+use Rattle.pdbmerge_c.specs.declared.fault.Fault.{Fault}
+use Rattle.pdbmerge_c.specs.declared.merge.Choices.{Choices}
+use Rattle.pdbmerge_c.specs.declared.merge.Report.{Report}
+use Rattle.pdbmerge_c.specs.Fault.{IsTold, input_code}
+use Rattle.pdbmerge_c.specs.Given.{Fills}
+
+-- the bytes of the files
+abbrev pub bytes_of : List (Bor (List ℕ)) → List (List ℕ)
+bytes_of files = map (λ file. file.now) files
+
+-- what reading each of them gives: its bytes
+abbrev pub inputs_of : List (Bor (List ℕ)) → Option (List (Result (List ℕ) InputFault))
+inputs_of files = Some (map Ok (bytes_of files))
+
+-- a file can have these settings
+abbrev pub AreAllowed : Choices → Type 0
+AreAllowed choices = (choices.limit ≤ limit_of_records) × IsBlockSize choices.block_size
+
+-- the settings that were chosen
+abbrev pub settings_of : Choices → SettingsView
+settings_of choices = record { guid = choices.guid; age = choices.age; limit = choices.limit; block_size = choices.block_size }
+
+-- this is the file of the types of the files, and the report says how many types it has, how many bytes they have together, and how long it is
+pub record IsReported (files : List (Bor (List ℕ))) (choices : Choices) (report : Report) (file : List ℕ) : Type 0 where
+  pub records : List (List ℕ)
+  pub is_file : IsFileOf (bytes_of files) (settings_of choices) file records
+  pub types : report.types ≡ length records
+  pub bytes : Weighs (HasType (bytes_of files)) report.bytes
+  pub long : report.length ≡ length file
+
+-- that file is at the front of `out`
+pub record Merges (files : List (Bor (List ℕ))) (choices : Choices) (report : Report) (old new : List ℕ) : Type 0 where
+  pub file : List ℕ
+  pub is_reported : IsReported files choices report file
+  pub fills : Fills file old new
+
+-- that file is longer than the room
+pub record LacksRoom (files : List (Bor (List ℕ))) (choices : Choices) (report : Report) (room : ℕ) : Type 0 where
+  pub file : List ℕ
+  pub is_reported : IsReported files choices report file
+  pub long : room < length file
+
+-- this is why the files are not merged into memory: they are refused, or it is out of memory
+abbrev pub IsRefusal : {A : Type 0} → List (Bor (List ℕ)) → SettingsView → OutFault A → Type 0
+IsRefusal files settings (out.Merge why) = RefusesFiles (inputs_of files) (record_limit settings) why
+IsRefusal files settings _ = Unit {0}
+
+-- what is told is why the files are refused
+pub record RefusesMerge (files : List (Bor (List ℕ))) (settings : SettingsView) (fault : Fault) : Type 0 where
+  pub why : MergeFault Global
+  pub is_fault : RefusesFiles (inputs_of files) (record_limit settings) why
+  pub told : IsTold fault (merge_number why) (input_code (faulty_file why))

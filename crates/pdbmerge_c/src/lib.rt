@@ -1,0 +1,46 @@
+//! The types of Program Database files, as a library for C.
+//!
+//! `include/pdbmerge.h` declares what is here, and says what a caller owes. A slice crosses as a
+//! pointer and a length. Nothing is kept between calls, and no call keeps or frees what it is lent.
+//!
+//! Each call returns 0, or the number of a fault, and says in a [`Fault`] what it is. A fault of a
+//! file has the number and the text that the program prints.
+//!
+//! - `pdbmerge_version` is the version of the library.
+//! - `pdbmerge_identify` reads what identifies a file, an [`Identity`].
+//! - `pdbmerge_check` says whether the types of a file can be trusted, with [`Counts`].
+//! - `pdbmerge_merge` writes one file with the types of several, by [`Choices`], and a [`Report`].
+//! - `pdbmerge_stream` copies a stream of a file, and `pdbmerge_records` lists where the records in
+//!   it begin. `pdbmerge_references` lists the types that a record names, each a [`Reference`], and
+//!   `pdbmerge_name` copies the name of its type.
+//! - `pdbmerge_diff` lists the types that only one of two files has, each a [`OneSided`].
+//!
+//! What is proved: the contract of each call says what it answers for all bytes. That of
+//! `pdbmerge_merge` is the headline (`IsFileOf` of `pdb_merge`). Unless a call returns 0, `out` and
+//! each result stay as they were, but for the [`Fault`], and for how much room an answer takes
+//! where there is too little.
+#![tactic(auto)]
+
+mod check;
+mod diff;
+mod fault;
+mod give;
+mod identify;
+mod merge;
+mod name;
+mod records;
+mod references;
+mod seed;
+mod stream;
+mod text;
+#[cfg(test)]
+mod texts;
+mod version;
+
+pub use check::Counts;
+pub use diff::OneSided;
+pub use fault::Fault;
+pub use identify::Identity;
+pub use merge::{Choices, Report};
+pub use references::Reference;
+pub use seed::Seed;

@@ -1,0 +1,70 @@
+//! Where type records begin.
+
+ghost use Rattle.std.specs.Prelude.{◌≡◌, ◌≢◌, ◌<◌, ◌+◌, [], ℕ, List, length, get_or, OnOk, IfOk, IfErr};
+ghost use Rattle.tpi_records.specs.Records.{HasRecords, start_of};
+ghost use Rattle.pdbmerge_c.specs.Fault.{IsSaid};
+ghost use Rattle.pdbmerge_c.specs.Given.{Fills};
+ghost use Rattle.pdbmerge_c.specs.Records.{AreOffsets, IsFaultOfRecords, RefusesRecords};
+
+use crate::fault::{Fault, refuse};
+use crate::give::give;
+use std::alloc::{AllocError, Global};
+use tpi_records::{Records, TpiFault};
+
+/// How many bytes stand before the first record: the header of the stream.
+const HEADER: u64 = 56;
+
+/// Appends the offsets at which records begin.
+fn push_offsets(offsets: &mut Vec<u64>, records: &Records<'_>) -> Result<(), AllocError>
+    requires { offsets.old.items ≡ [] }
+    ensures many { OnOk result (length offsets.new.items ≡ length records.now) }
+    ensures each { OnOk result ((i : ℕ) → i < length records.now →
+        get_or offsets.new.items i 0 ≡ 56 + start_of records.now i) }
+{
+    let mut at = HEADER;
+    for bytes in records.iter() {
+        offsets.push(at)?;
+        at += bytes.len() as u64;
+    }
+    Ok(())
+}
+
+/// The offsets at which the records of a stream begin.
+fn list_offsets(alloc: Global, stream: &[u8]) -> Result<Vec<u64>, TpiFault>
+    ensures value { IfOk result (λ offsets. AreOffsets stream.now offsets.items) }
+    ensures first { IfErr result (IsFaultOfRecords stream.now) }
+{
+    let records = Records::read(alloc, stream)?;
+    let mut offsets = Vec::with_capacity(alloc, records.len())?;
+    push_offsets(&mut offsets, &records)?;
+    Ok(offsets)
+}
+
+/// Lists where each type record of a TPI stream begins: offsets in the bytes of the stream. `count`
+/// is how many there are.
+///
+/// The faults, in order: those of `Records::read`; `MEMORY`, where none is; `ROOM`, and then `count`
+/// is set too.
+#[tactic(auto, using(crate::proofs::NumberLaws::tpi_known))]
+#[unsafe(no_mangle)]
+pub extern "C" fn pdbmerge_records(
+    alloc: Global,
+    stream: &[u8],
+    offsets: &mut [u64],
+    count: &mut u64,
+    fault: &mut Fault,
+) -> u32
+    ensures told { IsSaid fault.new result }
+    ensures value { result ≡ 0 → (found : List ℕ) × AreOffsets stream.now found
+        × (count.new ≡ length found) × Fills found offsets.old offsets.new }
+    ensures room { result ≡ 100 → (found : List ℕ) × AreOffsets stream.now found
+        × (count.new ≡ length found) × (length offsets.old < length found) }
+    ensures refuses { result ≢ 0 → result ≢ 100 → RefusesRecords stream.now fault.new }
+    ensures untouched { result ≢ 0 → offsets.new ≡ offsets.old }
+    ensures kept { result ≢ 0 → result ≢ 100 → count.new ≡ count.old }
+{
+    match list_offsets(alloc, stream) {
+        Ok(found) => give(found.as_slice(), offsets, count, fault),
+        Err(why) => refuse(fault, why.number(), None, &why),
+    }
+}

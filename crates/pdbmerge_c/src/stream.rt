@@ -1,0 +1,59 @@
+//! The bytes of a stream.
+
+ghost use Rattle.std.specs.Prelude.{◌≡◌, ◌≢◌, ◌<◌, ℕ, List, length, IfOk, IfErr};
+ghost use Rattle.pdbmerge_c.specs.Fault.{IsSaid};
+ghost use Rattle.pdbmerge_c.specs.Given.{Fills};
+ghost use Rattle.pdbmerge_c.specs.Stream.{IsStreamOf, IsFaultOfStream, RefusesStream};
+
+use crate::fault::{Fault, refuse};
+use crate::give::give;
+use msf_blocks::Layout;
+use msf_streams::contents;
+use pdb_merge::PdbFault;
+use std::alloc::Global;
+
+/// The bytes of a stream of a file. They are lent from the file where its blocks are consecutive, and
+/// gathered into the buffer otherwise.
+fn read_stream<'a>(
+    alloc: Global,
+    file: &'a [u8],
+    stream: u32,
+    buffer: &'a mut Vec<u8>,
+) -> Result<&'a [u8], PdbFault>
+    ensures value { IfOk result (λ bytes. IsStreamOf file.now stream bytes.now) }
+    ensures first { IfErr result (IsFaultOfStream file.now stream) }
+{
+    let layout = Layout::read(alloc, file)?;
+    Ok(contents(alloc, file, &layout, stream, buffer)?)
+}
+
+/// Copies the bytes of a stream, by its number from 0, to the front of `out`. `size` is how many there
+/// are.
+///
+/// The faults, in order: those of the container; a container without this stream; `MEMORY`, where
+/// neither is; `ROOM`, and then `size` is set too.
+#[tactic(auto, using(crate::proofs::NumberLaws::pdb_known))]
+#[unsafe(no_mangle)]
+pub extern "C" fn pdbmerge_stream(
+    alloc: Global,
+    file: &[u8],
+    stream: u32,
+    out: &mut [u8],
+    size: &mut u64,
+    fault: &mut Fault,
+) -> u32
+    ensures told { IsSaid fault.new result }
+    ensures value { result ≡ 0 → (bytes : List ℕ) × IsStreamOf file.now stream bytes
+        × (size.new ≡ length bytes) × Fills bytes out.old out.new }
+    ensures room { result ≡ 100 → (bytes : List ℕ) × IsStreamOf file.now stream bytes
+        × (size.new ≡ length bytes) × (length out.old < length bytes) }
+    ensures refuses { result ≢ 0 → result ≢ 100 → RefusesStream file.now stream fault.new }
+    ensures untouched { result ≢ 0 → out.new ≡ out.old }
+    ensures kept { result ≢ 0 → result ≢ 100 → size.new ≡ size.old }
+{
+    let mut buffer = Vec::new(alloc);
+    match read_stream(alloc, file, stream, &mut buffer) {
+        Ok(bytes) => give(bytes, out, size, fault),
+        Err(why) => refuse(fault, why.number(), None, &why),
+    }
+}
