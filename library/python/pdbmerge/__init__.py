@@ -1,0 +1,306 @@
+"""The types of Program Database (PDB) files: checked, merged, compared and shown.
+
+Each call takes files as they are in memory: bytes, bytearray, memoryview or mmap. No copy of them is
+made. Their bytes must not change while a call runs, so a mapped file must not be written or truncated
+meanwhile. Any number of threads may call at the same time, and they run side by side.
+
+A call that refuses raises PdbError. The numbers and texts are those of the program `pdbmerge`.
+"""
+from __future__ import annotations
+
+import builtins
+import ctypes as c
+import dataclasses
+import itertools
+import os
+import uuid
+from typing import Callable, Dict, Iterable, Iterator, List, Optional, Tuple, Type, TypeVar
+
+from . import _library
+from ._library import Buffer
+
+__all__ = [
+    'Buffer',
+    'Counts',
+    'Difference',
+    'Identity',
+    'Merged',
+    'OutOfMemory',
+    'PdbError',
+    'Record',
+    'Reference',
+    'SettingsError',
+    'check',
+    'diff',
+    'identify',
+    'merge',
+    'records',
+    'stream',
+    'types',
+    'version',
+]
+
+# The stream that holds the type records, and the type index of the first of them.
+_TYPES = 2
+_FIRST = 0x1000
+_LARGEST = 2**32 - 1
+_LARGEST_BLOCK = 32768
+
+
+class PdbError(Exception):
+    """A refusal. `number` is that of the fault, `index` the position of the input at fault, if there is one."""
+
+    def __init__(self, text: str, number: int, index: Optional[int] = None) -> None:
+        super().__init__(text, number, index)
+        self.number = number
+        self.index = index
+
+    def __str__(self) -> str:
+        return str(self.args[0])
+
+
+class OutOfMemory(PdbError, MemoryError):
+    """There was not enough memory for a call."""
+
+
+class SettingsError(PdbError, ValueError):
+    """The limit or the block size is none that a file can have."""
+
+
+@dataclasses.dataclass(frozen=True)
+class Identity:
+    """What identifies a file. A symbol server matches on the GUID and the age."""
+
+    guid: uuid.UUID
+    age: int
+    block_size: int
+
+
+@dataclasses.dataclass(frozen=True)
+class Counts:
+    """How many type records an accepted file has, their bytes, and the types in the longest chain of references."""
+
+    records: int
+    bytes: int
+    levels: int
+
+
+@dataclasses.dataclass(frozen=True)
+class Merged:
+    """A file that was written, how many types it has, and how many bytes their records have."""
+
+    file: builtins.bytes
+    types: int
+    bytes: int
+
+
+@dataclasses.dataclass(frozen=True)
+class Reference:
+    """A type that a record names. `place` is where in the record, counted behind its first four bytes."""
+
+    place: int
+    index: int
+
+
+@dataclasses.dataclass(frozen=True)
+class Difference:
+    """A type that only one of two files has: `input` 0 or 1. `origin` says that the difference begins here."""
+
+    input: int
+    index: int
+    origin: bool
+
+
+@dataclasses.dataclass(frozen=True)
+class Record:
+    """A type record. `data` is the whole record: its length, its kind and its body."""
+
+    index: int
+    data: memoryview
+
+    @property
+    def kind(self) -> int:
+        """The kind, as 0x1505 for a structure."""
+        return int.from_bytes(self.data[2:4], 'little')
+
+    def references(self) -> List[Reference]:
+        """The types that the record names, in the order of their places."""
+        with _library.lent(self.data) as [data]:
+            named, count = _listed(
+                _library.Reference,
+                16,
+                lambda *answer: _library.references(data.bytes, data.length, self.index, *answer),
+            )
+        return [Reference(each.place, each.index) for each in itertools.islice(named, count)]
+
+    def name(self) -> Optional[bytes]:
+        """The name of the type, or None where there is none, or none that can be read."""
+        size, fault = c.c_uint64(), _library.Fault()
+        with _library.lent(self.data) as [data]:
+            made = _made(
+                256,
+                lambda: 0 if size.value == _library.NO_NAME else size.value,
+                lambda out, room: _done(
+                    _library.name(data.bytes, data.length, self.index, out, room, size, fault), fault
+                ),
+            )
+        return None if size.value == _library.NO_NAME else made
+
+
+_EXCEPTIONS: Dict[int, Type[PdbError]] = {_library.MEMORY: OutOfMemory, _library.SETTINGS: SettingsError}
+
+
+def _done(status: int, fault: _library.Fault) -> bool:
+    """Raises the exception of a fault. Otherwise it says whether there was enough room."""
+    if status in (0, _library.ROOM):
+        return status == 0
+    text = fault.text.decode('ascii', 'backslashreplace') + ('...' if fault.length > len(fault.text) else '')
+    index = None if fault.input == _library.NO_INPUT else fault.input
+    raise _EXCEPTIONS.get(status, PdbError)(text, status, index)
+
+
+_Item = TypeVar('_Item', c.c_uint64, _library.Reference, _library.Difference)
+
+
+def _listed(
+    item: Type[_Item], room: int, call: Callable[[c.Array[_Item], int, c.c_uint64, _library.Fault], int]
+) -> Tuple[c.Array[_Item], int]:
+    """The items of a call, and how many there are. If there was too little room, it is called once more."""
+    while True:
+        items, count, fault = (item * room)(), c.c_uint64(), _library.Fault()
+        if _done(call(items, room, count, fault), fault):
+            return items, count.value
+        room = count.value
+
+
+def _made(room: int, length: Callable[[], int], call: Callable[[int, int], bool]) -> bytes:
+    """The bytes that a call writes. If there was too little room, it is called once more."""
+    while True:
+        with _library.NewBytes(room) as made:
+            if call(made.address, room):
+                return made.cut(length())
+        room = length()
+
+
+def _word(number: int, what: str) -> int:
+    """A number that has 32 bits. ctypes would cut it without a word."""
+    if not 0 <= number <= _LARGEST:
+        raise ValueError(f'{what} is not in 0..{_LARGEST}: {number}')
+    return number
+
+
+def _setting(number: int) -> int:
+    """A limit or a block size. What has more than 32 bits is refused as the largest number is."""
+    return number if 0 <= number <= _LARGEST else _LARGEST
+
+
+def _seed() -> _library.Seed:
+    return _library.Seed.from_buffer_copy(os.urandom(16))
+
+
+def version() -> Tuple[int, int, int]:
+    """The version of the library: major, minor and patch."""
+    number = _library.version()
+    return number >> 16, number >> 8 & 255, number & 255
+
+
+def identify(file: Buffer) -> Identity:
+    """What identifies a file. Its types are not looked at."""
+    identity, fault = _library.Identity(), _library.Fault()
+    with _library.lent(file) as [data]:
+        _done(_library.identify(data.bytes, data.length, identity, fault), fault)
+    return Identity(uuid.UUID(bytes=bytes(identity.guid)), identity.age, identity.block_size)
+
+
+def check(file: Buffer) -> Counts:
+    """Checks whether the types of a file can be trusted, as the command `check` does."""
+    counts, fault = _library.Counts(), _library.Fault()
+    with _library.lent(file) as [data]:
+        _done(_library.check(data.bytes, data.length, counts, fault), fault)
+    return Counts(counts.records, counts.bytes, counts.levels)
+
+
+def merge(
+    files: Iterable[Buffer], *, guid: uuid.UUID, age: int, limit: int = 2**30, block_size: int = 4096
+) -> Merged:
+    """One file with exactly the types of all files, each once, in canonical order.
+
+    The same types give the same bytes, whatever the order of the files and however often one is given.
+    `limit` is the most bytes that the type records may have together.
+    """
+    settings = _library.Settings(
+        guid=(c.c_uint8 * 16)(*guid.bytes),
+        age=_word(age, 'age'),
+        limit=_setting(limit),
+        block_size=_setting(block_size),
+        seed=_seed(),
+    )
+    report, fault = _library.Report(), _library.Fault()
+    with _library.lent(*files) as slices:
+        table = (_library.Slice * len(slices))(*slices)
+        file = _made(
+            _room(slices, settings.limit),
+            lambda: report.length,
+            lambda out, room: _done(
+                _library.merge(table, len(table), settings, out, room, report, fault), fault
+            ),
+        )
+    return Merged(file, report.types, report.bytes)
+
+
+def _room(files: List[_library.Slice], limit: int) -> int:
+    """Room for what is merged, unless streams share blocks: the types, the lists of blocks, and the other streams."""
+    types = min(sum(file.length for file in files), limit)
+    return types + types // 64 + 16 * _LARGEST_BLOCK
+
+
+def stream(file: Buffer, number: int) -> bytes:
+    """A copy of a stream of a file, by its number from 0."""
+    _word(number, 'number')
+    size, fault = c.c_uint64(), _library.Fault()
+    with _library.lent(file) as [data]:
+        return _made(
+            0,
+            lambda: size.value,
+            lambda out, room: _done(
+                _library.stream(data.bytes, data.length, number, out, room, size, fault), fault
+            ),
+        )
+
+
+def records(file: Buffer) -> Iterator[Record]:
+    """The type records of a file, which are not checked as types. A fault is raised at once."""
+    held = memoryview(stream(file, _TYPES))
+    with _library.lent(held) as [data]:
+        offsets, count = _listed(
+            c.c_uint64, 0, lambda *answer: _library.records(data.bytes, data.length, *answer)
+        )
+    return _each(held, itertools.islice(offsets, count))
+
+
+def _each(held: memoryview, offsets: Iterable[int]) -> Iterator[Record]:
+    """The records that begin at these offsets."""
+    for index, at in enumerate(offsets, _FIRST):
+        end = at + 2 + int.from_bytes(held[at:at + 2], 'little')
+        yield Record(index, held[at:end])
+
+
+def types(file: Buffer) -> Iterator[Record]:
+    """The type records of a file that `check` accepts. A fault is raised at once."""
+    check(file)
+    return records(file)
+
+
+def diff(first: Buffer, second: Buffer) -> List[Difference]:
+    """The types that only one of two files has, those of the first file first.
+
+    There are none exactly where both files have the same types.
+    """
+    seed = _seed()
+    with _library.lent(first, second) as [one, other]:
+        found, count = _listed(
+            _library.Difference,
+            256,
+            lambda *answer: _library.diff(one.bytes, one.length, other.bytes, other.length, seed, *answer),
+        )
+    return [Difference(each.input, each.index, each.origin != 0) for each in itertools.islice(found, count)]
