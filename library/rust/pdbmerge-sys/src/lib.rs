@@ -1,0 +1,231 @@
+//! The declarations of `pdbmerge.h`, which says what each call does and what it asks of its pointers.
+//! The crate `pdbmerge` has safe calls.
+#![no_std]
+#![allow(non_camel_case_types)]
+#![deny(missing_docs, unsafe_op_in_unsafe_fn)]
+
+/// The version of the header: major, minor and patch, a byte each.
+pub const PDBMERGE_VERSION: u32 = 0x000100;
+
+/// The answer is there.
+pub const PDBMERGE_OK: u32 = 0;
+/// The types have more bytes together than the limit.
+pub const PDBMERGE_TOO_LARGE: u32 = 32;
+/// There was not enough memory.
+pub const PDBMERGE_MEMORY: u32 = 33;
+/// There is too little room; the call says how much it takes.
+pub const PDBMERGE_ROOM: u32 = 100;
+/// The limit or the block size is none that a file can have.
+pub const PDBMERGE_SETTINGS: u32 = 101;
+
+/// The input of a fault that names none.
+pub const PDBMERGE_NO_INPUT: u64 = u64::MAX;
+/// The length of a name that is not there.
+pub const PDBMERGE_NO_NAME: u64 = u64::MAX;
+
+/// What a call says of its fault.
+#[repr(C)]
+#[derive(Clone, Copy, Debug)]
+pub struct pdbmerge_fault {
+    /// The position of the input at fault, or [`PDBMERGE_NO_INPUT`].
+    pub input: u64,
+    /// How many bytes the whole text has.
+    pub length: u64,
+    /// What the call returned.
+    pub number: u32,
+    /// The text, or its first 235 bytes, and NULs.
+    pub text: [u8; 236],
+}
+
+/// Some bytes: those of a file.
+#[repr(C)]
+#[derive(Clone, Copy, Debug)]
+pub struct pdbmerge_slice {
+    /// The first byte.
+    pub bytes: *const u8,
+    /// How many bytes there are.
+    pub length: usize,
+}
+
+/// Random bytes, for hashes alone.
+#[repr(C)]
+#[derive(Clone, Copy, Debug)]
+pub struct pdbmerge_seed {
+    /// The bytes.
+    pub bytes: [u8; 16],
+}
+
+/// What identifies a file.
+#[repr(C)]
+#[derive(Clone, Copy, Debug, Default)]
+pub struct pdbmerge_identity {
+    /// The GUID, in the order in which it is printed.
+    pub guid: [u8; 16],
+    /// The age.
+    pub age: u32,
+    /// The size of a block, in bytes.
+    pub block_size: u32,
+}
+
+/// What an accepted file has.
+#[repr(C)]
+#[derive(Clone, Copy, Debug, Default)]
+pub struct pdbmerge_counts {
+    /// How many type records.
+    pub records: u32,
+    /// How many bytes all records have together.
+    pub bytes: u32,
+    /// How many types are in the longest chain of references.
+    pub levels: u32,
+}
+
+/// What a file that is written is to have.
+#[repr(C)]
+#[derive(Clone, Copy, Debug)]
+pub struct pdbmerge_settings {
+    /// The GUID, in the order in which it is printed.
+    pub guid: [u8; 16],
+    /// The age.
+    pub age: u32,
+    /// The most bytes that the type records may have together.
+    pub limit: u32,
+    /// The size of a block, in bytes.
+    pub block_size: u32,
+    /// Random bytes.
+    pub seed: pdbmerge_seed,
+}
+
+/// What was written.
+#[repr(C)]
+#[derive(Clone, Copy, Debug, Default)]
+pub struct pdbmerge_report {
+    /// How many bytes the file has.
+    pub length: u64,
+    /// How many types it has.
+    pub types: u32,
+    /// How many bytes their records have together.
+    pub bytes: u32,
+}
+
+/// A type that a record names.
+#[repr(C)]
+#[derive(Clone, Copy, Debug, Default)]
+pub struct pdbmerge_reference {
+    /// Where its type index stands in the record, counted behind the first four bytes.
+    pub place: u32,
+    /// The type index.
+    pub index: u32,
+}
+
+/// A type that only one of two files has.
+#[repr(C)]
+#[derive(Clone, Copy, Debug, Default)]
+pub struct pdbmerge_difference {
+    /// The file that has it: 0 or 1.
+    pub input: u32,
+    /// The type index of its first record there.
+    pub index: u32,
+    /// 1 where the difference begins, else 0.
+    pub origin: u32,
+}
+
+const _: () = {
+    use core::mem::size_of;
+    assert!(size_of::<pdbmerge_fault>() == 256);
+    assert!(size_of::<pdbmerge_slice>() == 2 * size_of::<usize>());
+    assert!(size_of::<pdbmerge_seed>() == 16);
+    assert!(size_of::<pdbmerge_identity>() == 24);
+    assert!(size_of::<pdbmerge_counts>() == 12);
+    assert!(size_of::<pdbmerge_settings>() == 44);
+    assert!(size_of::<pdbmerge_report>() == 16);
+    assert!(size_of::<pdbmerge_reference>() == 8);
+    assert!(size_of::<pdbmerge_difference>() == 12);
+};
+
+extern "C" {
+    /// The version of the library, as [`PDBMERGE_VERSION`].
+    pub fn pdbmerge_version() -> u32;
+
+    /// Reads what identifies a file.
+    pub fn pdbmerge_identify(
+        file: *const u8,
+        length: usize,
+        identity: *mut pdbmerge_identity,
+        fault: *mut pdbmerge_fault,
+    ) -> u32;
+
+    /// Checks whether the types of a file can be trusted.
+    pub fn pdbmerge_check(
+        file: *const u8,
+        length: usize,
+        counts: *mut pdbmerge_counts,
+        fault: *mut pdbmerge_fault,
+    ) -> u32;
+
+    /// Writes one file with exactly the types of all files.
+    pub fn pdbmerge_merge(
+        files: *const pdbmerge_slice,
+        count: usize,
+        settings: *const pdbmerge_settings,
+        out: *mut u8,
+        room: usize,
+        report: *mut pdbmerge_report,
+        fault: *mut pdbmerge_fault,
+    ) -> u32;
+
+    /// Copies a stream of a file.
+    pub fn pdbmerge_stream(
+        file: *const u8,
+        length: usize,
+        stream: u32,
+        out: *mut u8,
+        room: usize,
+        size: *mut u64,
+        fault: *mut pdbmerge_fault,
+    ) -> u32;
+
+    /// Lists where each type record begins.
+    pub fn pdbmerge_records(
+        stream: *const u8,
+        length: usize,
+        offsets: *mut u64,
+        room: usize,
+        count: *mut u64,
+        fault: *mut pdbmerge_fault,
+    ) -> u32;
+
+    /// Lists the types that a record names.
+    pub fn pdbmerge_references(
+        record: *const u8,
+        length: usize,
+        index: u32,
+        references: *mut pdbmerge_reference,
+        room: usize,
+        count: *mut u64,
+        fault: *mut pdbmerge_fault,
+    ) -> u32;
+
+    /// Copies the name of the type that a record describes.
+    pub fn pdbmerge_name(
+        record: *const u8,
+        length: usize,
+        index: u32,
+        out: *mut u8,
+        room: usize,
+        size: *mut u64,
+        fault: *mut pdbmerge_fault,
+    ) -> u32;
+
+    /// Lists the types that only one of two files has.
+    pub fn pdbmerge_diff(
+        first: *const u8,
+        first_length: usize,
+        second: *const u8,
+        second_length: usize,
+        seed: *const pdbmerge_seed,
+        differences: *mut pdbmerge_difference,
+        room: usize,
+        count: *mut u64,
+        fault: *mut pdbmerge_fault,
+    ) -> u32;
+}
