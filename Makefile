@@ -4,7 +4,7 @@ PREFIX ?= /usr/local
 PROGRAM := build/pdbmerge
 SOURCES := $(shell find crates -name '*.rt' -o -name '*.antt') crates.txt
 
-.PHONY: all try demo test bench install dist clean
+.PHONY: all try demo test bench install library dist clean
 
 all: $(PROGRAM)
 
@@ -36,13 +36,14 @@ demo:
 # The gate: every proof from nothing, every must-fail edit, every test; then the program as a
 # process, on the shipped files, with each call to the system failing in turn, with what is built
 # around it, and a minute of damaged files; then half a minute of them over the libraries, by the
-# program of campaign_driver. tests/tools installs the tools that this needs, and `rt ci` leaves the
-# programs that it proved and linked.
+# program of campaign_driver. tests/tools installs the tools that this needs, `rt ci` leaves the
+# programs that it proved and linked, and tools/archive compiles the library for C.
 test:
 	tests/tools
 	$(RT) ci
 	mkdir -p build
 	cp crates/pdbmerge/out/pdbmerge $(PROGRAM)
+	tools/archive
 	docs/figures --check
 	tools/stale
 	tools/unreached
@@ -59,6 +60,7 @@ test:
 	tests/faults $(PROGRAM)
 	tests/cookbook $(PROGRAM)
 	tests/manual $(PROGRAM)
+	tests/library $(ARCHIVE) $(PROGRAM)
 	tests/dist $(PROGRAM)
 	tests/spread $(PROGRAM)
 	PDBMERGE=$(PROGRAM) tests/campaign 60 1
@@ -77,9 +79,18 @@ install: $(PROGRAM)
 	install -D -m 644 completions/_pdbmerge $(SHARE)/zsh/site-functions/_pdbmerge
 	install -D -m 644 completions/pdbmerge.fish $(SHARE)/fish/vendor_completions.d/pdbmerge.fish
 
-# A tar file and a Debian package, in build/dist.
-dist: $(PROGRAM)
-	tools/dist $(PROGRAM) build/dist
+# The static library of the crate, from which the libraries for C are made. Its crate is proved first.
+ARCHIVE := crates/pdbmerge_c/out/libpdbmerge_c.a
+$(ARCHIVE): $(SOURCES)
+	cd crates/pdbmerge_c && $(RT) lib
+
+# The shared and the static library for C, in build/library.
+library: $(ARCHIVE)
+	tools/library $(ARCHIVE) build/library
+
+# All packages, in build/dist.
+dist: $(PROGRAM) $(ARCHIVE)
+	tools/dist $(PROGRAM) build/dist $(ARCHIVE)
 
 clean:
 	rm -rf build crates/*/out

@@ -1,0 +1,203 @@
+/* Lets each allocation of each call fail in turn, and looks at the answer and at what was written.
+ *
+ * usage: failing FIRST SECOND REFUSED, three files, of which the calls refuse the last one
+ *
+ * It is linked with --wrap=malloc,--wrap=realloc,--wrap=free, so that the library allocates here.
+ * After an allocation that failed the answer is `33 Memory`, and nothing else was written; or it is
+ * the right one. Nothing that a call allocated is left when it returns. */
+#include "checks.h"
+
+void *__real_malloc(size_t size);
+void *__real_realloc(void *block, size_t size);
+void __real_free(void *block);
+void *__wrap_malloc(size_t size);
+void *__wrap_realloc(void *block, size_t size);
+void __wrap_free(void *block);
+
+/* All that the calls write but their faults. */
+struct results {
+    pdbmerge_identity identity;
+    pdbmerge_counts counts;
+    pdbmerge_report report;
+    uint64_t size;
+    uint64_t offsets[1 << 12];
+    pdbmerge_reference references[1 << 8];
+    pdbmerge_difference differences[1 << 12];
+    uint8_t out[1 << 19];
+};
+
+static long allocations, live, fails_at;
+static pdbmerge_slice files[3];
+
+static int fails(void) {
+    return ++allocations == fails_at;
+}
+
+void *__wrap_malloc(size_t size) {
+    void *block = fails() ? NULL : __real_malloc(size);
+    live += block != NULL;
+    return block;
+}
+
+void *__wrap_realloc(void *block, size_t size) {
+    void *moved = fails() ? NULL : __real_realloc(block, size);
+    live += block == NULL && moved != NULL;
+    return moved;
+}
+
+void __wrap_free(void *block) {
+    live -= block != NULL;
+    __real_free(block);
+}
+
+/* ---- The calls */
+
+static uint32_t run_identify(struct results *to, pdbmerge_fault *fault) {
+    return pdbmerge_identify(files[0].bytes, files[0].length, &to->identity, fault);
+}
+
+static uint32_t run_check(struct results *to, pdbmerge_fault *fault) {
+    return pdbmerge_check(files[0].bytes, files[0].length, &to->counts, fault);
+}
+
+static uint32_t run_check_refused(struct results *to, pdbmerge_fault *fault) {
+    return pdbmerge_check(files[2].bytes, files[2].length, &to->counts, fault);
+}
+
+static uint32_t merge(size_t count, size_t room, struct results *to, pdbmerge_fault *fault) {
+    pdbmerge_settings settings = settings_of(4096);
+    return pdbmerge_merge(files, count, &settings, to->out, room, &to->report, fault);
+}
+
+static uint32_t run_merge(struct results *to, pdbmerge_fault *fault) {
+    return merge(2, sizeof to->out, to, fault);
+}
+
+static uint32_t run_merge_refused(struct results *to, pdbmerge_fault *fault) {
+    return merge(3, sizeof to->out, to, fault);
+}
+
+static uint32_t run_merge_room(struct results *to, pdbmerge_fault *fault) {
+    return merge(2, 0, to, fault);
+}
+
+static uint32_t run_stream(struct results *to, pdbmerge_fault *fault) {
+    return pdbmerge_stream(files[0].bytes, files[0].length, 2, to->out, sizeof to->out, &to->size, fault);
+}
+
+static uint32_t diff(const pdbmerge_slice *second, struct results *to, pdbmerge_fault *fault) {
+    pdbmerge_seed seed = {{1}};
+    return pdbmerge_diff(files[0].bytes, files[0].length, second->bytes, second->length, &seed,
+                         to->differences, sizeof to->differences / sizeof *to->differences, &to->size, fault);
+}
+
+static uint32_t run_diff(struct results *to, pdbmerge_fault *fault) {
+    return diff(&files[1], to, fault);
+}
+
+static uint32_t run_diff_refused(struct results *to, pdbmerge_fault *fault) {
+    return diff(&files[2], to, fault);
+}
+
+/* Stream 2 of the first file. */
+static pdbmerge_slice stream;
+
+static uint32_t run_records(struct results *to, pdbmerge_fault *fault) {
+    return pdbmerge_records(stream.bytes, stream.length,
+                            to->offsets, sizeof to->offsets / sizeof *to->offsets, &to->size, fault);
+}
+
+/* Its records begin behind the header, which has 56 bytes. */
+static uint32_t run_references(struct results *to, pdbmerge_fault *fault) {
+    return pdbmerge_references(stream.bytes + 56, stream.length - 56, 0x1000, to->references,
+                               sizeof to->references / sizeof *to->references, &to->size, fault);
+}
+
+static uint32_t run_name(struct results *to, pdbmerge_fault *fault) {
+    return pdbmerge_name(stream.bytes + 56, stream.length - 56, 0x1000,
+                         to->out, sizeof to->out, &to->size, fault);
+}
+
+/* ---- Failing */
+
+static const struct call {
+    const char *name;
+    uint32_t (*run)(struct results *, pdbmerge_fault *);
+    uint32_t number; /* the right answer */
+} CALLS[] = {
+    {"identify", run_identify, PDBMERGE_OK},
+    {"check", run_check, PDBMERGE_OK},
+    {"check of a refused file", run_check_refused, 34},
+    {"merge", run_merge, PDBMERGE_OK},
+    {"merge of a refused file", run_merge_refused, 34},
+    {"merge without room", run_merge_room, PDBMERGE_ROOM},
+    {"stream", run_stream, PDBMERGE_OK},
+    {"records", run_records, PDBMERGE_OK},
+    {"references", run_references, PDBMERGE_OK},
+    {"name", run_name, PDBMERGE_OK},
+    {"diff", run_diff, PDBMERGE_OK},
+    {"diff of a refused file", run_diff_refused, 34},
+};
+
+/* The answer of a call of which this allocation fails, and nothing before it was written. */
+struct answer {
+    uint32_t number;
+    pdbmerge_fault fault;
+    struct results results;
+};
+
+static void run(const struct call *call, long at, struct answer *answer) {
+    memset(answer, 0xA5, sizeof *answer);
+    allocations = live = 0;
+    fails_at = at;
+    answer->number = call->run(&answer->results, &answer->fault);
+    hold(call->name, answer->fault.number, answer->number);
+    hold("blocks that are left", (uint64_t)live, 0);
+}
+
+/* Lets one allocation fail. Whether the answer was 33. */
+static int fail(const struct call *call, long at, const struct answer *right,
+                const struct results *untouched) {
+    static struct answer answer;
+    run(call, at, &answer);
+    if (answer.number != PDBMERGE_MEMORY) {
+        hold(call->name, memcmp(&answer, right, sizeof answer) == 0, 1);
+        return 0;
+    }
+    hold_text(call->name, answer.fault.text, "33 Memory");
+    hold("length of the text", answer.fault.length, 9);
+    hold("input of the fault", answer.fault.input, PDBMERGE_NO_INPUT);
+    hold("nothing is written after 33", memcmp(&answer.results, untouched, sizeof *untouched) == 0, 1);
+    return 1;
+}
+
+/* Lets each allocation of a call fail. How many answers were 33. */
+static long fail_each(const struct call *call) {
+    static struct answer right;
+    static struct results untouched;
+    memset(&untouched, 0xA5, sizeof untouched);
+    run(call, 0, &right);
+    hold(call->name, right.number, call->number);
+    long all = allocations, refused = 0;
+    for (long at = 1; at <= all; at++)
+        refused += fail(call, at, &right, &untouched);
+    printf("%s: %ld allocations, 33 for %ld\n", call->name, all, refused);
+    return refused;
+}
+
+int main(int argc, char **argv) {
+    static struct results results;
+    pdbmerge_fault fault;
+    long refused = 0;
+    if (argc != 4)
+        return 2;
+    for (int at = 0; at < 3; at++)
+        files[at] = read_file(argv[at + 1]);
+    run_stream(&results, &fault);
+    stream.bytes = memcpy(allocate(results.size), results.out, results.size);
+    stream.length = results.size;
+    for (size_t at = 0; at < sizeof CALLS / sizeof *CALLS; at++)
+        refused += fail_each(&CALLS[at]);
+    hold("some call was refused memory", refused > 0, 1);
+    return finish("failing");
+}

@@ -1,0 +1,308 @@
+/* Room that is too small, NULL for what has no bytes, settings that no file can have, and the texts
+ * of faults.
+ *
+ * usage: room FIRST SECOND CYCLE COUNT, two files that differ in their types, and one whose records
+ *        0x1000 and so on, as many as COUNT says, each name themselves */
+#include "checks.h"
+
+enum {
+    HEADER = 56,          /* the bytes in front of the records of a type stream */
+    KEPT = 235,           /* the most bytes of a text that are kept */
+    PATTERN = 0xA5,       /* what is in memory before a call */
+    MORE = 64             /* memory behind the room of a call */
+};
+
+static pdbmerge_slice first, second, cycle, stream;
+static unsigned long cycles;
+
+/* ---- Room */
+
+typedef uint32_t given_room(void *out, size_t room, uint64_t *size, pdbmerge_fault *fault);
+
+static uint32_t into_stream(void *out, size_t room, uint64_t *size, pdbmerge_fault *fault) {
+    return pdbmerge_stream(first.bytes, first.length, 2, out, room, size, fault);
+}
+
+static uint32_t into_records(void *out, size_t room, uint64_t *size, pdbmerge_fault *fault) {
+    return pdbmerge_records(stream.bytes, stream.length, out, room, size, fault);
+}
+
+static uint32_t into_references(void *out, size_t room, uint64_t *size, pdbmerge_fault *fault) {
+    return pdbmerge_references(stream.bytes + HEADER, stream.length - HEADER, 0x1000,
+                               out, room, size, fault);
+}
+
+static uint32_t into_name(void *out, size_t room, uint64_t *size, pdbmerge_fault *fault) {
+    return pdbmerge_name(stream.bytes + HEADER, stream.length - HEADER, 0x1000, out, room, size, fault);
+}
+
+static uint32_t into_differences(void *out, size_t room, uint64_t *size, pdbmerge_fault *fault) {
+    pdbmerge_seed seed = {{0}};
+    return pdbmerge_diff(first.bytes, first.length, second.bytes, second.length, &seed,
+                         out, room, size, fault);
+}
+
+/* The types and the bytes of the report are looked at as well: those of a merge with enough room. */
+static uint32_t into_merge(void *out, size_t room, uint64_t *size, pdbmerge_fault *fault) {
+    static pdbmerge_report whole;
+    pdbmerge_settings settings = settings_of(4096);
+    pdbmerge_slice files[2] = {first, second};
+    pdbmerge_report report = {0, 0, 0};
+    uint32_t number = pdbmerge_merge(files, 2, &settings, out, room, &report, fault);
+    if (whole.length == 0)
+        whole = report;
+    hold("types of the report", report.types, whole.types);
+    hold("bytes of the report", report.bytes, whole.bytes);
+    *size = report.length;
+    return number;
+}
+
+/* The calls that take room, and the size of an item. */
+static const struct row {
+    const char *name;
+    given_room *call;
+    size_t item;
+} ROWS[] = {
+    {"stream", into_stream, 1},
+    {"records", into_records, sizeof(uint64_t)},
+    {"references", into_references, sizeof(pdbmerge_reference)},
+    {"name", into_name, 1},
+    {"differences", into_differences, sizeof(pdbmerge_difference)},
+    {"merge", into_merge, 1},
+};
+
+/* Whether memory holds the pattern from one place to another. */
+static int is_untouched(const uint8_t *memory, size_t from, size_t to) {
+    while (from < to)
+        if (memory[from++] != PATTERN)
+            return 0;
+    return 1;
+}
+
+/* A fault that belongs to no input. */
+static void hold_fault(const char *what, const pdbmerge_fault *fault, uint32_t number, const char *text) {
+    hold(what, fault->number, number);
+    hold(what, fault->length, strlen(text));
+    hold(what, fault->input, PDBMERGE_NO_INPUT);
+    hold_text(what, fault->text, text);
+    hold(what, fault->text[KEPT], 0);
+}
+
+/* A call with room for so many items of memory that has the pattern. */
+static void hold_room(const struct row *row, uint8_t *memory, size_t room, uint64_t wanted) {
+    pdbmerge_fault fault;
+    uint64_t size = 0;
+    size_t length = wanted * row->item, written = room < wanted ? 0 : length;
+    memset(memory, PATTERN, length + MORE);
+    uint32_t number = row->call(memory, room, &size, &fault);
+    hold(row->name, number, room < wanted ? PDBMERGE_ROOM : PDBMERGE_OK);
+    hold_fault(row->name, &fault, number, room < wanted ? "100 Room" : "");
+    hold(row->name, size, wanted);
+    hold("memory behind the items is as before", is_untouched(memory, written, length + MORE), 1);
+}
+
+static void hold_rooms(const struct row *row) {
+    pdbmerge_fault fault;
+    uint64_t wanted = 0;
+    hold(row->name, row->call(NULL, 0, &wanted, &fault), PDBMERGE_ROOM);
+    hold_fault(row->name, &fault, PDBMERGE_ROOM, "100 Room");
+    hold("there are some items", wanted > 0, 1);
+    size_t length = wanted * row->item;
+    uint8_t *memory = allocate(length + MORE), *same = allocate(length + MORE);
+    hold_room(row, memory, wanted - 1, wanted);
+    hold_room(row, same, wanted + MORE / row->item, wanted);
+    hold_room(row, memory, wanted, wanted);
+    hold("the same items with more room", memcmp(memory, same, length) == 0, 1);
+    free(memory);
+    free(same);
+}
+
+/* ---- NULL for what has no bytes */
+
+/* A fault that belongs to an input. */
+static void hold_input(const pdbmerge_fault *fault, uint64_t input, const char *text) {
+    hold(text, fault->input, input);
+    hold_text("text of the fault", fault->text, text);
+    hold(text, fault->length, strlen(text));
+}
+
+static void hold_null_files(void) {
+    pdbmerge_fault fault;
+    pdbmerge_identity identity;
+    pdbmerge_counts counts;
+    uint64_t size = 7;
+    memset(&identity, PATTERN, sizeof identity);
+    memset(&counts, PATTERN, sizeof counts);
+    hold("identify of NULL", pdbmerge_identify(NULL, 0, &identity, &fault), 1);
+    hold_fault("identify of NULL", &fault, 1, "1 Short");
+    hold("identity is as before", is_untouched((uint8_t *)&identity, 0, sizeof identity), 1);
+    hold("check of NULL", pdbmerge_check(NULL, 0, &counts, &fault), 1);
+    hold_fault("check of NULL", &fault, 1, "1 Short");
+    hold("counts are as before", is_untouched((uint8_t *)&counts, 0, sizeof counts), 1);
+    hold("stream of NULL", pdbmerge_stream(NULL, 0, 0, NULL, 0, &size, &fault), 1);
+    hold_fault("stream of NULL", &fault, 1, "1 Short");
+    hold("records of NULL", pdbmerge_records(NULL, 0, NULL, 0, &size, &fault), 16);
+    hold_fault("records of NULL", &fault, 16, "16 TpiShort");
+    hold("references of NULL", pdbmerge_references(NULL, 0, 0x1234, NULL, 0, &size, &fault), 22);
+    hold_fault("references of NULL", &fault, 22, "22 RecordShort index 0x1234");
+    hold("name of NULL", pdbmerge_name(NULL, 0, 0x1234, NULL, 0, &size, &fault), 22);
+    hold_fault("name of NULL", &fault, 22, "22 RecordShort index 0x1234");
+    hold("size is as before", size, 7);
+}
+
+static void hold_null_pairs(void) {
+    pdbmerge_fault fault;
+    pdbmerge_seed seed = {{0}};
+    uint64_t count = 7;
+    uint32_t number = pdbmerge_diff(NULL, 0, NULL, 0, &seed, NULL, 0, &count, &fault);
+    hold("diff of NULL", number, 1);
+    hold_input(&fault, 0, "file 0: 1 Short");
+    number = pdbmerge_diff(first.bytes, first.length, NULL, 0, &seed, NULL, 0, &count, &fault);
+    hold("diff with NULL", number, 1);
+    hold_input(&fault, 1, "file 1: 1 Short");
+    hold("count is as before", count, 7);
+    number = pdbmerge_diff(first.bytes, first.length, first.bytes, first.length, &seed,
+                           NULL, 0, &count, &fault);
+    hold("diff of a file with itself", number, PDBMERGE_OK);
+    hold("count of no differences", count, 0);
+}
+
+/* Streams and records that have nothing to list. */
+static void hold_null_room(void) {
+    static const uint32_t header[HEADER / 4] = {20040203, HEADER, 0x1000, 0x1000};
+    static const uint8_t label[] = {6, 0, 0x0e, 0, 0, 0, 0, 0};
+    pdbmerge_fault fault;
+    uint64_t size = 7;
+    uint32_t number = pdbmerge_stream(cycle.bytes, cycle.length, 0, NULL, 0, &size, &fault);
+    hold("an empty stream", number, PDBMERGE_OK);
+    hold("size of an empty stream", size, 0);
+    size = 7;
+    number = pdbmerge_records((const uint8_t *)header, HEADER, NULL, 0, &size, &fault);
+    hold("a type stream without records", number, PDBMERGE_OK);
+    hold("how many they are", size, 0);
+    size = 7;
+    number = pdbmerge_references(label, sizeof label, 0x1000, NULL, 0, &size, &fault);
+    hold("a record that names nothing", number, PDBMERGE_OK);
+    hold("what it names", size, 0);
+    number = pdbmerge_name(label, sizeof label, 0x1000, NULL, 0, &size, &fault);
+    hold("a record without a name", number, PDBMERGE_OK);
+    hold("the length of no name", size, PDBMERGE_NO_NAME);
+}
+
+/* ---- Merges that are refused */
+
+/* A merge that is refused leaves memory and report as they were. */
+static pdbmerge_fault refused(const pdbmerge_slice *files, size_t count, pdbmerge_settings settings,
+                              uint32_t wanted) {
+    static uint8_t out[1 << 10];
+    pdbmerge_report report;
+    pdbmerge_fault fault;
+    memset(out, PATTERN, sizeof out);
+    memset(&report, PATTERN, sizeof report);
+    uint32_t number = pdbmerge_merge(files, count, &settings, out, sizeof out, &report, &fault);
+    hold("a merge that is refused", number, wanted);
+    hold("its fault", fault.number, wanted);
+    hold("out is as before", is_untouched(out, 0, sizeof out), 1);
+    hold("the report is as before", is_untouched((uint8_t *)&report, 0, sizeof report), 1);
+    return fault;
+}
+
+static void hold_merges(void) {
+    pdbmerge_settings settings = settings_of(4096);
+    static const uint8_t zeros[56];
+    pdbmerge_slice empty = {NULL, 0}, magic = {zeros, sizeof zeros};
+    pdbmerge_slice files[3] = {first, empty, magic};
+    pdbmerge_fault fault = refused(files, 3, settings, 1);
+    hold_input(&fault, 1, "file 1: 1 Short");
+    files[1] = magic;
+    fault = refused(files, 3, settings, 2);
+    hold_input(&fault, 1, "file 1: 2 Magic");
+    settings.limit = 24;
+    fault = refused(files, 3, settings, PDBMERGE_TOO_LARGE);
+    hold("the file that is too large", fault.input, 0);
+    hold("its text", strncmp(fault.text, "file 0: 32 TooLarge bytes ", 26), 0);
+}
+
+static void hold_settings(void) {
+    static const uint32_t sizes[] = {0, 1, 256, 511, 513, 4095, 4097, 65536, UINT32_MAX};
+    pdbmerge_slice bad = {NULL, 0};
+    for (size_t at = 0; at < sizeof sizes / sizeof *sizes; at++) {
+        pdbmerge_fault fault = refused(&bad, 1, settings_of(sizes[at]), PDBMERGE_SETTINGS);
+        hold_fault("a block size that is none", &fault, PDBMERGE_SETTINGS, "101 Settings");
+    }
+    pdbmerge_settings settings = settings_of(4096);
+    settings.limit = (1u << 30) + 1;
+    pdbmerge_fault fault = refused(NULL, 0, settings, PDBMERGE_SETTINGS);
+    hold_fault("a limit that is too high", &fault, PDBMERGE_SETTINGS, "101 Settings");
+}
+
+/* No files have no types, and each block size and limit can be had. */
+static void hold_no_files(void) {
+    pdbmerge_fault fault;
+    pdbmerge_report report;
+    pdbmerge_counts counts;
+    uint8_t *out = allocate(1 << 18);
+    for (uint32_t size = 512; size <= 32768; size *= 2) {
+        pdbmerge_settings settings = settings_of(size);
+        hold("no files", pdbmerge_merge(NULL, 0, &settings, out, 1 << 18, &report, &fault), PDBMERGE_OK);
+        hold_fault("no files", &fault, PDBMERGE_OK, "");
+        hold("types of no files", report.types, 0);
+        hold("bytes of no files", report.bytes, 0);
+        hold("what was made of no files", pdbmerge_check(out, report.length, &counts, &fault), PDBMERGE_OK);
+        hold("its records", counts.records, 0);
+    }
+    free(out);
+}
+
+/* ---- A long text */
+
+/* A text is cut where the room for it ends, and its whole length is told. */
+static void hold_long_text(const char *what, const pdbmerge_fault *fault, const char *begin) {
+    char *text = allocate(strlen(begin) + 16 * cycles);
+    int length = sprintf(text, "%s34 Cycle", begin);
+    for (unsigned long at = 0; at < cycles; at++)
+        length += sprintf(text + length, " 0x%lx", 0x1000 + at);
+    hold("the text is long", length > KEPT, 1);
+    hold(what, fault->length, (uint64_t)length);
+    text[KEPT] = '\0';
+    hold_text(what, fault->text, text);
+    free(text);
+}
+
+static void hold_long_texts(void) {
+    pdbmerge_fault fault;
+    pdbmerge_counts counts;
+    pdbmerge_slice files[2] = {first, cycle};
+    hold("check of cycles", pdbmerge_check(cycle.bytes, cycle.length, &counts, &fault), 34);
+    hold("input of a check", fault.input, PDBMERGE_NO_INPUT);
+    hold_long_text("check of cycles", &fault, "");
+    fault = refused(files, 2, settings_of(4096), 34);
+    hold("input of a merge", fault.input, 1);
+    hold_long_text("merge of cycles", &fault, "file 1: ");
+}
+
+int main(int argc, char **argv) {
+    if (argc != 5)
+        return 2;
+    first = read_file(argv[1]);
+    second = read_file(argv[2]);
+    cycle = read_file(argv[3]);
+    cycles = strtoul(argv[4], NULL, 10);
+    uint8_t *copy = allocate(first.length);
+    uint64_t length = 0;
+    pdbmerge_fault fault;
+    hold("stream 2 of the first file", into_stream(copy, first.length, &length, &fault), PDBMERGE_OK);
+    stream = (pdbmerge_slice){copy, length};
+    if (wrong != 0)
+        return finish("room");
+    for (size_t at = 0; at < sizeof ROWS / sizeof *ROWS; at++)
+        hold_rooms(&ROWS[at]);
+    hold_null_files();
+    hold_null_pairs();
+    hold_null_room();
+    hold_merges();
+    hold_settings();
+    hold_no_files();
+    hold_long_texts();
+    return finish("room");
+}
