@@ -45,6 +45,7 @@ test:
 	cp crates/pdbmerge/out/pdbmerge $(PROGRAM)
 	tools/archive
 	docs/figures --check
+	docs/readmes --check
 	tools/stale
 	tools/unreached
 	tools/columns
