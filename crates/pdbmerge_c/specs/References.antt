@@ -3,7 +3,7 @@ use Rattle.std.specs.Prelude.{ℕ, ◌≡◌, Some, List, map}
 use Rattle.std.specs.declared.alloc.Global.{Global}
 use Rattle.byte_fields.specs.Check.{first_failing}
 use Rattle.cv_leaves.specs.Checks.{record_checks}
-use Rattle.cv_leaves.specs.Place.{HasPlaces}
+use Rattle.cv_leaves.specs.Place.{HasPlaces, IsChecked}
 use Rattle.cv_leaves.specs.References.{reference_at}
 use Rattle.checked_types.specs.declared.fault.TypeFault.TheVariants.{Leaf}
 use Rattle.tpi_records.specs.Records.{BeginsWith, IsFlaw}
@@ -26,11 +26,11 @@ pub record AreReferences (bytes : List ℕ) (found : List Reference) : Type 0 wh
   pub has_places : HasPlaces r places
   pub are : found ≡ map (reference_in r) places
 
--- this is the first fault of the record at the front of the bytes: of its length, else of its leaf; or it is out of memory
+-- this is the first fault of the record at the front of the bytes: of its length, else of its leaf; or it is out of memory, where the record has none
 abbrev pub IsFaultOfRecord : {A : Type 0} → List ℕ → ℕ → PdbFault A → Type 0
 IsFaultOfRecord bytes index (pdb.Tpi inner) = IsFlaw bytes index inner
 IsFaultOfRecord bytes index (pdb.Type (Leaf at inner)) = (at ≡ index) × ((r : List ℕ) × BeginsWith bytes r × (first_failing (record_checks r) ≡ Some inner))
-IsFaultOfRecord bytes index pdb.Memory = Unit {0}
+IsFaultOfRecord bytes index pdb.Memory = (r : List ℕ) × BeginsWith bytes r × IsChecked r
 IsFaultOfRecord bytes index _ = ⊥
 
 -- what is told is such a fault
