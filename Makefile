@@ -44,8 +44,8 @@ test:
 	mkdir -p build
 	cp crates/pdbmerge/out/pdbmerge $(PROGRAM)
 	tools/archive
-	docs/figures --check
-	docs/readmes --check
+	tools/figures --check
+	tools/readmes --check
 	tools/stale
 	tools/unreached
 	tools/columns

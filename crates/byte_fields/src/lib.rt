@@ -12,7 +12,17 @@
 //!
 //! The lemmas about numbers, names, checks and bytes are in `proofs/`, for the crates above.
 //!
-//! The file `src/examples.rt` of the crate `test_examples` shows this crate in use, in a few lines.
+//! # Example
+//!
+//! `byte_fields` reads little-endian numbers. This is a test of the crate `test_examples`:
+//!
+//! ```
+//! fn numbers_at_offsets(rt: HostRuntime) {
+//!     let bytes = b"\x10\0\x34\x12\0\0";
+//!     assert_eq!(rt; u16_at(bytes, 0), 16);
+//!     assert_eq!(rt; u32_at(bytes, 2), 0x1234);
+//! }
+//! ```
 #![tactic(auto)]
 
 mod field;

@@ -140,7 +140,7 @@ impl<'a> ReadAt for &'a [u8] {
 
 /// A file that is read by position. Each read is a seek, and then as many calls of `read` as it
 /// takes. An error breaks it, and so does an end of the file before the last byte that is wanted.
-#[derive(Drop)]
+#[derive(Debug, Drop)]
 pub struct Seeking<F> {
     file: F,
     len: u64,

@@ -34,7 +34,7 @@ impl InputFault {
 }
 
 /// An input that was opened.
-#[derive(Drop)]
+#[derive(Debug, Drop)]
 pub enum Opened<'a, F> {
     /// It was read to its end, and these are its bytes.
     Whole(&'a [u8]),

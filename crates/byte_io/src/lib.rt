@@ -16,7 +16,18 @@
 //! took a proper prefix of the bytes. A sink or a source that broke stays broken. All of this says
 //! nothing where the bytes of a writer or a reader are not known, as those of a file.
 //!
-//! The file `src/examples.rt` of the crate `test_examples` shows this crate in use, in a few lines.
+//! # Example
+//!
+//! `byte_io` writes into whatever takes bytes. This is a test of the crate `test_examples`:
+//!
+//! ```
+//! fn bytes_into_a_sink(rt: HostRuntime) -> Result<(), Fail> {
+//!     let mut file = Vec::new(rt.alloc());
+//!     put_all(&mut Out::new(&mut file), b"two parts")?;
+//!     assert_eq!(rt; file.as_slice(), b"two parts".as_slice());
+//!     Ok(())
+//! }
+//! ```
 #![tactic(auto)]
 
 mod at;

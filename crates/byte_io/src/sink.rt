@@ -31,7 +31,7 @@ pub trait Sink {
 
 /// The sink of a writer. Each `put` is one call of `write`. After an error of `write` no bytes were
 /// taken.
-#[derive(Drop)]
+#[derive(Debug, Drop)]
 pub struct Out<W> {
     writer: W,
     broken: bool,

@@ -29,7 +29,7 @@ pub trait Source {
 }
 
 /// The source of a reader. Each `fetch` is one call of `read`, and an error of `read` gives `None`.
-#[derive(Drop)]
+#[derive(Debug, Drop)]
 pub struct In<R> {
     reader: R,
     broken: bool,

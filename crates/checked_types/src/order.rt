@@ -31,7 +31,7 @@ pub fn record_at<'a, A: Allocator>(records: &mut Cursor<'_, 'a, A>, position: us
 }
 
 /// An order of records in which each comes after those that it names.
-#[derive(Drop)]
+#[derive(Debug, Drop)]
 pub enum Order<A: Allocator = Global> {
     /// The order of the records themselves.
     InFileOrder,
@@ -102,7 +102,7 @@ pub fn arrange<A: Allocator + Copy>(
 /// The positions of records, each after those of the records that it names.
 ///
 /// [`Types::in_order`](crate::Types::in_order) makes it. It does not allocate.
-#[derive(Drop)]
+#[derive(Debug, Drop)]
 pub struct InOrder<'t> {
     // the positions in this order, or `None` where the records are already in order
     listed: Option<&'t [u32]>,

@@ -20,14 +20,14 @@ use crate::order::{InOrder, Order, arrange};
 use closed_trees::levels_of;
 use std::alloc::{Allocator, Global};
 use std::marker::Model;
-use tpi_records::Records;
+use tpi_records::{Iter, Records};
 
 /// The type records of a file. Each is whole and has places, and no record leads into a cycle of
 /// references.
 ///
 /// [`Types::check`] makes it. It keeps the records, and four bytes for each: its depth. Where a
 /// record names a later one, it keeps four more bytes for each: their order.
-#[derive(Drop)]
+#[derive(Debug, Drop)]
 pub struct Types<'a, A: Allocator = Global> {
     records: Records<'a, A>,
     order: Order<A>,
@@ -167,6 +167,16 @@ impl<'a, A: Allocator> Types<'a, A> {
         self.records.get(i)
     }
 
+    /// The records in the order of the file. Each one is lent whole, with its length field.
+    ///
+    /// This does not allocate.
+    pub fn iter(&self) -> Iter<'a>
+        ensures value { result ≡ self.now }
+        ensures types { AreTypes result }
+    {
+        self.records.iter()
+    }
+
     /// The positions of all types, each after those of the types that it names.
     ///
     /// This does not allocate.
@@ -208,5 +218,17 @@ impl<'a, A: Allocator> Types<'a, A> {
         ensures { result ≡ length (concat self.now) }
     {
         self.records.bytes_len()
+    }
+}
+
+impl<'t, 'a, A: Allocator> IntoIterator for &'t Types<'a, A> {
+    type Item = &'a [u8];
+
+    type IntoIter = Iter<'a>;
+
+    ghost into_iter_gives = { λ types iter. (iter ≡ types.now) × AreTypes iter };
+
+    fn into_iter(self) -> Iter<'a> {
+        self.iter()
     }
 }

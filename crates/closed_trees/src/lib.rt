@@ -23,8 +23,27 @@
 //! each position of records that make types, and that it is closed; that each tree branch of a type
 //! is a type; and that a set of types has one canonical list, which reads back as that set.
 //!
-//! The file `src/examples.rt` of the crate `test_examples` shows how a record is renumbered, in a
-//! few lines.
+//! # Example
+//!
+//! `closed_trees` makes a record that names the same types by other type indices. This is a test of
+//! the crate `test_examples`:
+//!
+//! ```
+//! fn a_record_that_is_renumbered(rt: HostRuntime) -> Result<(), Fail> {
+//!     let file = sample(rt.alloc())?;
+//!     let mut buffer = Buffer::new(rt.alloc());
+//!     let types = Types::check(rt.alloc(), read_records(rt.alloc(), &file, &mut buffer)?)?;
+//!     let record = types.get(0).ok_or("no such type")?;
+//!     let mut places = Vec::new(rt.alloc());
+//!     assert!(rt; list_places(record, &mut places)?);
+//!     // it names only simple types, and these stay
+//!     assert!(rt; places.is_empty());
+//!     let mut copy = Vec::new(rt.alloc());
+//!     assert!(rt; renumber_into(&mut copy, record, &places, &[])?);
+//!     assert_eq!(rt; copy.as_slice(), record);
+//!     Ok(())
+//! }
+//! ```
 #![tactic(auto)]
 
 mod depth;

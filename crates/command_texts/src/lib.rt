@@ -14,7 +14,20 @@
 //!
 //! `text` prints numbers and names. Each other module is named for the command whose lines it makes.
 //!
-//! The file `src/examples.rt` of the crate `test_examples` shows this crate in use, in a few lines.
+//! # Example
+//!
+//! `command_texts` appends the lines that commands print. This is a test of the crate
+//! `test_examples`:
+//!
+//! ```
+//! fn lines_of_a_text(rt: HostRuntime) -> Result<(), Fail> {
+//!     let mut text = String::new(rt.alloc());
+//!     push_named(&mut text, "records", 2)?;
+//!     push_quoted(&mut text, b"a \"name\"")?;
+//!     assert_eq!(rt; text.as_str(), "records 2\n\"a \\x22name\\x22\"");
+//!     Ok(())
+//! }
+//! ```
 #![tactic(auto)]
 
 mod check;

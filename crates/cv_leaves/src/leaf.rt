@@ -4,7 +4,7 @@ ghost use Rattle.std.specs.Prelude.{◌≡◌, option_map};
 ghost use Rattle.cv_leaves.specs.Leaf.{leaf_of, leaf_seen};
 
 /// What follows the fields at fixed places: nothing, or parts that lie one after the other.
-#[derive(Clone, Copy)]
+#[derive(Clone, Copy, Debug)]
 pub enum Rest {
     /// Nothing that names a type.
     Nothing,
@@ -19,7 +19,7 @@ pub enum Rest {
 }
 
 /// Where the name of the type begins.
-#[derive(Clone, Copy)]
+#[derive(Clone, Copy, Debug)]
 pub enum Naming {
     /// The leaf has no name.
     Unnamed,
@@ -30,7 +30,7 @@ pub enum Naming {
 }
 
 /// A row of the table.
-#[derive(Clone, Copy)]
+#[derive(Clone, Copy, Debug)]
 pub struct Leaf {
     pub text: &'static str,
     /// The places at fixed offsets of the body.

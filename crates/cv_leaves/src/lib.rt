@@ -38,7 +38,20 @@
 //!
 //! Only [`list_places`] allocates: its list. ("CodeView Type Records".)
 //!
-//! The file `src/examples.rt` of the crate `test_examples` shows this crate in use, in a few lines.
+//! # Example
+//!
+//! `cv_leaves` finds the type indices in a record. This is a test of the crate `test_examples`:
+//!
+//! ```
+//! fn the_references_of_a_record(rt: HostRuntime) -> Result<(), Fail> {
+//!     cv_leaves::check(TO_INT)?;
+//!     let place = places(TO_INT).next().ok_or("it names no type")?;
+//!     assert_eq!(rt; place, 0);
+//!     assert_eq!(rt; ref_at(TO_INT, place), 0x74);
+//!     assert_eq!(rt; type_name(TO_INT), None);
+//!     Ok(())
+//! }
+//! ```
 #![tactic(auto)]
 
 mod checks;

@@ -30,7 +30,7 @@ pub fn places(record: &[u8]) -> RecordPlaces<'_>
 /// The places of a record that are still to come, in rising order.
 ///
 /// [`places`] makes it.
-#[derive(Drop)]
+#[derive(Debug, Drop)]
 pub struct RecordPlaces<'a> {
     body: &'a [u8],
     rest: Rest,

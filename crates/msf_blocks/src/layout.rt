@@ -20,7 +20,7 @@ use std::alloc::{Allocator, Global};
 use std::marker::Model;
 
 /// A stream: its listed size in bytes, and the numbers of its blocks.
-#[derive(Drop)]
+#[derive(Debug, Drop)]
 struct Stream<A: Allocator> {
     size: u32,
     blocks: Vec<u32, A>,
@@ -32,7 +32,7 @@ struct Stream<A: Allocator> {
 /// Made by [`Layout::read`] and [`Layout::read_at`]. Each block number in it is above 0 and below the number of blocks of
 /// the file. Each stream has as many blocks as its bytes need. ("The MSF File Format", "The Stream
 /// Directory".)
-#[derive(Drop)]
+#[derive(Debug, Drop)]
 pub struct Layout<A: Allocator = Global> {
     superblock: Superblock,
     streams: Vec<Stream<A>, A>,

@@ -21,7 +21,21 @@
 //! A reader refuses a container with the fault of the first check that fails. The checks are made
 //! in the order of the variants of [`MsfFault`].
 //!
-//! The file `src/examples.rt` of the crate `test_examples` shows this crate in use, in a few lines.
+//! # Example
+//!
+//! `msf_blocks` reads where the streams of a file are. This is a test of the crate `test_examples`:
+//!
+//! ```
+//! fn the_streams_of_a_file(rt: HostRuntime) -> Result<(), Fail> {
+//!     let file = sample(rt.alloc())?;
+//!     let layout = Layout::read(rt.alloc(), &file)?;
+//!     assert_eq!(rt; layout.superblock().block_size(), 512);
+//!     assert_eq!(rt; layout.streams(), 5);
+//!     assert_eq!(rt; layout.size(2), Some(80));
+//!     assert_eq!(rt; layout.block(2, 0), Some(6));
+//!     Ok(())
+//! }
+//! ```
 #![tactic(auto)]
 
 mod block_file;

@@ -10,7 +10,7 @@ use std::marker::Model;
 /// A container: a file, with its layout. The file has all the blocks that the superblock counts.
 ///
 /// Made by [`Container::new`].
-#[derive(Drop)]
+#[derive(Debug, Drop)]
 pub struct Container<'f, 'l, A: Allocator = Global> {
     file: &'f [u8],
     layout: &'l Layout<A>,

@@ -39,7 +39,23 @@
 //! sink breaks. Streams are refused exactly where they have no image.
 //! ("The MSF File Format", "The Stream Directory".)
 //!
-//! The file `src/examples.rt` of the crate `test_examples` shows this crate in use, in a few lines.
+//! # Example
+//!
+//! `msf_streams` gathers the bytes of a stream, or lends them. This is a test of the crate
+//! `test_examples`:
+//!
+//! ```
+//! fn the_bytes_of_a_stream(rt: HostRuntime) -> Result<(), Fail> {
+//!     let file = sample(rt.alloc())?;
+//!     let layout = Layout::read(rt.alloc(), &file)?;
+//!     let stream = gather(rt.alloc(), &file, &layout, 2)?;
+//!     assert_eq!(rt; stream.len(), 80);
+//!     for piece in pieces(&file, &layout, 2).ok_or("no stream 2")? {
+//!         assert_eq!(rt; piece, stream.as_slice());
+//!     }
+//!     Ok(())
+//! }
+//! ```
 #![tactic(auto)]
 
 mod at;

@@ -154,7 +154,7 @@ pub fn contents<'a, A: Allocator + Copy, L: Allocator>(
 ///
 /// Each piece has as many bytes as a block, but the last one may be shorter. The pieces are lent
 /// from the file, so they may outlive this iterator.
-#[derive(Drop)]
+#[derive(Debug, Drop)]
 pub struct StreamPieces<'a, A: Allocator = Global> {
     container: Container<'a, 'a, A>,
     stream: u32,

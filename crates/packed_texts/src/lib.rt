@@ -4,7 +4,20 @@
 //! which it ends. The length of each text is a multiple of four bytes. So these offsets count
 //! groups of four bytes, and 32 bits are enough for 16 GB of text.
 //!
-//! The file `src/examples.rt` of the crate `test_examples` shows this crate in use, in a few lines.
+//! # Example
+//!
+//! `packed_texts` keeps texts one after the other. This is a test of the crate `test_examples`:
+//!
+//! ```
+//! fn texts_in_one_vector(rt: HostRuntime) -> Result<(), Fail> {
+//!     let mut texts = PackedTexts::new(rt.alloc());
+//!     texts.push(b"four")?;
+//!     texts.push(b"and more")?;
+//!     assert_eq!(rt; texts.get(1), b"and more".as_slice());
+//!     assert_eq!(rt; texts.bytes(), b"fourand more".as_slice());
+//!     Ok(())
+//! }
+//! ```
 #![tactic(auto)]
 
 ghost use Rattle.std.specs.Prelude.{◌≡◌, ◌+◌, ◌-◌, ◌*◌, ◌%◌, ◌^◌, ◌<◌, ◌≤◌, ◌++◌, ◌↔◌, [], ◌∷◌, ℕ, length, get_or, take, IsTrue, IfOk, IfErr};
@@ -16,7 +29,7 @@ use std::marker::Model;
 /// Texts in one vector, with the offset at which each ends.
 ///
 /// The length of each text is a multiple of four bytes. All texts together have less than 16 GB.
-#[derive(Drop)]
+#[derive(Debug, Drop)]
 pub struct PackedTexts<A: Allocator = Global> {
     // the texts, one after the other
     bytes: Vec<u8, A>,

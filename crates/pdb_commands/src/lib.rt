@@ -4,8 +4,9 @@
 //! [`run_info`] and [`run_streams`]. Such a command reads a [`Source`](msf_blocks::Source) to its
 //! end, makes its whole text, and then writes it into a [`Sink`](msf_blocks::Sink). [`run_merge`]
 //! writes one file with the types of several files, and a report on it. [`run_diff`] shows the types
-//! that only one of two files has. Each refusal is a [`RunFault`]. [`run_shown`] runs any command that shows a file, with a limit on the stream that it
-//! reads, and [`check_type_stream`] is that limit.
+//! that only one of two files has. Each refusal is a [`RunFault`]. [`run_shown`] runs any command
+//! that shows a file, with a limit on the stream that it reads, and [`check_type_stream`] is that
+//! limit.
 //!
 //! [`run_records_at`], [`run_record_at`], [`run_types_at`], [`run_check_at`], [`run_info_at`],
 //! [`run_streams_at`] and [`run_shown_at`] read by position, and only what they need.
@@ -21,7 +22,27 @@
 //! The module `command` runs the commands that show a file. Each command has a module of its own.
 //! The crate `command_texts` makes the texts.
 //!
-//! The file `src/examples.rt` of the crate `test_examples` shows this crate in use, in a few lines.
+//! # Example
+//!
+//! `pdb_commands` runs a command on bytes. This is a test of the crate `test_examples`:
+//!
+//! ```
+//! fn a_check_of_a_file(rt: HostRuntime) -> Result<(), Fail> {
+//!     let file = sample(rt.alloc())?;
+//!     let mut text = Vec::new(rt.alloc());
+//!     run_check(
+//!         rt.alloc(),
+//!         &mut In::new(file.as_slice()),
+//!         u32::MAX,
+//!         &mut Out::new(&mut text),
+//!     )?;
+//!     assert_eq!(rt;
+//!         text.as_slice(),
+//!         b"accepted\nrecords 2\nbytes 24\nlevels 1\n".as_slice()
+//!     );
+//!     Ok(())
+//! }
+//! ```
 #![tactic(auto)]
 
 mod bound;

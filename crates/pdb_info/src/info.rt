@@ -17,7 +17,7 @@ use std::marker::Model;
 /// What an info stream says: its header, the streams that have a name, and the feature codes.
 ///
 /// Made by [`Info::read`]. The names are lent from the stream. ("The PDB Info Stream".)
-#[derive(Drop)]
+#[derive(Debug, Drop)]
 pub struct Info<'a, A: Allocator = Global> {
     header: InfoHeader,
     names: Vec<Name<'a>, A>,

@@ -33,7 +33,22 @@
 //! memory. A fault names the first check that fails, or `Memory` where no check fails. A written
 //! info stream has this form, for the age and the GUID of its settings. ("The PDB Info Stream".)
 //!
-//! The file `src/examples.rt` of the crate `test_examples` shows this crate in use, in a few lines.
+//! # Example
+//!
+//! `pdb_info` reads what identifies a file. This is a test of the crate `test_examples`:
+//!
+//! ```
+//! fn the_guid_of_a_file(rt: HostRuntime) -> Result<(), Fail> {
+//!     let file = sample(rt.alloc())?;
+//!     let layout = Layout::read(rt.alloc(), &file)?;
+//!     let stream = gather(rt.alloc(), &file, &layout, 1)?;
+//!     let info = Info::read(rt.alloc(), &stream)?;
+//!     let guid = info.header().guid().to_string(rt.alloc())?;
+//!     assert_eq!(rt; info.header().age(), 1);
+//!     assert_eq!(rt; guid.as_str(), "00112233-4455-6677-8899-aabbccddeeff");
+//!     Ok(())
+//! }
+//! ```
 #![tactic(auto)]
 
 mod fault;

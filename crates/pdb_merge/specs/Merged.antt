@@ -48,7 +48,7 @@ pub record HoldsJust (P : Tree → Type 0) (file : List ℕ) (records : List (Li
   pub types : (t : Tree) → IsType records t ↔ P t
   pub once : StandOnce records
 
--- every list of files with the same types has this file, for all settings with the same age, GUID and block size
+-- any files with the same types give this file, if age, GUID and block size are equal
 abbrev pub IsSameFor : List (List ℕ) → SettingsView → List ℕ → Type 0
 IsSameFor files settings file =
     (others : List (List ℕ)) (its : SettingsView) (other : List ℕ) → its.age ≡ settings.age → its.guid ≡ settings.guid → its.block_size ≡ settings.block_size

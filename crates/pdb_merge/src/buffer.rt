@@ -29,7 +29,7 @@ const HEADER: u32 = 28;
 /// Its bytes can be read only through what is lent from it. It may be used again after any answer:
 /// the bytes that it held are dropped then, and have no effect. It grows with the allocator that it
 /// was made with.
-#[derive(Drop)]
+#[derive(Debug, Drop)]
 pub struct Buffer<A: Allocator = Global> {
     alloc: A,
     bytes: Vec<u8, A>,

@@ -18,7 +18,7 @@ use type_trees::Types;
 
 /// The bytes of one file, and those of its TPI stream where the blocks of the stream are not
 /// consecutive.
-#[derive(Drop)]
+#[derive(Debug, Drop)]
 struct Held<A: Allocator> {
     bytes: Vec<u8, A>,
     buffer: Buffer<A>,
@@ -38,7 +38,7 @@ impl<A: Allocator + Copy> Held<A> {
 ///
 /// Where a read by position fails, the input is read again, to its end. That has memory of its own,
 /// which is used only then.
-#[derive(Drop)]
+#[derive(Debug, Drop)]
 pub struct InputBuffer<A: Allocator = Global> {
     opened: Held<A>,
     whole: Held<A>,

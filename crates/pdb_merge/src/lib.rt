@@ -26,7 +26,30 @@
 //! has the same bytes. A refusal is the first fault. The [`laws`] hold of every file that is
 //! written so.
 //!
-//! The file `src/examples.rt` of the crate `test_examples` shows this crate in use, in a few lines.
+//! # Example
+//!
+//! `pdb_merge` writes one file with the types of several. This is a test of the crate
+//! `test_examples`:
+//!
+//! ```
+//! fn a_merge_of_two_files(rt: HostRuntime) -> Result<(), Fail> {
+//!     let file = sample(rt.alloc())?;
+//!     let settings = Settings::new(guid_of([0x11; 16]), 1, 1000, 4096).ok_or("no settings")?;
+//!     let mut merged = Vec::new(rt.alloc());
+//!     let files: [&[u8]; 2] = [&file, &file];
+//!     let summary = merge_to(
+//!         rt.alloc(),
+//!         files.as_slice(),
+//!         &settings,
+//!         &mut Out::new(&mut merged),
+//!         folding(),
+//!     )?;
+//!     assert_eq!(rt; summary.types, 2);
+//!     let mut buffer = Buffer::new(rt.alloc());
+//!     assert_eq!(rt; read_types(rt.alloc(), &merged, &mut buffer)?.len(), 2);
+//!     Ok(())
+//! }
+//! ```
 #![tactic(auto)]
 
 mod buffer;

@@ -27,7 +27,7 @@ use type_trees::{Canon, JoinFault, Table};
 /// The files are added one after the other, so no two of them need be in memory at once. In
 /// contracts `HasTaken merge files` says which files were taken: [`Merge::new`] has taken none, and
 /// each [`Merge::add`] or [`Merge::add_at`] takes one more.
-#[derive(Drop)]
+#[derive(Debug, Drop)]
 pub struct Merge<S: BuildHasher, A: Allocator = Global> {
     table: Table<S, A>,
     limit: u32,

@@ -13,7 +13,7 @@ use std::alloc::Global;
 
 /// What an accepted file has.
 #[repr(C)]
-#[derive(Clone, Copy)]
+#[derive(Clone, Copy, Debug)]
 pub struct Counts {
     /// How many type records it has.
     pub records: u32,

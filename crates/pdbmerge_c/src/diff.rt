@@ -19,7 +19,7 @@ use type_trees::{Standing, Types, compare};
 
 /// A type that only one of two files has.
 #[repr(C)]
-#[derive(Clone, Copy)]
+#[derive(Clone, Copy, Debug)]
 pub struct OneSided {
     /// The file that has it: 0 or 1.
     pub input: u32,

@@ -23,7 +23,7 @@ const MOST_TEXT: usize = 235;
 
 /// What a call says of its fault.
 #[repr(C)]
-#[derive(Clone, Copy)]
+#[derive(Clone, Copy, Debug)]
 pub struct Fault {
     /// The position of the input at fault, from 0. 2^64 - 1 where the fault names none.
     pub input: u64,

@@ -18,7 +18,7 @@ use std::alloc::Global;
 
 /// What identifies a file.
 #[repr(C)]
-#[derive(Clone, Copy)]
+#[derive(Clone, Copy, Debug)]
 pub struct Identity {
     /// The GUID, in the order in which it is printed.
     pub guid: [u8; 16],

@@ -20,7 +20,7 @@ use uuid::Uuid;
 
 /// What the caller chooses of a file that is written.
 #[repr(C)]
-#[derive(Clone, Copy)]
+#[derive(Clone, Copy, Debug)]
 pub struct Choices {
     /// The GUID, in the order in which it is printed.
     pub guid: [u8; 16],
@@ -34,7 +34,7 @@ pub struct Choices {
 
 /// What was written.
 #[repr(C)]
-#[derive(Clone, Copy)]
+#[derive(Clone, Copy, Debug)]
 pub struct Report {
     /// How many bytes the file has.
     pub length: u64,

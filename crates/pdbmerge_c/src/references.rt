@@ -17,7 +17,7 @@ use type_trees::TypeFault;
 
 /// A type that a record names.
 #[repr(C)]
-#[derive(Clone, Copy)]
+#[derive(Clone, Copy, Debug)]
 pub struct Reference {
     /// The offset in the record's body at which its type index stands. The body is what follows the
     /// first four bytes of the record.

@@ -5,7 +5,7 @@ use std::random::RandomSource;
 
 /// Random bytes, for hashes alone. No answer depends on them.
 #[repr(C)]
-#[derive(Clone, Copy)]
+#[derive(Clone, Copy, Debug)]
 pub struct Seed {
     pub bytes: [u8; 16],
 }

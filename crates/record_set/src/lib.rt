@@ -5,7 +5,26 @@
 //! references of a record needs no look at its leaf. [`Listed`] lends the records and the places of a
 //! set, or of one that was taken apart once no record is looked up any more.
 //!
-//! The file `src/examples.rt` of the crate `test_examples` shows this crate in use, in a few lines.
+//! # Example
+//!
+//! `record_set` keeps each record once, with the places at which it names other records. This is a
+//! test of the crate `test_examples`:
+//!
+//! ```
+//! fn each_record_once(rt: HostRuntime) -> Result<(), Fail> {
+//!     let file = sample(rt.alloc())?;
+//!     let mut buffer = Buffer::new(rt.alloc());
+//!     let types = Types::check(rt.alloc(), read_records(rt.alloc(), &file, &mut buffer)?)?;
+//!     let record = types.get(0).ok_or("no such type")?;
+//!     let mut places = Vec::new(rt.alloc());
+//!     assert!(rt; list_places(record, &mut places)?);
+//!     let mut set = RecordSet::with_hasher(rt.alloc(), folding());
+//!     let first = put_record(&mut set, record, &places)?;
+//!     assert_eq!(rt; put_record(&mut set, record, &places)?, first);
+//!     assert_eq!(rt; set.len(), 1);
+//!     Ok(())
+//! }
+//! ```
 #![tactic(auto)]
 
 mod listed;

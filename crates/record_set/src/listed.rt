@@ -1,6 +1,6 @@
 //! Records with their places, lent.
 
-ghost use Rattle.std.specs.Prelude.{◌≡◌, ◌<◌, [], length, get_or};
+ghost use Rattle.std.specs.Prelude.{◌≡◌, ◌↔◌, IsTrue, ◌<◌, [], length, get_or};
 ghost use Rattle.cv_leaves.specs.Named.{named_places};
 ghost use Rattle.record_set.specs.RecordSet.{HasNamedPlaces};
 
@@ -10,7 +10,7 @@ use std::alloc::{Allocator, Global};
 use std::marker::Model;
 
 /// Records that are lent, each with the places at which it names other records.
-#[derive(Drop)]
+#[derive(Debug, Drop)]
 pub struct Listed<'a, A: Allocator = Global> {
     records: &'a PackedTexts<A>,
     // for each record, the places at which it names others
@@ -42,6 +42,13 @@ impl<'a, A: Allocator> Listed<'a, A> {
         ensures { result ≡ length self.now }
     {
         self.records.len()
+    }
+
+    /// Whether there are no records.
+    pub fn is_empty(&self) -> bool
+        ensures { IsTrue result ↔ (length self.now ≡ 0) }
+    {
+        self.len() == 0
     }
 
     /// The bytes of the record at a position, from 0.

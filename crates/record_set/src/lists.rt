@@ -1,13 +1,13 @@
 //! Lists of places, one after the other in one vector.
 
-ghost use Rattle.std.specs.Prelude.{◌≡◌, ◌+◌, ◌^◌, ◌<◌, ◌≤◌, ◌++◌, [], ◌∷◌, length, get_or, take, IfOk, IfErr};
+ghost use Rattle.std.specs.Prelude.{◌≡◌, ◌↔◌, IsTrue, ◌+◌, ◌^◌, ◌<◌, ◌≤◌, ◌++◌, [], ◌∷◌, length, get_or, take, IfOk, IfErr};
 ghost use Rattle.std.specs.List.{concat};
 
 use std::alloc::{AllocError, Allocator, Global};
 use std::marker::Model;
 
 /// Lists of places of records. All lists together have fewer than 2^32 places.
-#[derive(Drop)]
+#[derive(Debug, Drop)]
 pub struct PlaceLists<A: Allocator = Global> {
     // the places of each list, one list after the other
     places: Vec<u16, A>,
@@ -67,6 +67,13 @@ impl<A: Allocator> PlaceLists<A> {
         ensures { result ≡ length self.now }
     {
         self.ends.len()
+    }
+
+    /// Whether there are no lists.
+    pub fn is_empty(&self) -> bool
+        ensures { IsTrue result ↔ (length self.now ≡ 0) }
+    {
+        self.len() == 0
     }
 
     /// The list at a position, from 0.

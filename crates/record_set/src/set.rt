@@ -18,7 +18,7 @@ use text_set::TextSet;
 /// other records.
 ///
 /// The length of each record is a multiple of four bytes, and at least four. Positions count from 0.
-#[derive(Drop)]
+#[derive(Debug, Drop)]
 pub struct RecordSet<S: BuildHasher, A: Allocator = Global> {
     records: TextSet<S, A>,
     // for each record, the places at which it names others

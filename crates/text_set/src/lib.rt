@@ -4,7 +4,20 @@
 //! text has a 32-bit key: its hash, or the next number that was free when it came. The bytes are
 //! compared before two texts count as equal, so the result never depends on the hash.
 //!
-//! The file `src/examples.rt` of the crate `test_examples` shows this crate in use, in a few lines.
+//! # Example
+//!
+//! `text_set` gives equal texts one position. This is a test of the crate `test_examples`:
+//!
+//! ```
+//! fn each_text_once(rt: HostRuntime) -> Result<(), Fail> {
+//!     let mut set = TextSet::with_hasher(rt.alloc(), folding());
+//!     let first = set.intern(b"four")?;
+//!     set.intern(b"more")?;
+//!     assert_eq!(rt; set.intern(b"four")?, first);
+//!     assert_eq!(rt; set.len(), 2);
+//!     Ok(())
+//! }
+//! ```
 #![tactic(auto)]
 
 mod find;

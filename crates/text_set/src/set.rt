@@ -15,7 +15,7 @@ use std::marker::Model;
 /// Distinct texts, in the order in which they arrived.
 ///
 /// The length of each text is a multiple of four bytes, and at least four. Positions count from 0.
-#[derive(Drop)]
+#[derive(Debug, Drop)]
 pub struct TextSet<S: BuildHasher, A: Allocator = Global> {
     texts: PackedTexts<A>,
     keys: Keys<A>,

@@ -10,7 +10,7 @@ use std::marker::Model;
 ///
 /// Nodes are numbered from 0, in the order in which they were pushed. There are fewer than 2^32
 /// nodes, and together they name fewer than 2^32.
-#[derive(Drop)]
+#[derive(Debug, Drop)]
 pub struct Graph<A: Allocator = Global> {
     // what node 0 names, then what node 1 names, and so on
     named: Vec<u32, A>,

@@ -7,7 +7,24 @@
 //!
 //! The walk keeps its path in a list. It doesn't recurse, and it reads each name at most twice.
 //!
-//! The file `src/examples.rt` of the crate `test_examples` shows this crate in use, in a few lines.
+//! # Example
+//!
+//! `topological_order` puts each node of a graph after the nodes that it names. This is a test of
+//! the crate `test_examples`:
+//!
+//! ```
+//! fn nodes_after_what_they_name(rt: HostRuntime) -> Result<(), Fail> {
+//!     let mut graph = Graph::with_capacity(rt.alloc(), 3)?;
+//!     graph.push(&[1])?;
+//!     graph.push(&[2])?;
+//!     graph.push(&[])?;
+//!     // A caller shows that no node names one that the graph does not have.
+//!     assert!(rt; names_nodes(&graph));
+//!     let order = topological_order(rt.alloc(), &graph)?;
+//!     assert_eq!(rt; order.as_slice(), [2, 1, 0].as_slice());
+//!     Ok(())
+//! }
+//! ```
 #![tactic(auto)]
 
 mod fault;

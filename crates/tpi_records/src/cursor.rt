@@ -12,7 +12,7 @@ use std::marker::Model;
 ///
 /// [`Records::cursor`] makes it. The record after the one that was looked up last is found in one
 /// step, and any other as [`Records::get`] finds it.
-#[derive(Drop)]
+#[derive(Debug, Drop)]
 pub struct Cursor<'r, 'a, A: Allocator = Global> {
     records: &'r Records<'a, A>,
     /// The position of the first record of `left`.

@@ -10,7 +10,7 @@ use std::marker::Model;
 /// The records of a TPI stream that are still to come, in order.
 ///
 /// Made by [`Records::iter`](crate::Records::iter). Each record is lent from the stream.
-#[derive(Drop)]
+#[derive(Debug, Drop)]
 pub struct Iter<'a> {
     left: &'a [u8],
 }

@@ -28,7 +28,21 @@
 //! fails. A stream that begins with a written header has the records that follow it.
 //! ("The PDB TPI and IPI Streams".)
 //!
-//! The file `src/examples.rt` of the crate `test_examples` shows this crate in use, in a few lines.
+//! # Example
+//!
+//! `tpi_records` cuts a stream into records. This is a test of the crate `test_examples`:
+//!
+//! ```
+//! fn the_records_of_a_stream(rt: HostRuntime) -> Result<(), Fail> {
+//!     let mut stream = Vec::new(rt.alloc());
+//!     stream.extend_from_slice(&tpi_header_bytes(1, 12))?;
+//!     stream.extend_from_slice(TO_INT)?;
+//!     let records = Records::read(rt.alloc(), &stream)?;
+//!     assert_eq!(rt; records.len(), 1);
+//!     assert_eq!(rt; records.get(0), Some(TO_INT));
+//!     Ok(())
+//! }
+//! ```
 #![tactic(auto)]
 
 mod cursor;

@@ -24,7 +24,7 @@ fn start_below(starts: &[u32], position: usize) -> Option<usize>
 /// Made by [`Records::read`]. It keeps a reference to the bytes of the records, and the starts of
 /// records 0, 64, 128 and so on, each in four bytes. A record between two of them is found by
 /// stepping over those before it. ("The PDB TPI and IPI Streams", "Type Records".)
-#[derive(Drop)]
+#[derive(Debug, Drop)]
 pub struct Records<'a, A: Allocator = Global> {
     bytes: &'a [u8],
     count: u32,
@@ -159,5 +159,18 @@ impl<'a, A: Allocator> Records<'a, A> {
         ensures { result ≡ self.now }
     {
         Cursor::over(self, self.bytes)
+    }
+}
+
+impl<'r, 'a, A: Allocator> IntoIterator for &'r Records<'a, A> {
+    type Item = &'a [u8];
+
+    type IntoIter = Iter<'a>;
+
+    ghost into_iter_gives = { λ records iter.
+        (iter ≡ records.now) × AllByRecursion IsRecord iter × (length iter < 2 ^ 30) };
+
+    fn into_iter(self) -> Iter<'a> {
+        self.iter()
     }
 }

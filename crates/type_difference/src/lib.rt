@@ -12,7 +12,22 @@
 //! Both lists are put into one set, and then only the positions of their types in it are compared:
 //! this takes time in proportion to both lists, and nothing recurses along references.
 //!
-//! The file `src/examples.rt` of the crate `test_examples` compares two lists, in a few lines.
+//! # Example
+//!
+//! `type_difference` tells which types one list has and the other lacks, and where that begins.
+//! This is a test of the crate `test_examples`:
+//!
+//! ```
+//! fn where_two_lists_differ(rt: HostRuntime) -> Result<(), Fail> {
+//!     // a const int and a pointer to it, and a volatile int and a pointer to it
+//!     let one = stream_with(rt.alloc(), &[CONST, TO_FIRST])?;
+//!     let other = stream_with(rt.alloc(), &[VOLATILE, TO_FIRST])?;
+//!     let found = standings_in(rt.alloc(), &one, &other)?;
+//!     let want = [Standing::Origin, Standing::Follows];
+//!     assert_eq!(rt; found.as_slice(), want.as_slice());
+//!     Ok(())
+//! }
+//! ```
 #![tactic(auto)]
 
 mod difference;

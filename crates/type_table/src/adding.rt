@@ -30,7 +30,7 @@ pub fn are_bytes(text: &[u8])
 {}
 
 /// The memory in which a record is made ready for the set. It serves one record after the other.
-#[derive(Drop)]
+#[derive(Debug, Drop)]
 struct Renumbered<A: Allocator> {
     // the record with its new type indices
     bytes: Vec<u8, A>,
@@ -42,7 +42,7 @@ struct Renumbered<A: Allocator> {
 const KEPT_NUMBERS: usize = 1 << 16;
 
 /// The memory that adding records takes. It serves one input after the other.
-#[derive(Drop)]
+#[derive(Debug, Drop)]
 pub struct Workspace<A: Allocator> {
     // for each record of the input, its position in the set, or 0 where it has none yet
     numbers: Vec<u32, A>,

@@ -25,7 +25,7 @@ use std::marker::Model;
 /// `0x1000 + i`, and the records name each other by these type indices. So each record names only
 /// earlier records, and equal sets have equal lists. The records lie one after the other in one
 /// vector, and have fewer than 2^32 bytes together.
-#[derive(Drop)]
+#[derive(Debug, Drop)]
 pub struct Canon<A: Allocator = Global> {
     pub(crate) texts: PackedTexts<A>,
 }
@@ -132,5 +132,17 @@ impl<A: Allocator> Canon<A> {
         ensures { result ≡ length (concat self.now) }
     {
         self.texts.bytes().len() as u32
+    }
+}
+
+impl<'a, A: Allocator> IntoIterator for &'a Canon<A> {
+    type Item = &'a [u8];
+
+    type IntoIter = CanonRecords<'a, A>;
+
+    ghost into_iter_gives = { λ canon iter. iter ≡ canon.now };
+
+    fn into_iter(self) -> CanonRecords<'a, A> {
+        self.records()
     }
 }

@@ -10,7 +10,7 @@ use std::marker::Model;
 /// An iterator over the records of a canonical list, each whole.
 ///
 /// [`Canon::records`] makes it. It borrows the list and does not allocate.
-#[derive(Drop)]
+#[derive(Debug, Drop)]
 pub struct CanonRecords<'a, A: Allocator = Global> {
     canon: &'a Canon<A>,
     position: usize,

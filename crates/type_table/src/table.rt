@@ -86,7 +86,7 @@ fn list_of<A: Allocator + Copy>(
 ///
 /// If the table holds a type, it holds each type that this one names. The records have fewer than
 /// 2^32 bytes together.
-#[derive(Drop)]
+#[derive(Debug, Drop)]
 pub struct Table<S: BuildHasher, A: Allocator = Global> {
     texts: RecordSet<S, A>,
     // the depth of each type
@@ -169,9 +169,9 @@ impl<S: BuildHasher, A: Allocator + Copy> Table<S, A> {
     /// added.
     ///
     /// The records are checked on the way, and one that is in the table already is only compared.
-    /// They are not added where a check fails, where a record names itself or a later one, where the
-    /// records of the union have more than `limit` bytes together, or out of memory. The table then
-    /// holds the types that it held before, and [`Types::check`] and [`Table::add`] tell the fault.
+    /// Returns false, and leaves the types as they were, if a check fails, if a record names itself
+    /// or a later one, if the records of the union have more than `limit` bytes together, or if
+    /// memory runs out. [`Types::check`] and [`Table::add`] tell the fault.
     #[tactic(auto, unfolding(crate::specs::Merge::IsRecordWalk))]
     pub fn add_records(&mut self, alloc: A, records: &Records<'_, A>, limit: u32) -> bool
         ensures types { IsTrue result → AreTypes records.now }

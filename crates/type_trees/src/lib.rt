@@ -11,7 +11,30 @@
 //! `canonical_list`. A clause of a crate above names the definitions of the crate in which they
 //! stand, as `AreTypes` of `closed_trees`.
 //!
-//! The file `src/examples.rt` of the crate `test_examples` shows the types in use, in a few lines.
+//! # Example
+//!
+//! `type_trees` has the names of the crates of types: `checked_types` checks records, and a table
+//! of `type_table` lists the types of several files in canonical order (`canonical_list`). This is
+//! a test of the crate `test_examples`:
+//!
+//! ```
+//! fn types_in_canonical_order(rt: HostRuntime) -> Result<(), Fail> {
+//!     let file = sample(rt.alloc())?;
+//!     let mut buffer = Buffer::new(rt.alloc());
+//!     let types = Types::check(rt.alloc(), read_records(rt.alloc(), &file, &mut buffer)?)?;
+//!     assert_eq!(rt; types.levels(), 1);
+//!     let mut table = Table::with_hasher(rt.alloc(), folding());
+//!     table.add(rt.alloc(), &types, 1000)?;
+//!     drop(types);
+//!     let records = read_records(rt.alloc(), &file, &mut buffer)?;
+//!     // each record names only earlier ones, so the records can be added as they stand
+//!     assert!(rt; table.add_records(rt.alloc(), &records, 1000));
+//!     let canon = table.finish(rt.alloc())?;
+//!     assert_eq!(rt; canon.len(), 2);
+//!     assert_eq!(rt; canon.get(1), Some(TO_INT));
+//!     Ok(())
+//! }
+//! ```
 #![tactic(auto)]
 
 pub mod laws;
