@@ -1,4 +1,4 @@
--- How a call on several files answers: they are accepted, or they are refused with a fault.
+-- How a call on several files answers: the files are accepted, or they are refused with a fault.
 use Rattle.std.specs.Prelude.{ℕ, ◌≡◌, ◌≢◌, List, Option, Result, length, IfSome}
 use Rattle.byte_io.specs.Inputs.{Give, CanRead}
 use Rattle.byte_io.specs.declared.inputs.InputFault.{InputFault}

@@ -60,7 +60,7 @@ pub record IsFileOf (files : List (List ℕ)) (settings : SettingsView) (file : 
   pub made : file ≡ merged_file settings records
   -- it is accepted, and its types are exactly those of the files, each once, in canonical order
   pub holds : HoldsJust (HasType files) file records
-  -- every other list of files with the same types has the same file
+  -- any files with the same types give this file, if age, GUID and block size are equal
   pub same : IsSameFor files settings file
   -- it can be merged alone, and this gives the same file again
   pub can : CanMerge (file ∷ []) (record_limit settings)

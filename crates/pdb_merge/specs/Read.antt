@@ -47,7 +47,7 @@ pub record IsAccepted (file : List ℕ) (records : List (List ℕ)) : Type 0 whe
   pub info : HasLongInfo file has.layout
   pub types : AreTypes records
 
--- reads gave these records: they are those of the text that reads gave of stream 2 of this layout
+-- reads gave these records: they are the records of bytes that reads gave for stream 2 of this layout
 abbrev pub RecordsWereRead : Bytes → LayoutView → List (List ℕ) → Type 0
 RecordsWereRead bytes layout records = (stream : List ℕ) × WasRead bytes layout 2 stream × HasRecords stream records
 
@@ -95,13 +95,13 @@ HasInfoFaultRead layout (fault.Stream inner) = (length layout.streams ≤ 1) × 
 HasInfoFaultRead layout (fault.Info inner) = (info : Listed) × (slice_get layout.streams 1 ≡ Some info) × (bytes_of info.size < 28) × (inner ≡ InfoShort)
 HasInfoFaultRead layout _ = ⊥
 
--- stream 2 of this layout has this fault: it is missing, or it is the first fault of the text that reads gave of it
+-- stream 2 of this layout has this fault: the stream is missing, or reads gave bytes for it, and this is their first fault
 abbrev pub HasStreamFaultRead : {A : Type 0} → Bytes → LayoutView → PdbFault A → Type 0
 HasStreamFaultRead bytes layout (fault.Stream inner) = (length layout.streams ≤ 2) × (inner ≡ NoStream 2)
 HasStreamFaultRead bytes layout (fault.Tpi inner) = (stream : List ℕ) × WasRead bytes layout 2 stream × IsFirstFault stream inner
 HasStreamFaultRead bytes layout _ = ⊥
 
--- reads gave records of this layout whose first fault this is, as types
+-- reads gave records for stream 2 of this layout, and this is their first fault as types
 abbrev pub HasTypeFaultRead : {A : Type 0} → Bytes → LayoutView → PdbFault A → Type 0
 HasTypeFaultRead bytes layout (fault.Type inner) = (records : List (List ℕ)) × RecordsWereRead bytes layout records × HasTypeFault records inner
 HasTypeFaultRead bytes layout _ = ⊥
@@ -110,11 +110,11 @@ HasTypeFaultRead bytes layout _ = ⊥
 abbrev pub HasPdbFaultRead : {A : Type 0} → Bytes → LayoutView → PdbFault A → Type 0
 HasPdbFaultRead bytes layout inner = HasInfoFaultRead layout inner ⊎ (ListsLongInfo layout × (HasStreamFaultRead bytes layout inner ⊎ HasTypeFaultRead bytes layout inner))
 
--- reads gave texts of a container with this fault of its layout
+-- reads gave bytes of a container, and its layout has this fault
 abbrev pub IsLayoutFaultRead : {A : Type 0} → Bytes → PdbFault A → Type 0
 IsLayoutFaultRead bytes (fault.Msf inner) = TextsRefuse bytes inner
 IsLayoutFaultRead bytes _ = ⊥
 
--- reads gave texts with this fault: those of the layout have it, or else what reads gave of its streams
+-- reads gave bytes with this fault: the layout has it, or reads gave a layout without a fault and what they gave of its streams has it
 abbrev pub HasFaultOfTexts : {A : Type 0} → (Bytes → LayoutView → PdbFault A → Type 0) → Bytes → PdbFault A → Type 0
 HasFaultOfTexts Refuses bytes inner = IsLayoutFaultRead bytes inner ⊎ ((layout : LayoutView) × HasTexts bytes layout × Refuses bytes layout inner)

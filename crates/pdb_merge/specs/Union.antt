@@ -50,7 +50,7 @@ pub record Lists (l : List Tree) (P : Tree → Type 0) : Type 0 where
 abbrev pub Weighs : (Tree → Type 0) → ℕ → Type 0
 Weighs P bytes = (l : List Tree) × Lists l P × (weight l ≡ bytes)
 
--- they have at most `limit` bytes together
+-- the trees that have P have at most `limit` bytes together
 abbrev pub Within : (Tree → Type 0) → ℕ → Type 0
 Within P limit = (bytes : ℕ) × Weighs P bytes × (bytes ≤ limit)
 
@@ -62,7 +62,7 @@ pub record AddsFile (before after : List (List ℕ)) (file : List ℕ) : Type 0 
   pub accepted : IsAccepted file records
   pub types : (t : Tree) → IsType after t ↔ (IsType before t ⊎ IsType records t)
 
--- `after` has the types of `before` and those that reads gave: the texts of a layout, and the records of its stream 2
+-- `after` has the types of `before` and those that reads gave: reads gave a layout, and the records of its stream 2
 pub record AddsTexts (before after : List (List ℕ)) (bytes : Bytes) : Type 0 where
   pub layout : LayoutView
   pub has_texts : HasTexts bytes layout
@@ -70,27 +70,27 @@ pub record AddsTexts (before after : List (List ℕ)) (bytes : Bytes) : Type 0 w
   pub were_read : TypesWereRead bytes layout records
   pub types : (t : Tree) → IsType after t ↔ (IsType before t ⊎ IsType records t)
 
--- this is why the file is not added to the types of `before`: it is not accepted, or the union has `bytes` bytes, more than the limit, or it is out of memory
+-- this is why the file is not added to the types of `before`: it is not accepted, or the union has `bytes` bytes, more than the limit, or memory ran out
 abbrev pub IsAddFault : {A : Type 0} → List (List ℕ) → ℕ → List ℕ → AddFault A → Type 0
 IsAddFault before limit file (add.Refused fault) = HasPdbFault file fault
 IsAddFault before limit file (add.TooLarge bytes) =
     (records : List (List ℕ)) × IsAccepted file records × Weighs (λ t. IsType before t ⊎ IsType records t) bytes × (limit < bytes)
 IsAddFault before limit file add.Memory = Unit {0}
 
--- this is why what reads gave of this layout is not added to the types of `before`: it has this fault, or the union has `heavy` bytes, more than the limit, or it is out of memory
+-- this is why what reads gave of this layout is not added to the types of `before`: it has this fault, or the union has `heavy` bytes, more than the limit, or memory ran out
 abbrev pub IsAddFaultRead : {A : Type 0} → List (List ℕ) → ℕ → Bytes → LayoutView → AddFault A → Type 0
 IsAddFaultRead before limit bytes layout (add.Refused fault) = HasPdbFaultRead bytes layout fault
 IsAddFaultRead before limit bytes layout (add.TooLarge heavy) =
     (records : List (List ℕ)) × TypesWereRead bytes layout records × Weighs (λ t. IsType before t ⊎ IsType records t) heavy × (limit < heavy)
 IsAddFaultRead before limit bytes layout add.Memory = Unit {0}
 
--- reads gave texts of a container with this fault of its layout
+-- reads gave bytes of a container, and its layout has this fault; or memory ran out
 abbrev pub IsLayoutAddFault : {A : Type 0} → Bytes → AddFault A → Type 0
 IsLayoutAddFault bytes (add.Refused fault) = IsLayoutFaultRead bytes fault
 IsLayoutAddFault bytes (add.TooLarge heavy) = ⊥
 IsLayoutAddFault bytes add.Memory = Unit {0}
 
--- this is why what reads gave is not added to the types of `before`: the texts of the layout have this fault, or else what reads gave of its streams
+-- this is why what reads gave is not added to the types of `before`: the layout has this fault, or reads gave a layout without a fault and what they gave of its streams is not added for this reason
 abbrev pub IsAddFaultOfTexts : {A : Type 0} → List (List ℕ) → ℕ → Bytes → AddFault A → Type 0
 IsAddFaultOfTexts before limit bytes fault = IsLayoutAddFault bytes fault ⊎ ((layout : LayoutView) × HasTexts bytes layout × IsAddFaultRead before limit bytes layout fault)
 
@@ -106,7 +106,7 @@ pub record CanMergeBelow (files : List (List ℕ)) (end limit : ℕ) : Type 0 wh
   pub accepted : AcceptedBelow files end
   pub within : Within (HasTypeBelow files end) limit
 
--- this is why the files are not merged: those before one of them can be merged, and it has this fault, or the union with it has `bytes` bytes, more than the limit; or it is out of memory
+-- this is why the files are not merged: the files before one of them can be merged, and this one has this fault, or the union with it has `bytes` bytes, more than the limit; or memory ran out
 abbrev pub IsMergeFault : {A : Type 0} → List (List ℕ) → ℕ → MergeFault A → Type 0
 IsMergeFault files limit (merge.Refused file fault) = (file < length files) × CanMergeBelow files file limit × HasPdbFault (get_or files file []) fault
 IsMergeFault files limit (merge.TooLarge file bytes) =
@@ -114,19 +114,19 @@ IsMergeFault files limit (merge.TooLarge file bytes) =
 IsMergeFault files limit merge.Memory = Unit {0}
 IsMergeFault files limit (merge.Input file fault) = ⊥
 
--- this is why the types of the files are not read: those before one of them are accepted, and it has this fault; or it is out of memory
+-- this is why the types of the files are not read: the files before one of them are accepted, and this one has this fault; or memory ran out
 abbrev pub IsReadingFault : {A : Type 0} → List (List ℕ) → MergeFault A → Type 0
 IsReadingFault files (merge.Refused file fault) = (file < length files) × AcceptedBelow files file × HasPdbFault (get_or files file []) fault
 IsReadingFault files merge.Memory = Unit {0}
 IsReadingFault files _ = ⊥
 
--- this is why the types of the file at this position are not read: it has this fault, or it is out of memory
+-- this is why the types of the file at this position are not read: it has this fault, or memory ran out
 abbrev pub IsReadingFaultAt : {A : Type 0} → List (List ℕ) → ℕ → MergeFault A → Type 0
 IsReadingFaultAt files position (merge.Refused file fault) = (file ≡ position) × HasPdbFault (get_or files position []) fault
 IsReadingFaultAt files position merge.Memory = Unit {0}
 IsReadingFaultAt files position _ = ⊥
 
--- reading comes first: this fault is that of the first input that cannot be read, or every input can be read, or it is out of memory
+-- reading comes first: this fault is that of the first input that cannot be read, or every input can be read, or memory ran out
 abbrev pub ReadsFirst : {A : Type 0} → List (Result (List ℕ) InputFault) → MergeFault A → Type 0
 ReadsFirst each (merge.Input file fault) = IsFirstUnread each file fault
 ReadsFirst each merge.Memory = Unit {0}

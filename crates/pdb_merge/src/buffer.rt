@@ -141,8 +141,8 @@ impl<A: Allocator + Copy> Buffer<A> {
         self.stream_records(alloc, &Container::new(file, &layout))
     }
 
-    /// Drops the bytes of the buffer, and lends the records of a file whose stream 1 has a header.
-    /// They are not checked yet.
+    /// Drops the bytes of the buffer, and lends the records of a file. They are not checked yet. A
+    /// file without the header of stream 1 is refused.
     pub(crate) fn list_records<'a>(
         &'a mut self,
         alloc: A,
@@ -245,8 +245,8 @@ impl<A: Allocator + Copy> Buffer<A> {
         self.records_of(alloc, input, &layout)
     }
 
-    /// Reads the records of a file with this layout whose stream 1 has a header by position, and
-    /// lends them. They are not checked yet.
+    /// Reads the records of a file with this layout by position, and lends them. They are not
+    /// checked yet. A file without the header of stream 1 is refused.
     pub(crate) fn listed_of<'a, R: ReadAt>(
         &'a mut self,
         alloc: A,
@@ -274,8 +274,8 @@ impl<A: Allocator + Copy> Buffer<A> {
         Ok(records)
     }
 
-    /// Reads the records of a file whose stream 1 has a header by position, and lends them. They
-    /// are not checked yet.
+    /// Reads the records of a file by position, and lends them. They are not checked yet. A file
+    /// without the header of stream 1 is refused.
     pub(crate) fn listed_at<'a, R: ReadAt>(
         &'a mut self,
         alloc: A,

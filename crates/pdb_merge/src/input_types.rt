@@ -36,8 +36,8 @@ impl<A: Allocator + Copy> Held<A> {
 
 /// Holds what is read of one input. Its types are then lent from here, or from the input.
 ///
-/// Where a read by position fails, the input is read again, to its end. That has memory of its own,
-/// which is used only then.
+/// If a read by position fails, the input is read again, to its end. The second read has memory of
+/// its own, which is used only then.
 #[derive(Debug, Drop)]
 pub struct InputBuffer<A: Allocator = Global> {
     opened: Held<A>,
@@ -78,8 +78,8 @@ fn opened_types<'a, F: ReadAt + Drop, A: Allocator + Copy>(
     }
 }
 
-/// Why the types of an input with this fault are not read. An input after it that cannot be read
-/// comes first.
+/// The fault for an input that is not accepted, because of this fault. If an input after it cannot
+/// be read, that comes first.
 fn refuse<I: Inputs, A: Allocator>(inputs: &I, input: usize, fault: PdbFault<A>) -> MergeFault<A>
     requires few { input + 1 < 2 ^ 64 }
     requires inside { IfSome (I.known inputs.now) (λ each. input < length each) }
@@ -127,14 +127,14 @@ fn whole_types<'a, I: Inputs, A: Allocator + Copy>(
     }
 }
 
-/// Reads the types of the input at a position, from 0, where those before it were read. The types
+/// Reads the types of the input at a position, from 0. The inputs before it were read. The types
 /// are lent from the buffer or from the input.
 ///
-/// The input is opened, read and judged as a merge does it. One that is opened by position is read
-/// only as far as its types need it, and to its end where such a read fails. An input that cannot
-/// be read is refused first, `Input`, even if it comes after one that has a fault of its own. Then
-/// comes the fault of this input, `Refused`. Both name the input by its position. `Memory` is out of
-/// memory.
+/// The input is opened, read and judged as a merge does it. An input that is opened by position is
+/// read only as far as its types need it. If such a read fails, the input is read to its end. An
+/// input that cannot be read is refused first, `Input`, even if it comes after one that has a fault
+/// of its own. Then comes the fault of this input, `Refused`. Both name the input by its position.
+/// `Memory` is out of memory.
 pub fn read_input_types<'a, I: Inputs, A: Allocator + Copy>(
     alloc: A,
     inputs: &'a I,
@@ -147,11 +147,11 @@ pub fn read_input_types<'a, I: Inputs, A: Allocator + Copy>(
     ensures value { (files : List (List ℕ)) → Give (I.known inputs.now) files →
         IfOk result (IsAccepted (get_or files input [])) }
     ensures read { OnOk result (IfSome (I.known inputs.now) (λ each. CanRead each (input + 1))) }
-    // Where the inputs before this one are accepted, the fault is the first of all.
+    // If the inputs before this one are accepted, the fault is the first fault of all inputs.
     ensures refuses { ((files : List (List ℕ)) → Give (I.known inputs.now) files →
         AcceptedBelow files input) →
         IfErr result (RefusesReading (I.known inputs.now)) }
-    // Where every input can be read, the fault is that of this one.
+    // If every input can be read, the fault is that of this input.
     ensures own { (files : List (List ℕ)) → Give (I.known inputs.now) files →
         IfErr result (IsReadingFaultAt files input) }
 {

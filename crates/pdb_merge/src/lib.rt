@@ -6,25 +6,25 @@
 //! of the file, and no record leads into a cycle.
 //!
 //! - [`read_types`] reads the types of a file. They are lent from the file if the blocks of its TPI
-//!   stream are consecutive. Otherwise they are lent from a [`Buffer`], which the caller passes. The
-//!   caller may pass the same buffer for the next file, so the gathered streams of two files
+//!   stream are consecutive. Otherwise they are lent from a [`Buffer`], which the caller passes.
+//!   The caller may pass the same buffer for the next file, so the gathered streams of two files
 //!   are never in memory at once. [`PdbFault`] is the first fault on the way.
 //! - [`read_records_at`] and [`read_types_at`] read the type records and the types by position: of
 //!   the file only its directory and the blocks of its TPI stream. [`read_records_of`] and
 //!   [`read_types_of`] do so where the layout of the file was read before.
-//! - [`read_input_types`] reads the types of one of several inputs, as a merge reads it. They are lent
-//!   from an [`InputBuffer`].
+//! - [`read_input_types`] reads the types of one of several inputs, as a merge reads it. They are
+//!   lent from an [`InputBuffer`].
 //! - [`merge_to`] merges files: it writes one file with the types of all of them, each once, into
 //!   a sink. [`merge_files`] returns their canonical list, and [`write_merged`] writes the file of
 //!   such a list. [`Merge`] takes files one after the other, whole or by position.
 //! - [`MergeFault`] names the first file that is at fault, by its position, from 0.
 //!
-//! What is proved: a file is read exactly where it is accepted (`IsAccepted` of `specs/Read`),
-//! except when out of memory. Its records are the only ones with which it is accepted. The file
-//! that `merge_to` writes (`Wrote` of `specs/Merged`) has exactly the types of the files, each
-//! once, in canonical order, and it is accepted with these. Every list of files with the same types
-//! has the same bytes. A refusal is the first fault. The [`laws`] hold of every file that is
-//! written so.
+//! What is proved: a file is read exactly if it is accepted (`IsAccepted` of `specs/Read`), unless
+//! memory runs out. Its records are the only ones with which it is accepted. The file that
+//! `merge_to` writes (`Wrote` of `specs/Merged`) has exactly the types of the files, each once, in
+//! canonical order, and it is accepted with these. Any files with the same types give this file, if
+//! age, GUID and block size are equal. A refusal is the first fault. The [`laws`] hold for every
+//! file that is written in this way.
 //!
 //! # Example
 //!

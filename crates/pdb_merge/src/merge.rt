@@ -54,8 +54,8 @@ impl<S: BuildHasher, A: Allocator + Copy> Merge<S, A> {
         }
     }
 
-    /// Adds the types of a file that lists these records to the table. Where the records can't be
-    /// added as they stand, they are checked for a fault and for an order first.
+    /// Adds the types of a file that lists these records to the table. If the records can't be
+    /// added as they stand, they are first checked for a fault and put in order.
     fn add_listed(&mut self, alloc: A, records: Records<'_, A>) -> Result<(), AddFault<A>>
         ensures value { (file : List ℕ) → ListsTypes file records.entry →
             IfOk result (λ _. AddsFile self.old.types self.new.types file) }
@@ -188,7 +188,8 @@ impl<S: BuildHasher, A: Allocator + Copy> Merge<S, A> {
         ensures keeps { R.bytes input.new ≡ R.bytes input.old }
         ensures value { IfOk result (λ _.
             IfKnown (R.bytes input.old) (λ file. AddsFile self.old.types self.new.types file)) }
-        // Whatever is known of the file, the merge has taken the types of texts that reads gave.
+        // Even if the file's bytes are not known, the merge has taken the types of bytes that reads
+        // gave.
         ensures texts { IfOk result (λ _.
             AddsTexts self.old.types self.new.types (R.bytes input.old)) }
         ensures within { IfOk result (λ _. Within (IsType self.new.types) self.new.limit) }
@@ -196,7 +197,7 @@ impl<S: BuildHasher, A: Allocator + Copy> Merge<S, A> {
         ensures kept { IfErr result (λ _. self.new ≡ self.old) }
         ensures first { IfErr result (IfOf (λ fault. IfKnown (R.bytes input.old) (λ file.
             IsAddFault self.old.types self.old.limit file fault))) }
-        // Whatever is known of the file, a fault is that of texts that reads gave.
+        // Even if the file's bytes are not known, the fault is that of bytes that reads gave.
         ensures refused { IfErr result
             (IfOf (IsAddFaultOfTexts self.old.types self.old.limit (R.bytes input.old))) }
         ensures named { IfErr result (IfOf AddNamesFault) }
@@ -237,8 +238,8 @@ impl<S: BuildHasher, A: Allocator + Copy> Merge<S, A> {
 
     /// The canonical list of the types, with which the merge ends. The only fault is `Memory`.
     ///
-    /// The memory of the merge is given back: what serves to look up a type before the list is made,
-    /// and all other memory after that.
+    /// The memory of the merge is given back in two steps. The memory that serves to look up a type
+    /// is given back before the list is made, and all other memory after that.
     pub fn into_canon(self, alloc: A) -> Result<Canon<A>, JoinFault>
     where
         S: Drop,

@@ -32,11 +32,11 @@ pub fn read_records_of<'a, R: ReadAt, A: Allocator + Copy>(
     ensures keeps { R.bytes input.new ≡ R.bytes input.old }
     ensures value { IfOk result (λ records.
         IfKnown (R.bytes input.old) (λ file. HasTypeRecords file records)) }
-    // Whatever is known of the file, these are the records of bytes that reads gave.
+    // Even if the file's bytes are not known, these are the records of bytes that reads gave.
     ensures texts { IfOk result (RecordsWereRead (R.bytes input.old) layout.now) }
     ensures first { IfErr result (IfOf (λ fault. IfKnown (R.bytes input.old) (λ file.
         HasRecordsFault file fault ⊎ (fault ≡ PdbFault.Memory)))) }
-    // Whatever is known of the file, a fault is that of texts that reads gave.
+    // Even if the file's bytes are not known, the fault is that of bytes that reads gave.
     ensures refused { IfErr result (IfOf (λ fault.
         HasStreamFaultRead (R.bytes input.old) layout.now fault ⊎ (fault ≡ PdbFault.Memory))) }
     ensures read { IfErr result (λ fault.
@@ -62,11 +62,11 @@ pub fn read_types_of<'a, R: ReadAt, A: Allocator + Copy>(
     ensures keeps { R.bytes input.new ≡ R.bytes input.old }
     ensures value { IfOk result (λ types.
         IfKnown (R.bytes input.old) (λ file. IsAccepted file types)) }
-    // Whatever is known of the file, these are the types of bytes that reads gave.
+    // Even if the file's bytes are not known, these are the types of bytes that reads gave.
     ensures texts { IfOk result (TypesWereRead (R.bytes input.old) layout.now) }
     ensures first { IfErr result (IfOf (λ fault.
         IfKnown (R.bytes input.old) (λ file. HasPdbFault file fault ⊎ (fault ≡ PdbFault.Memory)))) }
-    // Whatever is known of the file, a fault is that of texts that reads gave.
+    // Even if the file's bytes are not known, the fault is that of bytes that reads gave.
     ensures refused { IfErr result (IfOf (λ fault.
         HasPdbFaultRead (R.bytes input.old) layout.now fault ⊎ (fault ≡ PdbFault.Memory))) }
     ensures read { IfErr result (λ fault.
@@ -83,9 +83,8 @@ pub fn read_types_of<'a, R: ReadAt, A: Allocator + Copy>(
 /// superblock, the block map, the directory and the blocks of stream 2 are read.
 ///
 /// The faults are those of [`read_records`], in the same order, and `AtFault::Read` where a read
-/// failed. Out of memory, `Memory`, comes
-/// only where the container has no fault. The old bytes of the
-/// buffer are dropped, and its space is used again. After a fault the buffer may be used again.
+/// failed. `Memory` comes only where the container has no fault. The old bytes of the buffer are
+/// dropped, and its space is used again. After a fault the buffer may be used again.
 pub fn read_records_at<'a, R: ReadAt, A: Allocator + Copy>(
     alloc: A,
     input: &mut R,
@@ -94,7 +93,7 @@ pub fn read_records_at<'a, R: ReadAt, A: Allocator + Copy>(
     ensures keeps { R.bytes input.new ≡ R.bytes input.old }
     ensures value { IfOk result (λ records.
         IfKnown (R.bytes input.old) (λ file. HasTypeRecords file records)) }
-    // Whatever is known of the file, these are the records of texts that reads gave.
+    // Even if the file's bytes are not known, these are the records of bytes that reads gave.
     ensures texts { IfOk result (λ records.
         (layout : LayoutView) × HasTexts (R.bytes input.old) layout
         × RecordsWereRead (R.bytes input.old) layout records) }
@@ -103,7 +102,7 @@ pub fn read_records_at<'a, R: ReadAt, A: Allocator + Copy>(
         fault ≡ AtFault.Of PdbFault.Memory)) }
     ensures first { IfErr result (IfOf (λ fault. IfKnown (R.bytes input.old) (λ file.
         HasRecordsFault file fault ⊎ (fault ≡ PdbFault.Memory)))) }
-    // Whatever is known of the file, a fault is that of texts that reads gave.
+    // Even if the file's bytes are not known, the fault is that of bytes that reads gave.
     ensures refused { IfErr result (IfOf (λ fault.
         HasFaultOfTexts HasStreamFaultRead (R.bytes input.old) fault ⊎ (fault ≡ PdbFault.Memory))) }
     // Out of memory comes only where the container has no fault.
@@ -149,9 +148,8 @@ fn types_at<'a, R: ReadAt, A: Allocator + Copy>(
 /// the superblock, the block map, the directory and the blocks of stream 2 are read.
 ///
 /// The faults are those of [`read_types`], in the same order, and `AtFault::Read` where a read
-/// failed. Out of memory, `Memory`, comes
-/// only where the container has no fault. The old bytes of the
-/// buffer are dropped, and its space is used again. After a fault the buffer may be used again.
+/// failed. `Memory` comes only where the container has no fault. The old bytes of the buffer are
+/// dropped, and its space is used again. After a fault the buffer may be used again.
 pub fn read_types_at<'a, R: ReadAt, A: Allocator + Copy>(
     alloc: A,
     input: &mut R,
@@ -160,7 +158,7 @@ pub fn read_types_at<'a, R: ReadAt, A: Allocator + Copy>(
     ensures keeps { R.bytes input.new ≡ R.bytes input.old }
     ensures value { IfOk result (λ types.
         IfKnown (R.bytes input.old) (λ file. IsAccepted file types)) }
-    // Whatever is known of the file, these are the types of texts that reads gave.
+    // Even if the file's bytes are not known, these are the types of bytes that reads gave.
     ensures texts { IfOk result (λ types.
         (layout : LayoutView) × HasTexts (R.bytes input.old) layout
         × TypesWereRead (R.bytes input.old) layout types) }
@@ -169,7 +167,7 @@ pub fn read_types_at<'a, R: ReadAt, A: Allocator + Copy>(
         (records : List (List ℕ)) → IsAccepted file records → fault ≡ AtFault.Of PdbFault.Memory)) }
     ensures first { IfErr result (IfOf (λ fault.
         IfKnown (R.bytes input.old) (λ file. HasPdbFault file fault ⊎ (fault ≡ PdbFault.Memory)))) }
-    // Whatever is known of the file, a fault is that of texts that reads gave.
+    // Even if the file's bytes are not known, the fault is that of bytes that reads gave.
     ensures refused { IfErr result (IfOf (λ fault.
         HasFaultOfTexts HasPdbFaultRead (R.bytes input.old) fault ⊎ (fault ≡ PdbFault.Memory))) }
     // Out of memory comes only where the container has no fault.

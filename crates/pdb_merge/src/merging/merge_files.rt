@@ -97,8 +97,8 @@ fn add_opened<F: ReadAt + Drop, S: BuildHasher, A: Allocator + Copy>(
     }
 }
 
-/// Reads the file at a position to its end, and adds its types. After a fault of its own the files
-/// after it are checked too, because a file that cannot be read is refused first.
+/// Reads the file at a position to its end, and adds its types. If the file has a fault of its own,
+/// the files after it are checked too, because a file that cannot be read is refused first.
 fn add_read<I: Inputs, S: BuildHasher, A: Allocator + Copy>(
     alloc: A,
     inputs: &I,
@@ -131,8 +131,8 @@ fn add_read<I: Inputs, S: BuildHasher, A: Allocator + Copy>(
     Ok(())
 }
 
-/// Adds the types of the file at a position. Where a read by position fails, the file is read to
-/// its end, from its start. After a fault of its own the files after it are checked too.
+/// Adds the types of the file at a position. If a read by position fails, the file is read to its
+/// end, from its start. If the file has a fault of its own, the files after it are checked too.
 fn add_input<I: Inputs, S: BuildHasher, A: Allocator + Copy>(
     alloc: A,
     inputs: &I,
@@ -168,7 +168,7 @@ fn add_input<I: Inputs, S: BuildHasher, A: Allocator + Copy>(
     }
 }
 
-/// Adds the types of all files, in order. At most the bytes of one file are in memory at a time.
+/// Adds the types of all files, in order. The bytes of at most one file are in memory at a time.
 fn add_all<I: Inputs, S: BuildHasher, A: Allocator + Copy>(
     alloc: A,
     inputs: &I,
@@ -213,14 +213,15 @@ fn list_all<I: Inputs, S: BuildHasher + Drop, A: Allocator + Copy>(
 
 /// The canonical list of the types of these files.
 ///
-/// The files are read one at a time, in order. A file that cannot be read is refused first, `Input`,
-/// even if one before it has a fault of its own. Then comes the fault of a file, `Refused`. Then
-/// comes `TooLarge`, where the types so far, with those of this file, have more bytes than the limit
-/// of the settings. All three name the file by its position, from 0. `Memory` is out of memory.
+/// The files are read one at a time, in order. A file that cannot be read is refused first,
+/// `Input`, even if one before it has a fault of its own. Then comes the fault of a file,
+/// `Refused`. Then comes `TooLarge`, where the types so far, with those of this file, have more
+/// bytes than the limit of the settings. All three name the file by its position, from 0. `Memory`
+/// is out of memory.
 ///
-/// Beside the types of all files so far, at most one file is in memory. A file that the inputs open
-/// by position is read only as far as its types need it. A read by position that fails is no fault:
-/// the file is then read whole, from its start.
+/// Apart from the types of all files so far, at most one file is in memory. A file that the inputs
+/// open by position is read only as far as its types need it. A read by position that fails is no
+/// fault: the file is then read whole, from its start.
 pub fn merge_files<I: Inputs + Drop, S: BuildHasher + Drop, A: Allocator + Copy>(
     alloc: A,
     files: I,
