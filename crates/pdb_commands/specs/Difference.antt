@@ -13,7 +13,8 @@ use Rattle.pdb_merge.specs.Union.{HasType, SameTypes, Within}
 use Rattle.command_texts.specs.Difference.{ShowsDifference}
 use Rattle.command_texts.specs.declared.difference.Scope.{Scope}
 
--- what holds of the text for two files: it is empty exactly if they have the same types, and exactly if the merges of each file alone, with the same settings, are the same bytes
+-- what holds of the text for two files: it is empty exactly if they have the same types.
+-- If each file can be merged alone, it is empty exactly if both merges, with the same settings, have the same bytes
 pub record TellsApart (one other text : List ℕ) : Type 0 where
   pub types : (text ≡ []) ↔ SameTypes (one ∷ []) (other ∷ [])
   pub merges : (settings : SettingsView) (merged other_merged : List ℕ) → AreSettings settings

@@ -57,7 +57,7 @@ abbrev pub HasNoInfoStreamRead : {A : Type 0} → LayoutView → PdbFault A → 
 HasNoInfoStreamRead layout (pdb.Stream fault) = (length layout.streams ≤ 1) × (fault ≡ NoStream 1)
 HasNoInfoStreamRead layout _ = ⊥
 
--- `info` refuses what reads gave of this layout with this fault: there is no stream 1, or the text that they gave of it has the fault
+-- `info` refuses what reads gave of this layout with this fault: there is no stream 1, or the bytes that reads gave of it have the fault
 abbrev pub RefusesInfoRead : {A : Type 0} → Bytes → LayoutView → RunFault A → Type 0
 RefusesInfoRead bytes layout (Pdb fault) = HasNoInfoStreamRead layout fault
 RefusesInfoRead bytes layout (Info fault) = (stream : List ℕ) × WasRead bytes layout 1 stream × (first_failing (info_checks stream) ≡ Some fault)

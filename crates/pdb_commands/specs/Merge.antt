@@ -29,7 +29,7 @@ abbrev pub WroteAndBrokeOff : List (List ℕ) → SettingsView → Option (List 
 WroteAndBrokeOff files settings old new told_before told_after =
     (summary : Summary) × Wrote files settings old new summary × AppendsPart told_before told_after (summary_lines summary)
 
--- a fault that the command can have: one of merging, in which out of memory is not inside, or out of memory, or that a sink broke
+-- a fault that the command can have: a fault of merging, which is not out of memory; or out of memory; or that a sink broke
 abbrev pub IsOfMerging : {A : Type 0} → RunFault A → Type 0
 IsOfMerging (Merge inner) = (inner ≢ merge.Memory) × NamesFault inner
 IsOfMerging Memory = Unit {0}

@@ -44,7 +44,7 @@ RefusesRecord index file (NoRecord missing) = (records : List (List ℕ)) × Has
 RefusesRecord index file (Leaf at fault) = (records : List (List ℕ)) × (bytes : List ℕ) × HasTypeRecords file records × (at ≡ index) × (record_of records index ≡ Some bytes) × (first_failing (record_checks bytes) ≡ Some fault)
 RefusesRecord index file fault = RefusesRecords file fault
 
--- `record` refuses what reads gave of this layout with this fault: it is one of its type records, else that none has the index, else one of that record
+-- `record` refuses what reads gave of this layout with this fault: a fault of its type records, else that none has the index, else a fault of that record
 abbrev pub RefusesRecordRead : {A : Type 0} → ℕ → Bytes → LayoutView → RunFault A → Type 0
 RefusesRecordRead index bytes layout (NoRecord missing) = (records : List (List ℕ)) × RecordsWereRead bytes layout records × (missing ≡ index) × (record_of records index ≡ None)
 RefusesRecordRead index bytes layout (Leaf at fault) = (records : List (List ℕ)) × (found : List ℕ) × RecordsWereRead bytes layout records × (at ≡ index) × (record_of records index ≡ Some found) × (first_failing (record_checks found) ≡ Some fault)

@@ -21,7 +21,7 @@ abbrev pub RefusesRecords : {A : Type 0} → List ℕ → RunFault A → Type 0
 RefusesRecords file (Pdb fault) = HasRecordsFault file fault
 RefusesRecords file _ = ⊥
 
--- `records` refuses what reads gave of this layout with this fault, which is one of its stream 2
+-- `records` refuses what reads gave of this layout with this fault, which is a fault of its stream 2
 abbrev pub RefusesRecordsRead : {A : Type 0} → Bytes → LayoutView → RunFault A → Type 0
 RefusesRecordsRead bytes layout (Pdb fault) = HasStreamFaultRead bytes layout fault
 RefusesRecordsRead bytes layout _ = ⊥

@@ -42,7 +42,8 @@ IsOfText (Read fault) = ⊥
 IsOfText Write = ⊥
 IsOfText _ = Unit {0}
 
--- how a command that shows a file answers: it prints what shows the file, or is refused by reading or by the file's first fault; memory runs out only where no more than the limit came; a sink that breaks took the first bytes of the text, and after any other refusal it is as it was
+-- how a command that shows a file answers: it prints the text that shows the file, or it is refused by reading or by the file's first fault.
+-- Memory runs out only if at most `limit` bytes came. A sink that breaks took the first bytes of the text. After any other refusal the sink is as it was
 pub record Answers {A W T : Type 0} (Shows : List ℕ → List ℕ → Type 0) (Refuses : List ℕ → RunFault A → Type 0) (limit : ℕ) (left_before left_after : Option (List ℕ)) (source_broken : Bool)
     (taken : W → Option (List ℕ)) (is_broken : W → Bool) (before after : W) (result : Result T (RunFault A)) : Type 0 where
   pub value : OnOk result (Prints Shows limit left_before left_after (taken before) (taken after))
@@ -69,11 +70,11 @@ IsNotReadAt bytes broken limit reads.Read = Breaks bytes broken
 IsNotReadAt bytes broken limit reads.TooLong = (limit < bytes.told) × IfKnown bytes (λ file. limit < length file)
 IsNotReadAt bytes broken limit reads.Memory = ⊥
 
--- this is the text of what reads gave: the front, the block map, the directory, and what the command reads of the layout that these make
+-- reads gave the front, the block map and the directory of a layout, and this is the text of what they gave of it
 abbrev pub IsOfTexts : (Bytes → LayoutView → List ℕ → Type 0) → Bytes → List ℕ → Type 0
 IsOfTexts ShowsRead bytes text = (layout : LayoutView) × HasTexts bytes layout × ShowsRead bytes layout text
 
--- what reads gave has this fault: the texts of the layout have it, or else what the command reads of that layout
+-- what reads gave has this fault: the layout has it, or reads gave a layout without a fault and what the command reads of it has it
 abbrev pub IsFaultOfTexts : {A : Type 0} → (Bytes → LayoutView → RunFault A → Type 0) → Bytes → RunFault A → Type 0
 IsFaultOfTexts RefusesRead bytes fault = RefusesLayout bytes fault ⊎ ((layout : LayoutView) × HasTexts bytes layout × RefusesRead bytes layout fault)
 
@@ -85,7 +86,9 @@ PrintsRead ShowsRead bytes taken_before taken_after = (text : List ℕ) × IsOfT
 abbrev pub PrintsPartRead : (Bytes → LayoutView → List ℕ → Type 0) → Bytes → Option (List ℕ) → Option (List ℕ) → Type 0
 PrintsPartRead ShowsRead bytes taken_before taken_after = (text : List ℕ) × (count : ℕ) × IsOfTexts ShowsRead bytes text × (count < length text) × Appends taken_before taken_after (take count text)
 
--- how a command answers that reads by position: where the bytes of the file are known, it prints what shows the file, or is refused by its length or by its first fault; memory runs out only where its length is within the limit; a sink that breaks took the first bytes of the text, and after any other refusal it is as it was. Whatever is known, a longer length than the limit is refused first, what is printed is the text of what reads gave, and a fault is one of what they gave
+-- how a command that reads by position answers. If the bytes of the file are known, it prints the text that shows the file, or it is refused by the file's length or by its first fault.
+-- Memory runs out only if the length of such a file is within the limit. A sink that breaks took the first bytes of the text. After any other refusal the sink is as it was.
+-- Even if the bytes are not known, a length above the limit is refused first, what is printed is the text of what reads gave, and a fault is one of what they gave
 pub record AnswersAt {A W T : Type 0} (Shows : List ℕ → List ℕ → Type 0) (Refuses : List ℕ → RunFault A → Type 0) (ShowsRead : Bytes → LayoutView → List ℕ → Type 0) (RefusesRead : Bytes → LayoutView → RunFault A → Type 0) (limit : ℕ) (bytes : Bytes) (broken : Bool)
     (taken : W → Option (List ℕ)) (is_broken : W → Bool) (before after : W) (result : Result T (RunFault A)) : Type 0 where
   pub value : OnOk result (IfKnown bytes (λ file. PrintsAt Shows limit file (taken before) (taken after)))

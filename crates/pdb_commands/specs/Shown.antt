@@ -57,7 +57,7 @@ stream_of shown.Info = Some 1
 stream_of shown.Streams = None
 stream_of _ = Some 2
 
--- the stream at this position has more bytes than the limit; the greatest limit is none
+-- the stream at this position has more bytes than the limit; the greatest number of four bytes is no limit
 pub record HasLongStream (limit s : ℕ) (file : List ℕ) : Type 0 where
   pub limited : limit < 2 ^ 32 - 1
   pub layout : LayoutView
@@ -66,7 +66,7 @@ pub record HasLongStream (limit s : ℕ) (file : List ℕ) : Type 0 where
   pub is_stream : slice_get layout.streams s ≡ Some stream
   pub long : limit < bytes_of stream.size
 
--- memory may run out while a stream of this file is held against the limit: there is a limit, and the container has no fault
+-- memory may run out while a stream of this file is compared with the limit: there is a limit, and the container has no fault
 pub record MayRunOut (limit : ℕ) (file : List ℕ) : Type 0 where
   pub limited : limit < 2 ^ 32 - 1
   pub sound : first_failing (layout_checks file) ≡ None
@@ -86,7 +86,7 @@ RefusesWithin command limit file fault =
 
 -- ---- the same of what reads gave
 
--- the layout lists a stream at this position that has more bytes than the limit; the greatest limit is none
+-- the layout lists a stream at this position that has more bytes than the limit; the greatest number of four bytes is no limit
 pub record ListsLongStream (limit s : ℕ) (layout : LayoutView) : Type 0 where
   pub limited : limit < 2 ^ 32 - 1
   pub stream : Listed

@@ -75,7 +75,7 @@ abbrev pub RefusesStreams : {A : Type 0} → List ℕ → RunFault A → Type 0
 RefusesStreams file (Pdb fault) = HasLayoutFault file fault
 RefusesStreams file _ = ⊥
 
--- reads gave texts of a container with this fault of its layout
+-- reads gave bytes of a container, and its layout has this fault
 abbrev pub RefusesLayout : {A : Type 0} → Bytes → RunFault A → Type 0
 RefusesLayout bytes (Pdb fault) = IsLayoutFaultRead bytes fault
 RefusesLayout bytes _ = ⊥

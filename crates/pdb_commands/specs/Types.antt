@@ -39,7 +39,7 @@ abbrev pub RefusesTypes : {A : Type 0} → List ℕ → RunFault A → Type 0
 RefusesTypes file (Leaf index fault) = (records : List (List ℕ)) × HasTypeRecords file records × HasLeafFault records index fault
 RefusesTypes file fault = RefusesRecords file fault
 
--- `types` refuses what reads gave of this layout with this fault: it is one of its type records, else that of the first record whose leaf is at fault
+-- `types` refuses what reads gave of this layout with this fault: a fault of its type records, else that of the first record whose leaf is at fault
 abbrev pub RefusesTypesRead : {A : Type 0} → Bytes → LayoutView → RunFault A → Type 0
 RefusesTypesRead bytes layout (Leaf index fault) = (records : List (List ℕ)) × RecordsWereRead bytes layout records × HasLeafFault records index fault
 RefusesTypesRead bytes layout fault = RefusesRecordsRead bytes layout fault

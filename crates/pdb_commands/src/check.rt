@@ -79,13 +79,11 @@ impl<A: Allocator + Copy> ShowAt<A> for Check {
 /// Runs the command `check`: writes that the file is accepted, how many type records it has, how
 /// many bytes they have together, with their length fields, and how many levels of types there are.
 ///
-/// The input may have at most `limit` bytes. The faults come in this order: those of reading; those
-/// of the container; a container without a stream 1; a stream 1 with fewer bytes than a header; a
-/// container without a stream 2; those of that stream; those of its records, in order, for each
-/// record its leaf and then its references; a cycle of references; and `Write`, where the sink did
-/// not take the whole text. The whole input is read, and the whole text is made, before any of it
-/// is written. After `Write` the sink is broken and took the first bytes of the text. After any
-/// other fault it took nothing.
+/// Its own faults come in this order: those of the container; a container without a stream 1; a
+/// stream 1 with fewer bytes than a header; a container without a stream 2; those of that stream;
+/// those of its records, in order, for each record its leaf and then its references; and last a
+/// cycle of references. The [page](crate) of the crate says what all commands that show a file have
+/// in common.
 pub fn run_check<R: Source, W: Sink, A: Allocator + Copy>(
     alloc: A,
     input: &mut R,
@@ -101,8 +99,8 @@ pub fn run_check<R: Source, W: Sink, A: Allocator + Copy>(
 /// Runs the command `check` by position: of the file only the superblock, the block map, the
 /// directory and the blocks of stream 2 are read.
 ///
-/// The faults are those of [`run_check`], in the same order, but for reading: `TooLong` comes
-/// first, by the length of the file, and `Read` where a read that is needed fails.
+/// Its own faults are those of [`run_check`], in the same order. The [page](crate) of the crate
+/// says how reading by position differs.
 pub fn run_check_at<R: ReadAt, W: Sink, A: Allocator + Copy>(
     alloc: A,
     input: &mut R,

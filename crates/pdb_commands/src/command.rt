@@ -35,7 +35,7 @@ pub trait Show<A: Allocator + Copy> {
 pub trait ShowAt<A: Allocator + Copy>: Show<A> {
     ghost use Rattle.msf_blocks.specs.Layout.{LayoutView, HasLayout};
 
-    /// The command prints this text where texts of this layout were read.
+    /// The command prints this text of what reads gave of this layout.
     ghost shows_read: { Self → Bytes → LayoutView → List ℕ → Type 0 };
 
     /// The command refuses what reads gave of this layout with this fault.
@@ -104,10 +104,10 @@ fn text_at<C: ShowAt<A>, R: ReadAt, A: Allocator + Copy>(
 /// the text.
 ///
 /// `limit` is the greatest number of bytes that the input may have. The faults come in this order:
-/// `TooLong`, by the length that the input says that it has; those of the command for this file,
-/// and `Read` where a read failed; and `Write`, where the sink did not take the whole text. Only
-/// after `Write` has the sink taken anything. It is broken then, and it has the first bytes of the
-/// text.
+/// `TooLong`, if the input says that it has more bytes; those of the command for this file, and
+/// `Read` where a read failed; and `Write`, where the sink did not take the whole text. After
+/// `Write` the sink is broken and took the first bytes of the text. After any other fault it took
+/// nothing.
 pub fn run_at<C: ShowAt<A>, R: ReadAt, W: Sink, A: Allocator + Copy>(
     alloc: A,
     command: &C,
@@ -135,8 +135,8 @@ pub fn run_at<C: ShowAt<A>, R: ReadAt, W: Sink, A: Allocator + Copy>(
 ///
 /// `limit` is the greatest number of bytes that the input may have. The faults come in this order:
 /// those of reading, those of the command for this file, and `Write` where the sink did not take
-/// the whole text. Only after `Write` has the sink taken anything. It is broken then, and it has
-/// the first bytes of the text.
+/// the whole text. After `Write` the sink is broken and took the first bytes of the text. After any
+/// other fault it took nothing.
 pub fn run<C: Show<A>, R: Source, W: Sink, A: Allocator + Copy>(
     alloc: A,
     command: &C,

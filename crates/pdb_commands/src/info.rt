@@ -129,11 +129,9 @@ impl<A: Allocator + Copy> ShowAt<A> for Info {
 /// line. Then there is a line for each named stream, in the order of the buckets, and a line for
 /// each feature code.
 ///
-/// The input may have at most `limit` bytes. The faults come in this order: those of reading; those
-/// of the container; a container without a stream 1; those of that stream; and `Write`, where the
-/// sink did not take the whole text. The whole input is read, and the whole text is made, before
-/// any of it is written. After `Write` the sink is broken and took the first bytes of the text.
-/// After any other fault it took nothing.
+/// Its own faults come in this order: those of the container; a container without a stream 1; and
+/// those of that stream. The [page](crate) of the crate says what all commands that show a file
+/// have in common.
 pub fn run_info<R: Source, W: Sink, A: Allocator + Copy>(
     alloc: A,
     input: &mut R,
@@ -149,8 +147,8 @@ pub fn run_info<R: Source, W: Sink, A: Allocator + Copy>(
 /// Runs the command `info` by position: of the file only the superblock, the block map, the
 /// directory and the blocks of stream 1 are read.
 ///
-/// The faults are those of [`run_info`], in the same order, but for reading: `TooLong` comes
-/// first, by the length of the file, and `Read` where a read that is needed fails.
+/// Its own faults are those of [`run_info`], in the same order. The [page](crate) of the crate says
+/// how reading by position differs.
 pub fn run_info_at<R: ReadAt, W: Sink, A: Allocator + Copy>(
     alloc: A,
     input: &mut R,

@@ -3,21 +3,29 @@
 //! Most commands show a file: [`run_records`], [`run_record`], [`run_types`], [`run_check`],
 //! [`run_info`] and [`run_streams`]. Such a command reads a [`Source`](msf_blocks::Source) to its
 //! end, makes its whole text, and then writes it into a [`Sink`](msf_blocks::Sink). [`run_merge`]
-//! writes one file with the types of several files, and a report on it. [`run_diff`] shows the types
-//! that only one of two files has. Each refusal is a [`RunFault`]. [`run_shown`] runs any command
-//! that shows a file, with a limit on the stream that it reads, and [`check_type_stream`] is that
-//! limit.
+//! writes one file with the types of several files, and a report on it. [`run_diff`] shows the
+//! types that only one of two files has. Each refusal is a [`RunFault`]. [`run_shown`] runs any
+//! command that shows a file, with a limit on the stream that it reads, and [`check_type_stream`]
+//! is that limit.
 //!
 //! [`run_records_at`], [`run_record_at`], [`run_types_at`], [`run_check_at`], [`run_info_at`],
 //! [`run_streams_at`] and [`run_shown_at`] read by position, and only what they need.
 //! [`run_shown_file`] does so too, and reads the whole file where a read by position fails.
 //!
-//! What is proved of the commands that show a file: the text that is written is the text of the
-//! file (`Shows..` of `specs/`), byte for byte. A refusal is the first fault of reading or of the
-//! file. After `36 Write` the sink is broken and took the first bytes of the text. After any other
-//! refusal nothing was written. By position this holds of files whose bytes are known, as slices. Of
-//! any file a length above the limit is refused first, and the text, or the fault, is that of what
-//! reads gave (`ShowsItRead`, `RefusesItRead`).
+//! All commands that show a file have this in common. The input may have at most `limit` bytes. It
+//! is read to its end, and the whole text is made, before any of it is written. The faults of
+//! reading come first, then the command's own faults, and last `36 Write`: the sink did not take
+//! the whole text. After `36 Write` the sink is broken and took the first bytes of the text. After
+//! any other refusal nothing was written.
+//!
+//! By position the faults of reading differ. `38 TooLong` comes first: the input says that it has
+//! more than `limit` bytes. `37 Read` comes where a read that is needed fails.
+//!
+//! What is proved of these commands: the text that is written is the text of the file (`Shows..` of
+//! `specs/`), byte for byte. A refusal is the first fault of reading or of the file. What the sink
+//! took after a refusal is proved too. By position this is proved for files whose bytes are known,
+//! such as slices. For every file it is proved that a length above the limit is refused first, and
+//! that the text or the fault is that of bytes that reads gave (`ShowsItRead`, `RefusesItRead`).
 //!
 //! The module `command` runs the commands that show a file. Each command has a module of its own.
 //! The crate `command_texts` makes the texts.

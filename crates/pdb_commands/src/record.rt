@@ -106,12 +106,9 @@ impl<A: Allocator + Copy> ShowAt<A> for Record {
 /// its bytes in hexadecimal. Then there is a line for each place, with the type index there, and a
 /// line with the name, where the record has one.
 ///
-/// The input may have at most `limit` bytes. The faults come in this order: those of reading; those
-/// of the container; a container without a stream 2; those of that stream; `NoRecord`, where no
-/// record has the index; those of the record's leaf; and `Write`, where the sink did not take the
-/// whole text. The whole input is read, and the whole text is made, before any of it is written.
-/// After `Write` the sink is broken and took the first bytes of the text. After any other fault it
-/// took nothing.
+/// Its own faults come in this order: those of the container; a container without a stream 2; those
+/// of that stream; `NoRecord`, where no record has the index; and those of the record's leaf. The
+/// [page](crate) of the crate says what all commands that show a file have in common.
 pub fn run_record<R: Source, W: Sink, A: Allocator + Copy>(
     alloc: A,
     input: &mut R,
@@ -128,8 +125,8 @@ pub fn run_record<R: Source, W: Sink, A: Allocator + Copy>(
 /// Runs the command `record` by position: of the file only the superblock, the block map, the
 /// directory and the blocks of stream 2 are read.
 ///
-/// The faults are those of [`run_record`], in the same order, but for reading: `TooLong` comes
-/// first, by the length of the file, and `Read` where a read that is needed fails.
+/// Its own faults are those of [`run_record`], in the same order. The [page](crate) of the crate
+/// says how reading by position differs.
 pub fn run_record_at<R: ReadAt, W: Sink, A: Allocator + Copy>(
     alloc: A,
     input: &mut R,

@@ -52,7 +52,7 @@ impl Shown {
     }
 }
 
-/// A command, and the greatest number of bytes that the stream may have that it reads.
+/// A command, and how many bytes the stream that it reads may have at most.
 #[derive(Clone, Copy, Debug)]
 struct Within {
     command: Shown,
@@ -140,13 +140,13 @@ impl<A: Allocator + Copy> ShowAt<A> for Within {
     }
 }
 
-/// Runs a command that shows a file, as its own call does, with one limit more.
+/// Runs a command that shows a file, as the command's own call does, with one more limit.
 ///
-/// `limit` is the greatest number of bytes that the input may have, and also the stream that the
-/// command reads whole: stream 1 for `Info`, none for `Streams`, and stream 2 for all others. Where
-/// the container is sound and this stream has more bytes, the fault is `TooLong`, before anything
-/// is reserved for the stream and before any fault of the streams. `u32::MAX` is no limit, and then
-/// all is as in the call of the command.
+/// The input may have at most `limit` bytes, and so may the stream that the command reads whole.
+/// This is stream 1 for `Info`, none for `Streams`, and stream 2 for all others. If the container
+/// is sound and this stream has more bytes, the fault is `TooLong`. It comes before anything is
+/// reserved for the stream, and before any fault of the streams. `u32::MAX` is no limit: everything
+/// is then as in the command's own call.
 pub fn run_shown<R: Source, W: Sink, A: Allocator + Copy>(
     alloc: A,
     command: Shown,
@@ -162,8 +162,8 @@ pub fn run_shown<R: Source, W: Sink, A: Allocator + Copy>(
 }
 
 /// Runs a command that shows a file by position, as [`run_shown`] does for a whole file, with the
-/// same limits. `TooLong` comes first where the length that the input says that it has is above
-/// `limit`, and `Read` where a read that is needed fails.
+/// same limits. `TooLong` comes first, if the input says that it has more than `limit` bytes.
+/// `Read` comes where a read that is needed fails.
 pub fn run_shown_at<R: ReadAt, W: Sink, A: Allocator + Copy>(
     alloc: A,
     command: Shown,
@@ -186,11 +186,11 @@ fn is_unread<A: Allocator>(answer: &Result<(), RunFault<A>>) -> bool
     matches!(answer, Err(RunFault::Read(ReadFault::Read)))
 }
 
-/// Runs a command that shows a file by position. Where a read by position fails, it is run on the
-/// whole file, which is read from its start: then nothing was written before.
+/// Runs a command that shows a file by position. If a read by position fails, the command runs
+/// again, on the whole file, which is read from its start. Nothing was written before that.
 ///
-/// `input` and `whole` are the same file. The answers are those of [`run_shown_at`], but for `Read`,
-/// and else those of [`run_shown`].
+/// `input` and `whole` are the same file. If no read by position fails, the answer is that of
+/// [`run_shown_at`]. Otherwise it is that of [`run_shown`].
 pub fn run_shown_file<R: ReadAt, S: Source, W: Sink, A: Allocator + Copy>(
     alloc: A,
     command: Shown,

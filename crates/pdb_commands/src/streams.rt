@@ -97,8 +97,8 @@ fn read_map<R: ReadAt>(
     Some(())
 }
 
-/// Has the map block with the bit of a block in the page. It is read at the first block of which it
-/// has the bit.
+/// Makes the page hold the map block with the bit of a block. A map block is read once, at the
+/// first block whose bit it has.
 #[tactic(auto, using(msf_blocks::proofs::SizeLaws::size_facts))]
 fn turn_page<R: ReadAt>(
     input: &mut R,
@@ -178,7 +178,7 @@ fn free_blocks_at<R: ReadAt>(input: &mut R, superblock: &Superblock, page: &mut 
     Some(free)
 }
 
-/// Reads the layout of a file. Its faults are those of a file.
+/// Reads the layout of a file. The faults are those of its container.
 pub fn read_layout<A: Allocator + Copy>(alloc: A, file: &[u8]) -> Result<Layout<A>, PdbFault<A>>
     ensures value { IfOk result (HasLayout file.now) }
     ensures first { IfErr result (λ fault.
@@ -238,10 +238,8 @@ impl<A: Allocator + Copy> ShowAt<A> for Streams {
 /// there is a line for each stream, with its number, its size in bytes and the numbers of its
 /// blocks.
 ///
-/// The input may have at most `limit` bytes. The faults come in this order: those of reading; those
-/// of the container; and `Write`, where the sink did not take the whole text. The whole input is
-/// read, and the whole text is made, before any of it is written. After `Write` the sink is broken
-/// and took the first bytes of the text. After any other fault it took nothing.
+/// Its own faults are those of the container. The [page](crate) of the crate says what all commands
+/// that show a file have in common.
 pub fn run_streams<R: Source, W: Sink, A: Allocator + Copy>(
     alloc: A,
     input: &mut R,
@@ -257,8 +255,8 @@ pub fn run_streams<R: Source, W: Sink, A: Allocator + Copy>(
 /// Runs the command `streams` by position: of the file only the superblock, the block map, the
 /// directory and the free block map in force are read.
 ///
-/// The faults are those of [`run_streams`], in the same order, but for reading: `TooLong` comes
-/// first, by the length of the file, and `Read` where a read that is needed fails.
+/// Its own faults are those of [`run_streams`], in the same order. The [page](crate) of the crate
+/// says how reading by position differs.
 pub fn run_streams_at<R: ReadAt, W: Sink, A: Allocator + Copy>(
     alloc: A,
     input: &mut R,

@@ -110,11 +110,9 @@ impl<A: Allocator + Copy> ShowAt<A> for Types {
 /// index, the name of its leaf, its size in bytes, the type indices that it names, in the order of
 /// their places, and its name in quotes, where it has one.
 ///
-/// The input may have at most `limit` bytes. The faults come in this order: those of reading; those
-/// of the container; a container without a stream 2; those of that stream; the fault of the first
-/// record whose leaf is at fault; and `Write`, where the sink did not take the whole text. The
-/// whole input is read, and the whole text is made, before any of it is written. After `Write` the
-/// sink is broken and took the first bytes of the text. After any other fault it took nothing.
+/// Its own faults come in this order: those of the container; a container without a stream 2; those
+/// of that stream; and the fault of the first record whose leaf is at fault. The [page](crate) of
+/// the crate says what all commands that show a file have in common.
 pub fn run_types<R: Source, W: Sink, A: Allocator + Copy>(
     alloc: A,
     input: &mut R,
@@ -130,8 +128,8 @@ pub fn run_types<R: Source, W: Sink, A: Allocator + Copy>(
 /// Runs the command `types` by position: of the file only the superblock, the block map, the
 /// directory and the blocks of stream 2 are read.
 ///
-/// The faults are those of [`run_types`], in the same order, but for reading: `TooLong` comes
-/// first, by the length of the file, and `Read` where a read that is needed fails.
+/// Its own faults are those of [`run_types`], in the same order. The [page](crate) of the crate
+/// says how reading by position differs.
 pub fn run_types_at<R: ReadAt, W: Sink, A: Allocator + Copy>(
     alloc: A,
     input: &mut R,
