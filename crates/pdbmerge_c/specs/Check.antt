@@ -13,7 +13,7 @@ use Rattle.pdbmerge_c.specs.declared.check.Counts.{Counts}
 use Rattle.pdbmerge_c.specs.declared.fault.Fault.{Fault}
 use Rattle.pdbmerge_c.specs.Fault.{IsTold, no_input}
 
--- the file is accepted, and has so much
+-- the file is accepted, and these are its counts
 pub record Checks (file : List ℕ) (counts : Counts) : Type 0 where
   pub records : List (List ℕ)
   pub accepted : IsAccepted file records
@@ -21,7 +21,7 @@ pub record Checks (file : List ℕ) (counts : Counts) : Type 0 where
   pub long : counts.bytes ≡ length (concat records)
   pub levels : HasLevels records counts.levels
 
--- this is the first fault of the file on the way to its types, or it is out of memory, where the container has no fault
+-- this is the first fault of the file on the way to its types; or memory ran out, and the container has no fault
 abbrev pub IsFaultOfFile : {A : Type 0} → List ℕ → PdbFault A → Type 0
 IsFaultOfFile file why = HasPdbFault file why ⊎ ((why ≡ Memory) × (first_failing (layout_checks file) ≡ None))
 

@@ -50,7 +50,7 @@ abbrev pub input_fault : {A : Type 0} → ℕ → PdbFault A → MergeFault A
 input_fault input pdb.Memory = merge.Memory
 input_fault input why = merge.Refused input why
 
--- this is the first fault of the file at this position, on the way to its types; or it is out of memory
+-- this is the first fault of the file at this position, on the way to its types; or memory ran out
 abbrev pub IsFaultOfInput : {A : Type 0} → ℕ → List ℕ → MergeFault A → Type 0
 IsFaultOfInput input file (merge.Refused at why) = (at ≡ input) × HasPdbFault file why
 IsFaultOfInput input file merge.Memory = Unit {0}

@@ -25,7 +25,7 @@ pub record Identifies (file : List ℕ) (identity : Identity) : Type 0 where
   pub age_is : identity.age ≡ fields.age
   pub guid_is : identity.guid ≡ fields.guid
 
--- this is the first fault of the file on the way to its header: a fault of its layout, else of stream 1; or it is out of memory, where the container has no fault
+-- this is the first fault of the file on the way to its header: a fault of its layout, else of stream 1; or memory ran out, and the container has no fault
 abbrev pub IsFaultOfIdentity : {A : Type 0} → List ℕ → PdbFault A → Type 0
 IsFaultOfIdentity file (pdb.Msf inner) = first_failing (layout_checks file) ≡ Some inner
 IsFaultOfIdentity file pdb.Memory = first_failing (layout_checks file) ≡ None

@@ -54,7 +54,7 @@ pub record LacksRoom (files : List (Bor (List ℕ))) (choices : Choices) (report
   pub is_reported : IsReported files choices report file
   pub long : room < length file
 
--- this is why the files are not merged into memory: they are refused, or it is out of memory
+-- this is why the files are not merged into memory: they are refused, or memory ran out
 abbrev pub IsRefusal : {A : Type 0} → List (Bor (List ℕ)) → SettingsView → OutFault A → Type 0
 IsRefusal files settings (out.Merge why) = RefusesFiles (inputs_of files) (record_limit settings) why
 IsRefusal files settings _ = Unit {0}

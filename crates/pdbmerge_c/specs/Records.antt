@@ -14,7 +14,7 @@ pub record AreOffsets (stream offsets : List ℕ) : Type 0 where
   pub many : length offsets ≡ length records
   pub each : (i : ℕ) → i < length records → get_or offsets i 0 ≡ 56 + start_of records i
 
--- this is the first fault of the stream, or it is out of memory, where the stream has none
+-- this is the first fault of the stream; or memory ran out, and the stream has no fault
 abbrev pub IsFaultOfRecords : List ℕ → TpiFault → Type 0
 IsFaultOfRecords stream why = IsFirstFault stream why ⊎ ((why ≡ Memory) × ((records : List (List ℕ)) × HasRecords stream records))
 

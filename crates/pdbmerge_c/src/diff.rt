@@ -25,7 +25,8 @@ pub struct OneSided {
     pub input: u32,
     /// The type index of its first record there.
     pub index: u32,
-    /// 1 where the difference begins: the other file has each type that it names. Else 0.
+    /// 1 if the difference begins at this type: the other file has each type that this one names.
+    /// Otherwise 0.
     pub origin: u32,
 }
 

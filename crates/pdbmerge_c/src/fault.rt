@@ -71,7 +71,7 @@ pub(crate) fn tell<D: Display>(fault: &mut Fault, number: u32, input: Option<usi
     number
 }
 
-/// Says why bytes are refused, and returns the number of the fault, which is none of `ROOM` and
+/// Says why bytes are refused, and returns the number of the fault, which is neither `ROOM` nor
 /// `SETTINGS`.
 pub(crate) fn refuse<D: Display>(
     fault: &mut Fault,

@@ -1,7 +1,8 @@
 //! The types of Program Database files, as a library for C.
 //!
-//! `include/pdbmerge.h` declares what is here, and says what a caller owes. A slice crosses as a
-//! pointer and a length. Nothing is kept between calls, and no call keeps or frees what it is lent.
+//! `include/pdbmerge.h` declares what is here, and says what a caller has to ensure. A slice is
+//! passed as a pointer and a length. Nothing is kept between calls, and no call keeps or frees what
+//! it is lent.
 //!
 //! Each call returns 0, or the number of a fault, and says in a [`Fault`] what it is. A fault of a
 //! file has the number and the text that the program prints.
@@ -17,8 +18,8 @@
 //!
 //! What is proved: the contract of each call says what it answers for all bytes. That of
 //! `pdbmerge_merge` is the headline (`IsFileOf` of `pdb_merge`). Unless a call returns 0, `out` and
-//! each result stay as they were, but for the [`Fault`], and for how much room an answer takes
-//! where there is too little.
+//! each result but the [`Fault`] stay as they were. There is one exception: if there is too little
+//! room for the answer, the results say how much it takes.
 #![tactic(auto)]
 
 mod check;

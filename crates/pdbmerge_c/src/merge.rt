@@ -61,7 +61,7 @@ fn settings_from(choices: &Choices) -> Option<Settings>
     Settings::new(guid, choices.age, choices.limit, choices.block_size)
 }
 
-/// Merges files into a file in memory. The memory is the sink, so `Write` is out of memory too.
+/// Merges files into a file in memory. The sink is in memory, so `Write` means out of memory too.
 fn merge_in_memory(
     alloc: Global,
     files: &[&[u8]],

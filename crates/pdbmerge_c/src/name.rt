@@ -23,9 +23,10 @@ fn name_at_front(bytes: &[u8], index: u32) -> Result<Option<&[u8]>, TpiFault>
     Ok(type_name(found))
 }
 
-/// Copies the name of the type that a record describes to the front of `out`. `bytes` is what stands
-/// from the front of the record on, and `index` the type index of the record, which a fault names.
-/// `size` is how many bytes the name has, or 2^64 - 1 where there is none, or none that can be read.
+/// Copies the name of the type that a record describes to the front of `out`. `bytes` starts at the
+/// front of the record, and may go on after it. `index` is the type index of the record, which a
+/// fault names. `size` is how many bytes the name has. It is 2^64 - 1 if there is no name, or none
+/// that can be read.
 ///
 /// The faults, in order: those of `first_record`; `ROOM`, and then `size` is set too. This does not
 /// allocate.

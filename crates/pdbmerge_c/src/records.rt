@@ -43,8 +43,8 @@ fn list_offsets(alloc: Global, stream: &[u8]) -> Result<Vec<u64>, TpiFault>
 /// Lists where each type record of a TPI stream begins: offsets in the bytes of the stream. `count`
 /// is how many there are.
 ///
-/// The faults, in order: those of `Records::read`; `MEMORY`, where none is; `ROOM`, and then `count`
-/// is set too.
+/// The faults, in order: those of `Records::read`; `MEMORY`, if there is none of these; `ROOM`, and
+/// then `count` is set too.
 #[tactic(auto, using(crate::proofs::NumberLaws::tpi_known))]
 #[unsafe(no_mangle)]
 pub extern "C" fn pdbmerge_records(

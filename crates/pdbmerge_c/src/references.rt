@@ -68,12 +68,12 @@ fn list_references(alloc: Global, bytes: &[u8], index: u32) -> Result<Vec<Refere
     Ok(references)
 }
 
-/// Lists the types that a record names, in the order of their places. `bytes` is what stands from the
-/// front of the record on, and `index` the type index of the record, which a fault names. `count` is
-/// how many there are.
+/// Lists the types that a record names, in the order of their places. `bytes` starts at the front
+/// of the record, and may go on after it. `index` is the type index of the record, which a fault
+/// names. `count` is how many there are.
 ///
-/// The faults, in order: those of `first_record`; those of `check` of `cv_leaves`; `MEMORY`; `ROOM`,
-/// and then `count` is set too.
+/// The faults, in order: those of `first_record`; those of `check` of `cv_leaves`; `MEMORY`;
+/// `ROOM`, and then `count` is set too.
 #[tactic(auto, using(crate::proofs::NumberLaws::pdb_known))]
 #[unsafe(no_mangle)]
 pub extern "C" fn pdbmerge_references(

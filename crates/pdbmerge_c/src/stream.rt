@@ -12,8 +12,8 @@ use msf_streams::contents;
 use pdb_merge::PdbFault;
 use std::alloc::Global;
 
-/// The bytes of a stream of a file. They are lent from the file where its blocks are consecutive, and
-/// gathered into the buffer otherwise.
+/// The bytes of a stream of a file. They are lent from the file where its blocks are consecutive,
+/// and gathered into the buffer otherwise.
 fn read_stream<'a>(
     alloc: Global,
     file: &'a [u8],
@@ -27,11 +27,11 @@ fn read_stream<'a>(
     Ok(contents(alloc, file, &layout, stream, buffer)?)
 }
 
-/// Copies the bytes of a stream, by its number from 0, to the front of `out`. `size` is how many there
-/// are.
+/// Copies the bytes of a stream, by its number from 0, to the front of `out`. `size` is how many
+/// there are.
 ///
-/// The faults, in order: those of the container; a container without this stream; `MEMORY`, where
-/// neither is; `ROOM`, and then `size` is set too.
+/// The faults, in order: those of the container; a container without this stream; `MEMORY`, if
+/// there is none of these; `ROOM`, and then `size` is set too.
 #[tactic(auto, using(crate::proofs::NumberLaws::pdb_known))]
 #[unsafe(no_mangle)]
 pub extern "C" fn pdbmerge_stream(
