@@ -9,7 +9,7 @@ pub record Bytes : Type 0 where
   pub known : Option (List ℕ)
   -- how many there are said to be
   pub told : ℕ
-  -- whether a read gives this byte at this offset: of bytes that change, reads may give several
+  -- whether a read may give this byte at this offset: if the bytes change, reads may give several
   pub gives : ℕ → ℕ → Bool
 
 -- a list of bytes that are known, and do not change
@@ -20,7 +20,7 @@ stable file = record { known = Some file; told = length file; gives = λ offset 
 abbrev pub IfKnown : Bytes → (List ℕ → Type 0) → Type 0
 IfKnown bytes P = (file : List ℕ) → bytes ≡ stable file → P file
 
--- so many bytes of which nothing is known: any may come from anywhere
+-- this many bytes of which nothing is known: a read may give any byte at any offset
 abbrev pub unknown : ℕ → Bytes
 unknown told = record { known = None; told = told; gives = λ _ _. true }
 
@@ -28,7 +28,7 @@ unknown told = record { known = None; told = told; gives = λ _ _. true }
 abbrev pub AreGiven : Bytes → ℕ → List ℕ → Type 0
 AreGiven bytes offset text = (i : ℕ) → i < length text → bytes.gives (offset + i) (get_or text i 0) ≡ true
 
--- reads gave the bytes behind those that the buffer had, from this offset on
+-- the buffer has the bytes that it had, and after them bytes that reads gave from this offset on
 abbrev pub GivesBehind : Bytes → ℕ → List ℕ → List ℕ → Type 0
 GivesBehind bytes offset before after = (more : List ℕ) × (after ≡ before ++ more) × AreGiven bytes offset more
 

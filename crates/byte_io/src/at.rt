@@ -27,8 +27,8 @@ impl<F> From<F> for AtFault<F> {
 
 /// Gives bytes from any position.
 ///
-/// A slice has its bytes in memory. The bytes of a file are not known to contracts: of them they say
-/// which ones reads gave, and nothing else. Only a reader whose bytes are not known can fail.
+/// A slice has its bytes in memory. The contracts don't know the bytes of a file. They only say
+/// which bytes reads gave. Only a reader whose bytes are not known can fail.
 pub trait ReadAt {
     /// What is known of its bytes.
     ghost bytes: { Self → Bytes };
@@ -36,7 +36,7 @@ pub trait ReadAt {
     /// Whether a read failed.
     ghost is_broken: { Self → Bool };
 
-    /// How many bytes there are. Where the bytes are not known, this is what is said of them.
+    /// How many bytes there are. If the bytes are not known, this is how many there are said to be.
     fn len(&self) -> u64
         ensures told { result ≡ (bytes self.now).told }
         ensures value { IfKnown (bytes self.now) (λ file. result ≡ length file) }
@@ -56,7 +56,8 @@ pub trait ReadAt {
         ensures stays { is_broken self.old ≡ true → is_broken self.new ≡ true };
 }
 
-/// Reads `count` bytes from an offset on over those that a buffer has from `at` on.
+/// Reads `count` bytes from an offset on, and puts them in place of those that a buffer has from
+/// `at` on.
 ///
 /// The fault is `Read`, where the read fails.
 pub fn read_over<R: ReadAt>(
@@ -84,10 +85,10 @@ pub fn read_over<R: ReadAt>(
     }
 }
 
-/// Reads `count` bytes from an offset on to the end of a buffer, straight into its room.
+/// Reads `count` bytes from an offset on, and appends them to a buffer, straight into its room.
 ///
-/// The faults: `Memory` where the buffer can't grow, and then nothing is read; `Read` where the read
-/// fails.
+/// The faults: `Memory` where the buffer can't grow, and then nothing is read; `Read` where the
+/// read fails.
 pub fn read_more<R: ReadAt, A: Allocator>(
     input: &mut R,
     offset: u64,

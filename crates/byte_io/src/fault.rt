@@ -1,4 +1,4 @@
-//! Why not all bytes were put.
+//! Why a sink did not take all bytes.
 
 use thiserror::Error;
 

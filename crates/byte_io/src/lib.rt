@@ -7,14 +7,14 @@
 //!   slice into a sink.
 //! - [`Source`] gives bytes. [`In`] makes a source of any `Read`, and [`read_all`] reads a whole
 //!   source.
-//! - [`ReadAt`] gives bytes from any position. [`Seeking`] makes it of any file that can be sought
-//!   in; a slice is one by itself.
+//! - [`ReadAt`] gives bytes from any position. [`Seeking`] makes a `ReadAt` of any file that can
+//!   seek. A slice is a `ReadAt` by itself.
 //! - [`Inputs`] are several inputs that are read one after the other. An input is [`Opened`] to be
 //!   read by position, or read to its end.
 //!
 //! What is proved: a sink took just the bytes that its calls say, in order. After [`NotTaken`] it
-//! took a proper prefix of the bytes. A sink or a source that broke stays broken. All of this says
-//! nothing where the bytes of a writer or a reader are not known, as those of a file.
+//! took a proper prefix of the bytes. A sink or a source that broke stays broken. None of this says
+//! anything of a writer or a reader whose bytes are not known, such as a file.
 //!
 //! # Example
 //!

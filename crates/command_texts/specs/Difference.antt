@@ -13,7 +13,7 @@ use Rattle.command_texts.specs.declared.difference.Scope.TheVariants.{All, Origi
 abbrev pub IsSignedLine : List ℕ → ℕ → List ℕ → List ℕ → Type 0
 IsSignedLine sign index bytes line = (places : List ℕ) × HasPlaces bytes places × (line ≡ sign ++ type_line index bytes places)
 
--- the text is the lines of those of these records whose positions have P, in order; the first record is at this position
+-- the text is the lines of the records whose positions have P, in order; the first record is at this position
 abbrev pub AreLinesWhere : (ℕ → Type 0) → List ℕ → ℕ → List (List ℕ) → List ℕ → Type 0
 AreLinesWhere P sign position [] text = text ≡ []
 AreLinesWhere P sign position (bytes ∷ others) text =

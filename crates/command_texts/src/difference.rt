@@ -52,7 +52,7 @@ fn push_signed<A: Allocator>(
     Ok(())
 }
 
-/// Appends the lines of those of the types that are shown, each with this sign.
+/// Appends the lines of the types that are shown, each with this sign.
 fn push_shown<A: Allocator>(
     text: &mut String<A>,
     scope: Scope,

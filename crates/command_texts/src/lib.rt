@@ -6,13 +6,14 @@
 //! [`push_difference`], and for `info` [`push_info_header`], [`push_names`] and [`push_features`].
 //! [`names_length`] says how many bytes `info` asks for before it appends the names.
 //!
-//! What is proved: after Ok the text is the old one, and after it the bytes that `specs/` names for
-//! the values. The only fault is that memory is out, and nothing is said of the text after it. Of
-//! [`names_length`] no value is proved, and no text depends on it.
+//! What is proved: if a call returns Ok, the text is the old text followed by the bytes that
+//! `specs/` defines for the values. The only fault is out of memory, and nothing is said of the
+//! text after it. Nothing is proved of the value of [`names_length`], and no text depends on it.
 //!
 //! Here nothing is read and nothing is refused. The crate `pdb_commands` does both.
 //!
-//! `text` prints numbers and names. Each other module is named for the command whose lines it makes.
+//! `text` prints numbers and names. Each other module is named for the command whose lines it
+//! makes.
 //!
 //! # Example
 //!
