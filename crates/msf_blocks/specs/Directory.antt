@@ -154,7 +154,7 @@ pub record IsBlockMap (bytes : Bytes) (fields : Fields) (numbers : List ℕ) : T
 abbrev pub HasBlockMap : Bytes → Fields → Type 0
 HasBlockMap bytes fields = (numbers : List ℕ) × IsBlockMap bytes fields numbers
 
--- reads gave numbers of the block map with this fault, whatever comes after them
+-- reads gave the first numbers of the block map; whatever numbers come after them, the block map has this fault
 pub record BlockMapRefuses (bytes : Bytes) (fields : Fields) (fault : MsfFault) : Type 0 where
   pub numbers : List ℕ
   pub given : AreMapNumbers bytes fields numbers
@@ -190,22 +190,22 @@ pub record IsDirectoryNumber (bytes : Bytes) (fields : Fields) (position n : ℕ
 abbrev pub AreDirectoryNumbers : Bytes → Fields → ℕ → List ℕ → Type 0
 AreDirectoryNumbers bytes fields from numbers = (k : ℕ) → k < length numbers → IsDirectoryNumber bytes fields (from + k) (get_or numbers k 0)
 
--- reads gave a size of this stream, with which it has so many blocks
+-- reads gave a size of this stream, and a stream of this size has `blocks` blocks
 abbrev pub HasSize : Bytes → Fields → ℕ → ℕ → Type 0
 HasSize bytes fields stream blocks = (size : ℕ) × IsDirectoryNumber bytes fields (1 + stream) size × (blocks ≡ blocks_for fields.block_size (bytes_of size))
 
--- reads gave sizes of the streams from one up to another, with which their lists lie between these positions
+-- reads gave sizes of the streams from `from` up to `to`; with these sizes, their lists lie between the positions `start` and `end`
 pub record HasSizes (bytes : Bytes) (fields : Fields) (from to start end : ℕ) : Type 0 where
   pub sizes : List ℕ
   pub given : AreDirectoryNumbers bytes fields (1 + from) sizes
   pub many : to ≡ from + length sizes
   pub end_is : end ≡ start + blocks_together fields.block_size sizes
 
--- reads gave sizes of these streams, with which the directory has room for their lists
+-- reads gave sizes of these streams; with these sizes, the directory has room for their lists
 abbrev pub HasRoom : Bytes → Fields → ℕ → ℕ → ℕ → Type 0
 HasRoom bytes fields from to start = (end : ℕ) × HasSizes bytes fields from to start end × (4 * end ≤ fields.directory_bytes)
 
--- reads gave sizes of these streams, with which the directory is too short for their lists
+-- reads gave sizes of these streams; with these sizes, the directory is too short for their lists
 abbrev pub LacksRoom : Bytes → Fields → ℕ → ℕ → ℕ → MsfFault → Type 0
 LacksRoom bytes fields from to start fault =
     (end : ℕ) × HasSizes bytes fields from to start end × (fields.directory_bytes < 4 * end) × (fault ≡ DirectoryShort (4 * end) fields.directory_bytes)
@@ -217,7 +217,7 @@ pub record HasBlocks (bytes : Bytes) (fields : Fields) (start end : ℕ) : Type 
   pub end_is : end ≡ start + length blocks
   pub ordinary : All (IsOrdinary fields.num_blocks) blocks
 
--- reads gave the first numbers of a list of so many blocks of this stream, and the last of them is the first that is not ordinary
+-- reads gave the first numbers of a list of `count` blocks of this stream; the last of these numbers is not ordinary, and all others are
 pub record HasBadBlock (bytes : Bytes) (fields : Fields) (stream start count : ℕ) (fault : MsfFault) : Type 0 where
   pub at : ℕ
   pub n : ℕ
@@ -227,28 +227,28 @@ pub record HasBadBlock (bytes : Bytes) (fields : Fields) (stream start count : �
   pub bad : is_ordinary fields.num_blocks n ≡ false
   pub fault_is : fault ≡ StreamBlock stream at n
 
--- a list of so many blocks of this stream has a fault: the directory is too short for it, or it has this number that is not ordinary
+-- a list of `count` blocks of this stream has a fault: the directory is too short for it, or a number in it is not ordinary
 abbrev pub ListRefuses : Bytes → Fields → ℕ → ℕ → ℕ → MsfFault → Type 0
 ListRefuses bytes fields stream start count fault = (fields.directory_bytes < 4 * (start + count)) ⊎ HasBadBlock bytes fields stream start count fault
 
--- reads gave how many streams there are, the sizes of those before this one, and their lists, after which its own begins
+-- reads gave how many streams there are, and the sizes and the lists of the streams before this one; its own list begins after these
 pub record HasLists (bytes : Bytes) (fields : Fields) (streams stream start : ℕ) : Type 0 where
   pub count : IsDirectoryNumber bytes fields 0 streams
   pub sizes : HasSizes bytes fields 0 stream (1 + streams) start
   pub blocks : HasBlocks bytes fields (1 + streams) start
 
--- reads gave the first bytes of a directory with this fault, whatever comes after them; where they have none it is out of memory
+-- reads gave the first bytes of a directory; whatever bytes come after them, the directory has this fault, or it has none and the fault is out of memory
 pub record ContentsRefuse (bytes : Bytes) (fields : Fields) (fault : MsfFault) : Type 0 where
   pub text : List ℕ
   pub given : AreDirectoryBytes bytes fields 0 text
   pub few : length text ≤ fields.directory_bytes
   pub refused : (rest : List ℕ) → length text + length rest ≡ fields.directory_bytes → Refuses Memory (first_failing (directory_checks fields (text ++ rest))) fault
 
--- reads gave a directory with this fault: the block map has it, or else what the directory lists
+-- reads gave a directory with this fault: the block map has it, or reads gave a block map without a fault and contents that have it
 abbrev pub DirectoryRefuses : Bytes → Fields → MsfFault → Type 0
 DirectoryRefuses bytes fields fault = BlockMapRefuses bytes fields fault ⊎ (HasBlockMap bytes fields × ContentsRefuse bytes fields fault)
 
--- this is the first fault of the directory of a file that begins with this superblock: that of a number of the block map, else one of what the directory lists, else it is out of memory
+-- this is the first fault of the directory of a file that begins with this superblock: a fault of a number of the block map, else of what the directory lists, else out of memory
 abbrev pub IsDirectoryFault : List ℕ → Fields → MsfFault → Type 0
 IsDirectoryFault file fields fault =
     (first_failing (directory_block_checks file fields) ≡ Some fault)

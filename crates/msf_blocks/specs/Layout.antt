@@ -20,14 +20,14 @@ pub record HasLayout (file : List ℕ) (layout : LayoutView) : Type 0 where
   pub directory : IsDirectory file layout.superblock contents
   pub lists : ListsStreams layout.superblock contents layout.streams
 
--- reads gave the texts of this layout: the front, the block map, and the contents of the directory, each where the one before it says; all checks of them hold
+-- reads gave the bytes of this layout: the front, the block map and the contents of the directory, each where the one before it says; all checks of them hold
 pub record HasTexts (bytes : Bytes) (layout : LayoutView) : Type 0 where
   pub front : HasFront bytes layout.superblock
   pub contents : List ℕ
   pub directory : HasContents bytes layout.superblock contents
   pub lists : ListsStreams layout.superblock contents layout.streams
 
--- reads gave texts of a container with this fault: the front has it, or else the directory; where they have no fault it is out of memory
+-- reads gave bytes of a container with this fault: the front has it, or reads gave a front without a fault and a directory that has it; if there is no fault, it is out of memory
 abbrev pub TextsRefuse : Bytes → MsfFault → Type 0
 TextsRefuse bytes fault = FrontRefuses bytes fault ⊎ ((fields : Fields) × HasFront bytes fields × DirectoryRefuses bytes fields fault)
 

@@ -87,7 +87,7 @@ front_checks front have =
     ∷ record { holds = is_ordinary fields.num_blocks fields.block_map_addr; fault = BlockMapAddr fields.block_map_addr }
     ∷ []
 
--- these are the first bytes of a container with this superblock, which is said to have so many bytes: all checks of its front hold
+-- these are the first bytes of a container with this superblock, which is said to have `told` bytes: all checks of its front hold
 pub record IsFront (front : List ℕ) (told : ℕ) (fields : Fields) : Type 0 where
   pub count : length front ≡ 56
   pub fields_are : fields ≡ fields_of front
@@ -101,6 +101,6 @@ HasFront bytes fields = (front : List ℕ) × AreGiven bytes 0 front × IsFront 
 abbrev pub HasBadFront : Bytes → MsfFault → Type 0
 HasBadFront bytes fault = (front : List ℕ) × AreGiven bytes 0 front × (length front ≡ 56) × (first_failing (front_checks front bytes.told) ≡ Some fault)
 
--- the front has this fault: there are said to be too few bytes for one, or reads gave one with this fault
+-- the front has this fault: the file is said to have too few bytes for a front, or reads gave a front with this fault
 abbrev pub FrontRefuses : Bytes → MsfFault → Type 0
 FrontRefuses bytes fault = ((bytes.told < 56) × (fault ≡ Short)) ⊎ HasBadFront bytes fault

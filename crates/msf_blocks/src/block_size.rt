@@ -107,7 +107,7 @@ impl BlockSize {
     /// Exactly `j` of the blocks before it are not map blocks. This does not allocate. ("The MSF
     /// File Format", "The Free Block Map".)
     pub fn nth_block(self, j: u32) -> u32
-        // A caller may use that blocks may have this size.
+        // The caller may assume that blocks may have this size.
         requires { IsBlockSize self → nth_block self j < 2 ^ 32 }
         ensures value { result ≡ nth_block self j }
         ensures free { is_map_block self result ≡ false }

@@ -31,8 +31,8 @@ fn run_len(blocks: &[u32], position: u32, most: u32) -> u32
     most
 }
 
-/// Reads the bytes in blocks with these numbers over those of a buffer that has their length, run by
-/// run.
+/// Reads the bytes in blocks with these numbers over those of a buffer that has their length, run
+/// by run.
 fn read_runs<R: ReadAt>(
     input: &mut R,
     block_size: u32,
@@ -64,8 +64,8 @@ fn read_runs<R: ReadAt>(
     Ok(())
 }
 
-/// Gives a buffer this length. Of the bytes that it has, the first ones stay, and zeros come after
-/// them where it had fewer.
+/// Gives a buffer this length: drops its last bytes if it has more, and appends zeros if it has
+/// fewer.
 fn give_length<A: Allocator>(buffer: &mut Vec<u8, A>, len: usize) -> Result<(), AllocError>
     ensures { OnOk result (length buffer.new.items ≡ len) }
 {

@@ -1,5 +1,5 @@
-//! A stream directory that is read by position. Where memory is refused for it, its checks are made
-//! all the same: they take one number at a time then, which needs no memory.
+//! A stream directory that is read by position. If memory is refused for it, its checks are made
+//! all the same, one number at a time, which needs no memory.
 
 ghost use Rattle.std.specs.Prelude.{ℕ, None, Some, ◌≡◌, ◌⊎◌, ◌+◌, ◌*◌, ◌<◌, ◌≤◌, ◌^◌, length, map, OnOk, IfOk, IfErr, IfSome, IfNone};
 ghost use Rattle.std.specs.List.{range_with_len};
@@ -67,7 +67,8 @@ fn check_map<R: ReadAt>(input: &mut R, superblock: &Superblock) -> Result<(), At
         first_failing (directory_block_checks file superblock.now) ≡ None)) }
     ensures first { IfErr result (IfOf (λ fault. IfKnown (R.bytes input.old) (λ file.
         first_failing (directory_block_checks file superblock.now) ≡ Some fault))) }
-    // Whatever is known of the file, there is a block map without a fault, or one with this fault.
+    // Even if the file's bytes are not known, reads gave a block map without a fault, or one with
+    // this fault.
     ensures map { OnOk result (HasBlockMap (R.bytes input.old) superblock.now) }
     ensures refused { IfErr result (IfOf (BlockMapRefuses (R.bytes input.old) superblock.now)) }
     ensures read { IfErr result (λ fault.
@@ -291,8 +292,8 @@ fn check_stream<R: ReadAt>(
 
 /// Checks the list of a stream, which begins at position `start`, and returns where it ends.
 ///
-/// Where the list has a fault, the sizes of the later streams are read again too: that the directory
-/// is too short for all lists comes first.
+/// If the list has a fault, the sizes of the later streams are read again too: if the directory is
+/// too short for all lists, that fault comes first.
 fn check_list<R: ReadAt>(
     input: &mut R,
     superblock: &Superblock,
@@ -365,7 +366,8 @@ fn check_streams<R: ReadAt>(
         first_failing (checks_below streams
         (stream_checks superblock.now (directory_contents file superblock.now)))
         ≡ Some fault))) }
-    // Whatever is known of the file, there are contents without a fault, or some with this fault.
+    // Even if the file's bytes are not known, reads gave contents without a fault, or some with
+    // this fault.
     ensures sound { OnOk result
         (ContentsRefuse (R.bytes input.old) superblock.now MsfFault.Memory) }
     ensures refused { IfErr result (IfOf (ContentsRefuse (R.bytes input.old) superblock.now)) }
@@ -404,7 +406,7 @@ fn check_directory<R: ReadAt>(
 }
 
 /// The fault of a directory for which memory was refused. This does not allocate: it checks one
-/// number at a time, and `Memory` is left where all checks hold.
+/// number at a time. The fault is `Memory` if all checks hold.
 fn fault_without_memory<R: ReadAt>(input: &mut R, superblock: &Superblock) -> AtFault<MsfFault>
     requires { IfKnown (R.bytes input.old) (λ file. HoldsBlocks file superblock.now) }
     ensures keeps { R.bytes input.new ≡ R.bytes input.old }
@@ -424,7 +426,7 @@ fn fault_without_memory<R: ReadAt>(input: &mut R, superblock: &Superblock) -> At
     }
 }
 
-/// The first numbers in these bytes, of which each has four.
+/// The first `count` numbers in these bytes. Each number has four bytes.
 #[tactic(auto, using(crate::proofs::DirectoryLaws::map_range_more), unfolding(byte_fields::specs::Number::nth_u32))]
 fn numbers_in<A: Allocator>(alloc: A, bytes: &[u8], count: u32) -> Result<Vec<u32, A>, AllocError>
     requires { 4 * count ≤ length bytes.now }
@@ -510,8 +512,8 @@ fn read_numbers<R: ReadAt, A: Allocator + Copy>(
 /// Reads the contents of the directory of a file that begins with this superblock. The block map is
 /// read at once, and so are directory blocks that are consecutive.
 ///
-/// All checks of the directory come before out of memory: where memory is refused, they are made one
-/// number at a time.
+/// All checks of the directory come before out of memory: where memory is refused, they are made
+/// one number at a time.
 pub fn read_contents<R: ReadAt, A: Allocator + Copy>(
     alloc: A,
     input: &mut R,

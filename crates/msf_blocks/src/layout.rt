@@ -29,9 +29,9 @@ struct Stream<A: Allocator> {
 /// Where the streams of a container are: its superblock, and for each stream its size in bytes and
 /// the numbers of its blocks, as the stream directory lists them.
 ///
-/// Made by [`Layout::read`] and [`Layout::read_at`]. Each block number in it is above 0 and below the number of blocks of
-/// the file. Each stream has as many blocks as its bytes need. ("The MSF File Format", "The Stream
-/// Directory".)
+/// Made by [`Layout::read`] and [`Layout::read_at`]. Each block number in it is above 0 and below
+/// the number of blocks of the file. Each stream has as many blocks as its bytes need. ("The MSF
+/// File Format", "The Stream Directory".)
 #[derive(Debug, Drop)]
 pub struct Layout<A: Allocator = Global> {
     superblock: Superblock,
@@ -167,21 +167,21 @@ impl<A: Allocator + Copy> Layout<A> {
     /// Reads the layout of a container by position: its superblock, its block map and its stream
     /// directory. No other byte of the file is read.
     ///
-    /// The faults are those of [`Layout::read`], in the same order, and `AtFault::Read` where a read
-    /// fails. This allocates room for the directory too, since its numbers are read once and then
-    /// checked again, as a file may change. ("The MSF File Format", "The Stream Directory".)
+    /// The faults are those of [`Layout::read`], in the same order, and `AtFault::Read` where a
+    /// read fails. A file may change, so the directory is read once, and what was read is checked.
+    /// This allocates room for the directory too. ("The MSF File Format", "The Stream Directory".)
     pub fn read_at<R: ReadAt>(alloc: A, input: &mut R) -> Result<Layout<A>, AtFault<MsfFault>>
         ensures keeps { R.bytes input.new ≡ R.bytes input.old }
         ensures small { IfKnown (R.bytes input.old) AreBytes }
         ensures value { IfOk result (λ layout.
             IfKnown (R.bytes input.old) (λ file. HasLayout file layout)) }
-        // Whatever is known of the file, the layout is that of texts that reads gave.
+        // Even if the file's bytes are not known, the layout is that of bytes that reads gave.
         ensures texts { IfOk result (HasTexts (R.bytes input.old)) }
         ensures found { IfErr result (λ fault. IfKnown (R.bytes input.old) (λ file.
             (layout : LayoutView) → HasLayout file layout → fault ≡ AtFault.Of MsfFault.Memory)) }
         ensures first { IfErr result (IfOf (λ fault. IfKnown (R.bytes input.old) (λ file.
             Refuses MsfFault.Memory (first_failing (layout_checks file)) fault))) }
-        // Whatever is known of the file, a fault is that of texts that reads gave.
+        // Even if the file's bytes are not known, the fault is that of bytes that reads gave.
         ensures refused { IfErr result (IfOf (TextsRefuse (R.bytes input.old))) }
         ensures read { IfErr result (λ fault.
             fault ≡ AtFault.Read → Breaks (R.bytes input.old) (R.is_broken input.new)) }

@@ -167,7 +167,8 @@ impl Superblock {
         ensures fields { IfOk result (λ s.
             IfKnown (R.bytes input.old) (λ file. s ≡ fields_of file)) }
         ensures fit { IfOk result IsFit }
-        // Whatever is known of the file, the superblock and the fault are those of bytes that reads gave.
+        // Even if the file's bytes are not known, the superblock and the fault are those of bytes
+        // that reads gave.
         ensures front { IfOk result (HasFront (R.bytes input.old)) }
         ensures held { OnOk result
             (IfKnown (R.bytes input.old) (λ file. first_failing (superblock_checks file) ≡ None)) }

@@ -19,7 +19,7 @@ listed_contents file block_size stream = gathered file block_size stream.blocks 
 abbrev pub stream_contents : List ℕ → LayoutView → ℕ → Option (List ℕ)
 stream_contents file layout s = option_map (listed_contents file layout.superblock.block_size) (slice_get layout.streams s)
 
--- reads gave this text of the s-th stream of this layout: as many bytes as it has, in the blocks that are listed for it
+-- reads gave these bytes of the s-th stream of this layout: as many as the stream has, in the blocks that are listed for it
 pub record WasRead (bytes : Bytes) (layout : LayoutView) (s : ℕ) (text : List ℕ) : Type 0 where
   pub stream : Listed
   pub listed : slice_get layout.streams s ≡ Some stream

@@ -27,7 +27,7 @@ pub fn gather_at<R: ReadAt, A: Allocator, L: Allocator>(
     ensures keeps { R.bytes input.new ≡ R.bytes input.old }
     ensures value { OnOk result (IfKnown (R.bytes input.old) (λ file.
         stream_contents file layout.now s ≡ Some buffer.new.items)) }
-    // Whatever is known of the file, these are bytes that reads gave.
+    // Even if the file's bytes are not known, these are bytes that reads gave.
     ensures text { OnOk result (WasRead (R.bytes input.old) layout.now s buffer.new.items) }
     ensures found { s < length layout.now.streams →
         IfErr result (λ fault.

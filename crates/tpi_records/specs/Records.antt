@@ -102,7 +102,7 @@ starts_for count = (count + 63) / 64
 pub record AreRecords (bytes : List ℕ) (count : ℕ) (starts : List ℕ) : Type 0 where
   -- each of them is a record, and nothing follows them
   pub framed : IsFramed bytes
-  -- there are as many
+  -- there are `count` of them
   pub counted : count ≡ length (records_in bytes)
   -- these are the starts of records 0, 64, 128 and so on
   pub kept : starts ≡ starts_below (records_in bytes) (starts_for count)

@@ -12,7 +12,8 @@ use crate::iter::{Iter, skip, split_first};
 use std::alloc::{Allocator, Global};
 use std::marker::Model;
 
-/// The start that is kept of the record at this position or of one at most 63 before it.
+/// The last start that is kept at this position or before it: it is that of the record at this
+/// position, or of one at most 63 before it.
 fn start_below(starts: &[u32], position: usize) -> Option<usize>
     ensures { result ≡ slice_get starts.now (position / 64) }
 {
@@ -49,8 +50,8 @@ impl<'a, A: Allocator + Copy> Records<'a, A> {
     ///
     /// 1. `Short`, `Version`, `HeaderSize`, `Begin`, `End`, `Bytes`: as [`TpiHeader::read`].
     /// 2. For each record in turn, `RecordShort`: the bytes end within its length field.
-    ///    `RecordLen`: the length field is below two, or the whole record would not be a multiple of
-    ///    four bytes long.
+    ///    `RecordLen`: the length field is below two, or the whole record would not be a multiple
+    ///    of four bytes long.
     ///    `RecordShort`: the bytes end within the record.
     /// 3. `RecordCount`: the header announces another number of records.
     /// 4. `Memory`: out of memory for the starts. All checks passed.
@@ -154,7 +155,7 @@ impl<'a, A: Allocator> Records<'a, A> {
         skip(bytes, position % STRIDE)
     }
 
-    /// A cursor over the records, which are looked up by it. It does not allocate.
+    /// A cursor, which looks up these records. This does not allocate.
     pub fn cursor(&self) -> Cursor<'_, 'a, A>
         ensures { result ≡ self.now }
     {
