@@ -64,8 +64,8 @@ fn keep_depth(depths: &mut [u32], position: usize, depth: Option<u32>) -> bool
 }
 
 /// Checks all records, in order, and measures their depths in the same walk. Returns whether all
-/// depths are known: not where a record names itself or a later one, or where there is no room for
-/// them.
+/// depths are known. They are not if a record names itself or a later one, or if there is no room
+/// for them.
 fn check_all<A: Allocator>(
     records: &Records<'_, A>,
     depths: &mut [u32],
@@ -101,11 +101,11 @@ impl<'a, A: Allocator + Copy> Types<'a, A> {
     ///   has the type indices of the records that lead into a cycle.
     /// - `Memory`: out of memory. Each record passed its checks.
     ///
-    /// A refusal drops the records, and the stream that they are lent from stays as it was. The
-    /// records are gone through once, and this allocates four bytes for each, at once, before that.
-    /// Where there is no memory for them, the records are checked all the same. Where a record names
-    /// a later one, the search for an order allocates about 20 more bytes for each record and 4 for
-    /// each reference, and it takes time in proportion to both.
+    /// A refusal drops the records, and the stream that they are lent from stays as it was. This
+    /// first allocates four bytes for each record, all at once, and then goes through the records
+    /// once. If there is no memory for these bytes, the records are checked all the same. Where a
+    /// record names a later one, the search for an order allocates about 20 more bytes for each
+    /// record and 4 for each reference, and it takes time in proportion to both.
     pub fn check(alloc: A, records: Records<'a, A>) -> Result<Types<'a, A>, TypeFault<A>>
         ensures value { IfOk result (λ types. (types ≡ records.entry) × AreTypes records.entry) }
         // Records that make types are refused only when out of memory.

@@ -14,7 +14,7 @@ use Rattle.tpi_records.specs.Header.{first_index}
 unfoldable pub position_in : List Tree → Tree → ℕ
 position_in l t = position_or_len (same_tree t) l
 
--- the type indices of branches: a simple branch is its own, and a tree has that of its position in l
+-- the type indices of branches: a simple branch is a type index itself, and a tree has the type index of its position in l
 abbrev pub numbers : List Tree → Branches → List ℕ
 numbers l no_branch = []
 numbers l (simple n bs) = n ∷ numbers l bs

@@ -12,16 +12,16 @@
 //! depth in the order of the bytes of their records. The records name each other by their positions
 //! in the list. The *weight* of a list is the number of bytes of its records.
 //!
-//! By the list of the places at which a record names other records (`list_places` of `cv_leaves`)
-//! [`depth_of`] computes the depth of a record, from the depths of those that it names, and
-//! [`levels_of`] counts the levels. [`renumber_into`] makes a record that names the same types by
-//! other type indices.
+//! [`depth_of`] computes the depth of a record from the depths of the records that it names.
+//! [`renumber_into`] makes a record that names the same types by other type indices. Both take the
+//! list of the places at which the record names other records (`list_places` of `cv_leaves`).
+//! [`levels_of`] counts the levels.
 //!
 //! What is proved: a renumbered record is the record with the new type index at each place. It is
-//! made only where each reference is simple or has a number, and always where these numbers are
-//! below 2^31, unless this runs out of memory. The [`laws`] say that there is exactly one tree at
-//! each position of records that make types, and that it is closed; that each tree branch of a type
-//! is a type; and that a set of types has one canonical list, which reads back as that set.
+//! made only if each reference is simple or has a number. If these numbers are below 2^31, it is
+//! always made, unless memory runs out. The [`laws`] say that there is exactly one tree at each
+//! position of records that make types, and that it is closed; that each tree branch of a type is a
+//! type; and that a set of types has one canonical list, which reads back as that set.
 //!
 //! # Example
 //!

@@ -27,7 +27,7 @@ pub fn number_for(to: u32, numbers: &[u32]) -> Option<u32>
 }
 
 /// Writes the new type index of each reference of a record into a copy of the record. Returns
-/// whether each reference has one. Where one has none, those before it are written.
+/// whether each reference has one. If one has none, only those before it are written.
 ///
 /// `places` has the places at which the record names other records.
 pub fn renumber(bytes: &[u8], places: &[u16], numbers: &[u32], copy: &mut [u8]) -> bool

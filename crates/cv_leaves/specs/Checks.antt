@@ -57,11 +57,11 @@ places_of r = option_map_or (λ l. leaf_places l (body_of r)) (leaf_of (kind_of 
 
 -- the places of these parts can be told: those of the part at `base`, and those of the parts from `next` on
 pub record ArePlacesLeft (rest : Rest) (body : List ℕ) (base next stop : ℕ) : Type 0 where
-  -- no place overflows: the body is short
+  -- the body is short, so no place overflows
   pub short : length body < 2 ^ 17
-  -- the part begins near it
+  -- the part begins at a small offset
   pub base_near : base < 2 ^ 17
-  -- so do those after it
+  -- so do the parts after it
   pub next_near : next < 2 ^ 17
-  -- they pass their checks
+  -- the parts after it pass their checks
   pub checked : first_failing (checks_from rest body stop next) ≡ None

@@ -31,7 +31,7 @@ abbrev pub AreNumerics : ℕ → List ℕ → Type 0
 AreNumerics zero bytes = bytes ≡ []
 AreNumerics (suc n) bytes = (first : List ℕ) × (others : List ℕ) × (bytes ≡ first ++ others) × IsNumeric first × AreNumerics n others
 
--- if there has to be a name, the bytes are a name and its NUL, the only NUL in it; otherwise there are none
+-- if there has to be a name, the bytes are a name and the NUL that ends it, and have no other NUL; otherwise there are no bytes
 abbrev pub IsNamed : Bool → List ℕ → Type 0
 IsNamed true bytes = name_len bytes + 1 ≡ length bytes
 IsNamed false bytes = bytes ≡ []

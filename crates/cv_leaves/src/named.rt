@@ -141,8 +141,8 @@ fn list_leaf<A: Allocator>(
 /// Makes `list` the places at which a record names other records, if the record passes its checks.
 ///
 /// Returns whether it does, as [`check`](crate::check) tells. References to simple types are left
-/// out. The places are offsets in the body, in bytes, and rise. Where a check fails, or out of
-/// memory, the list has some of them. This allocates only the list.
+/// out. The places are offsets in the body, in bytes, and rise. If a check fails or memory runs
+/// out, the list has some of them. This allocates only the list.
 pub fn list_places<A: Allocator>(record: &[u8], list: &mut Vec<u16, A>) -> Result<bool, AllocError>
     requires { (4 ≤ length «record».now) × (length «record».now ≤ 2 ^ 16) }
     // It answers true only for a record that has places, and lists them.

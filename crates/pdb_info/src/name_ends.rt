@@ -14,8 +14,8 @@ use std::alloc::{AllocError, Allocator};
 /// How many bytes of the buffer a part has. The end of the name that begins at each part is kept.
 const PART: usize = 64;
 
-/// How many bytes there are up to the last NUL of a buffer, with it. A name that begins after them
-/// has no end.
+/// How many bytes a buffer has up to its last NUL, which is counted too. A name that begins after
+/// them has no end.
 pub(crate) fn ended_length(buffer: &[u8]) -> usize
     ensures { (offset : ℕ) → is_named buffer.now offset ≡ nat_lt offset result }
 {
@@ -34,8 +34,8 @@ pub(crate) fn between(buffer: &[u8], start: usize, stop: usize) -> &[u8]
     &buffer[start..stop]
 }
 
-/// Where the name that begins at `start` ends, if the one that begins at `stop` ends at `end`. A name
-/// without an end takes all bytes.
+/// Where the name that begins at `start` ends, if the one that begins at `stop` ends at `end`. A
+/// name without an end takes all bytes.
 fn end_from(buffer: &[u8], start: usize, stop: usize, end: usize) -> usize
     requires order { start ≤ stop }
     requires inside { stop ≤ length buffer.now }
@@ -48,7 +48,8 @@ fn end_from(buffer: &[u8], start: usize, stop: usize, end: usize) -> usize
     }
 }
 
-/// Where the names end that begin at the parts of a buffer. This allocates 4 bytes for each part.
+/// The ends of the names that begin at the fronts of the parts of a buffer. This allocates 4 bytes
+/// for each part.
 pub(crate) fn ends_of<A: Allocator>(alloc: A, buffer: &[u8]) -> Result<Vec<u32, A>, AllocError>
     requires few { length buffer.now < 2 ^ 32 }
     ensures { IfOk result (λ ends. AreEnds buffer.now ends.items) }
@@ -66,7 +67,7 @@ pub(crate) fn ends_of<A: Allocator>(alloc: A, buffer: &[u8]) -> Result<Vec<u32, 
     Ok(ends)
 }
 
-/// Where the name that begins at an offset ends, where the ends at the parts are known.
+/// Where the name that begins at an offset ends. `ends` has the ends at the parts.
 pub(crate) fn end_at(buffer: &[u8], ends: &[u32], start: usize) -> usize
     requires inside { start ≤ length buffer.now }
     requires ends { AreEnds buffer.now ends.now }

@@ -24,8 +24,8 @@ pub struct Name<'a> {
 }
 
 impl NameMap {
-    /// The stream of the `k`-th pair, with its name. The ends of names at the parts of the buffer are
-    /// known.
+    /// The stream of the `k`-th pair, with its name. `ends` has the ends of the names at the parts
+    /// of the buffer.
     #[tactic(auto, unfolding(crate::specs::Names::pair_at))]
     fn name<'a>(&self, stream: &'a [u8], ends: &[u32], k: u32) -> Name<'a>
         requires map { IsMap stream.now self.now }

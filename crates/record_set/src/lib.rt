@@ -1,9 +1,10 @@
 //! Distinct type records, each with the places at which it names other records.
 //!
 //! [`RecordSet`] finds a record by its bytes, as a [`TextSet`](text_set::TextSet) does. Beside each
-//! record it keeps the places of its references, without those of simple types. So what follows the
-//! references of a record needs no look at its leaf. [`Listed`] lends the records and the places of a
-//! set, or of one that was taken apart once no record is looked up any more.
+//! record it keeps the places of its references, without those of simple types. So code that
+//! follows the references of a record need not look at its leaf. [`Listed`] lends the records and
+//! their places. They are those of a set, or of a set that was taken apart because no record is
+//! looked up any more.
 //!
 //! # Example
 //!
