@@ -1,9 +1,9 @@
 //! The line of a run: its name, and what was answered.
 //!
-//! After `ok` a line has the number of bytes that were written, their hash, how many lines they are,
-//! and the sum of the numbers that end a line. So what was written can be compared without its text.
-//! The line of `check`, and of a merge, has the words of the report after these. After `fault` a line
-//! has the text of the fault.
+//! After `ok` a line has the number of bytes that were written, their hash, how many lines they
+//! are, and the sum of the numbers that end a line. So what was written can be compared without its
+//! text. The line of `check`, and of a merge, has the words of the report after these. After
+//! `fault` a line has the text of the fault.
 
 use pdb_commands::RunFault;
 use std::fmt::Write;
@@ -62,7 +62,7 @@ pub fn push_words(text: &mut String, report: &[u8]) -> Option<()> {
     Some(())
 }
 
-/// Appends the line of a run that was refused. `none_written` is whether it wrote nothing, which is
+/// Appends the line of a run that was refused. `none_written` is whether it wrote nothing, as is
 /// promised.
 pub fn push_fault(
     text: &mut String,

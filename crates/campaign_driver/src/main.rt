@@ -1,13 +1,13 @@
 //! For the test `tests/campaign`: runs the commands of `pdb_commands` on the files of many cases in
 //! one process.
 //!
-//! Standard input has cases, one after the other. All numbers are u32, the lowest byte first. A case
-//! is the number of its files (1 to 16), the limit and the block size of its merges, the number of files
-//! in the first part of the list, and then each file: its length and its bytes.
+//! Standard input has cases, one after the other. All numbers are u32, the lowest byte first. A
+//! case is the number of its files (1 to 16), the limit and the block size of its merges, the
+//! number of files in the first part of the list, and then each file: its length and its bytes.
 //!
-//! Standard output has a line for each run, and an empty line after each case. `runs` says which runs
-//! a case has, and `line` what a line says. The status is 1 where standard input isn't a list of
-//! cases; the cases before the first that is none have their lines then.
+//! Standard output has a line for each run, and an empty line after each case. `runs` says which
+//! runs a case has, and `line` what a line says. The status is 1 if standard input isn't a list of
+//! cases. The cases before the fault still have their lines.
 #![tactic(auto)]
 
 mod case;

@@ -1,12 +1,13 @@
 //! The runs of a case.
 //!
-//! For each file: `records`, `record` (of 0x1000), `types`, `check`, `info` and `streams`, and `alone`,
-//! the merge of the file alone. Then for all files: `list`, their merge; `reversed`, in reverse order;
-//! `twice`, each file twice; `first` and `second`, the two parts of the list; and `parts`, the merge of
-//! what these two wrote. Last `again`, the merge of what `list` wrote and then the list.
+//! For each file: `records`, `record` (of 0x1000), `types`, `check`, `info` and `streams`, and
+//! `alone`, the merge of the file alone. Then for all files: `list`, their merge; `reversed`, in
+//! reverse order; `twice`, the list twice; `again`, what `list` wrote and then the list; `first`
+//! and `second`, the two parts of the list; and `parts`, the merge of what these two wrote.
 //!
-//! After `alone` and `list` follow, of what they wrote: `alone-itself` and `itself`, its merge; and
-//! `alone-written` and `written`, the command `check`. A merge of what was not written has no line.
+//! Two lines follow `alone` and `list`, on the file that the merge wrote: the merge of that file
+//! alone (`alone-itself`, `itself`), and the command `check` (`alone-written`, `written`). A run on
+//! a file that was not written has no line.
 
 use crate::case::Head;
 use crate::line::{push_end, push_fault, push_words, push_written};
@@ -215,7 +216,8 @@ fn push_parts<R: AllocGlobal + RandomSource>(
     Some(())
 }
 
-/// Merges the list in other ways: in reverse order, each file twice, and what its merge wrote before it.
+/// Merges the list in other ways: in reverse order, each file twice, and what its merge wrote
+/// before it.
 fn push_others<R: AllocGlobal + RandomSource>(
     rt: &R,
     text: &mut String,
