@@ -31,7 +31,7 @@ pub record IsCanon (records : List (List ℕ)) : Type 0 where
   pub are : records ≡ texts trees
   pub table : IsTable records
 
--- the first `end` positions of ps have the numbers from `first` on, if they are distinct, and all other numbers stay as they were
+-- if the positions ps are distinct, the first `end` of them have the numbers from `first` on; the numbers of all other positions stay as they were
 pub record Numbered (ps : List ℕ) (first end : ℕ) (before after : List ℕ) : Type 0 where
   pub put : AllPairs (λ i j. i ≢ j) ps → (k : ℕ) → k < end → get_or after (get_or ps k 0) 0 ≡ first + k
   pub kept : (i : ℕ) → ((k : ℕ) → k < end → get_or ps k 0 ≢ i) → get_or after i 0 ≡ get_or before i 0

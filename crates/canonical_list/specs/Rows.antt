@@ -43,7 +43,7 @@ pub record IsKeyed (from h k : ℕ) (x : List ℕ) : Type 0 where
 abbrev pub AreTied : Row → Row → Type 0
 AreTied a b = (a.head ≡ b.head) × (a.key ≡ b.key)
 
--- the rows from start up to end have one head and one key, and the row at end has another head or another key
+-- the rows from start up to end have one head and one key, and the row at end, if there is one, has another head or another key
 pub record IsStretch (run : List Row) (start end : ℕ) : Type 0 where
   pub after : start < end
   pub within : end ≤ length run

@@ -111,7 +111,8 @@ fn run_end(run: &[Row], start: usize) -> usize
 
 /// Sorts rows by their bytes, of which the first `from` are the same in all rows.
 ///
-/// There are at most `rounds` rounds of 12 bytes each. Out of memory leaves the rows in some order.
+/// There are at most `rounds` rounds of 12 bytes each. If memory runs out, the rows are left in
+/// some order.
 pub fn sort_run<'a, A: Allocator + Copy>(
     rows: &'a PackedTexts<A>,
     run: &mut [Row],

@@ -2,7 +2,7 @@
 use Rattle.std.specs.Prelude.{ℕ, ◌≡◌, ◌+◌, ◌%◌, ◌^◌, ◌<◌, List, [], ◌∷◌, ◌++◌, length, get_or, nat_eq}
 use Rattle.std.specs.List.{Contains, IsDistinct}
 
--- the number that is tried after so many others: they rise from the hash on, and 0 follows the greatest
+-- the number that is tried after `count` others: the numbers rise from the hash on, and 0 follows the greatest
 abbrev pub nth_try : ℕ → ℕ → ℕ
 nth_try hash count = (hash + count) % 2 ^ 32
 
@@ -23,7 +23,7 @@ pub record HaveKeys (h : List ℕ → ℕ) (texts : List (List ℕ)) (keys : Lis
   pub distinct : IsDistinct nat_eq keys
   pub first_free : (k : ℕ) → k < length keys → IsFirstFree keys k (h (get_or texts k [])) (get_or keys k 0)
 
--- each text has a key of its own, and one that is this text has the first that was free for its hash
+-- each text has a key of its own; if one of them is this text, its key is the first that was free for its hash
 pub record LeadTo (texts : List (List ℕ)) (keys : List ℕ) (text : List ℕ) (hash : ℕ) : Type 0 where
   pub each : length keys ≡ length texts
   pub distinct : IsDistinct nat_eq keys

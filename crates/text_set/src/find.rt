@@ -10,7 +10,7 @@ use std::hash::{BuildHasher, BuildHasherDefault, FoldHasher, Hasher};
 
 /// The key of each text, at its position.
 ///
-/// The key of a text is its hash, or the next number that is free, where other texts have that hash.
+/// The key of a text is its hash or, if other texts have that hash, the next number that is free.
 pub(crate) type Keys<A> = IndexSet<u32, BuildHasherDefault<FoldHasher>, A>;
 
 /// The hash of a text: the high half of the number that the hasher returns.
@@ -23,8 +23,8 @@ pub(crate) fn hash_of<S: BuildHasher>(hasher: &S, text: &[u8]) -> u32
     (state.finish() >> 32) as u32
 }
 
-/// The position of a text with the hash `hash`. `None` where the text isn't there, and a key for it
-/// was put after the others.
+/// The position of a text with the hash `hash`. `None` means that the text isn't there, and that a
+/// key for it was put after the others.
 pub(crate) fn find_or_key<A: Allocator>(
     texts: &PackedTexts<A>,
     keys: &mut Keys<A>,

@@ -20,7 +20,7 @@ unfoldable pub IsRecordWalk : Bool → List (List ℕ) → List ℕ → Type 0
 IsRecordWalk true records order = AreTypes records × IsOrder (graph_of records) order
 IsRecordWalk false records order = order ≡ range_with_len 0 (length records)
 
--- r has places and names records with numbers, and renumbered it is at k in the texts, which have at most this one more than before
+-- r has places and names only records that have a number; renumbered, it is at k in the texts `after`, which have at most this one text more than `before`
 pub record IsPut (before after : List (List ℕ)) (numbers r : List ℕ) (k : ℕ) : Type 0 where
   pub checked : IsChecked r
   pub there : NamesThere (length numbers) (references r)

@@ -77,8 +77,8 @@ impl<A: Allocator + Copy> Workspace<A> {
     }
 }
 
-/// Puts a record into the set where it isn't there yet, and returns its position there. `None`
-/// where the record has a fault, or where it names a record without a number.
+/// Puts a record into the set, if it isn't there yet, and returns its position there. `None` where
+/// the record has a fault, or where it names a record without a number.
 ///
 /// `numbers` has the positions in the set of the records that may be named. `guess` is the position
 /// where the record is looked for first. Unless a position is returned, the set stays as it was.
@@ -124,8 +124,9 @@ fn known_of(checked: bool, many: usize, position: usize) -> usize
     if checked { many } else { position }
 }
 
-/// Puts all records into the set, in this order. Returns whether that succeeded: it does for records
-/// that were `checked`. If it does not, or out of memory, some of them may be in the set.
+/// Puts all records into the set, in this order. Returns whether that succeeded. It always does for
+/// records that were `checked`. If it does not, or if memory runs out, some of them may be in the
+/// set.
 pub fn add_in_order<S: BuildHasher, A: Allocator + Copy>(
     texts: &mut RecordSet<S, A>,
     work: &mut Workspace<A>,

@@ -1,7 +1,8 @@
 //! The guess: the record of a table that a record is expected to become.
 //!
 //! Most records of an input are in the table already, in the same sequence. So before a record is
-//! copied and hashed, it is compared with the one after the record that the last one became.
+//! copied and hashed, it is compared with one record of the table: the one after the record that
+//! the last record became.
 
 ghost use Rattle.std.specs.Prelude.{◌≡◌, ◌≤◌, ◌<◌, ◌+◌, ◌-◌, ◌^◌, [], ℕ, IsTrue, length, get_or, take, drop};
 ghost use Rattle.tpi_records.specs.Header.{first_index};

@@ -25,8 +25,8 @@ use std::marker::Model;
 use tpi_records::Records;
 
 /// Puts all records into the set, in this order, and measures the new ones. Returns whether that
-/// succeeded: it does for records that were `checked`. If it does not, or out of memory, some of
-/// them may be in the set.
+/// succeeded. It always does for records that were `checked`. If it does not, or if memory runs
+/// out, some of them may be in the set.
 fn add_measured<S: BuildHasher, A: Allocator + Copy>(
     texts: &mut RecordSet<S, A>,
     depths: &mut Vec<u32, A>,
@@ -245,8 +245,8 @@ impl<S: BuildHasher, A: Allocator + Copy> Table<S, A> {
 
     /// Makes the canonical list of the types, and ends the table.
     ///
-    /// The only fault is `Memory`. The memory that serves to look up a type is given back before the
-    /// list is made, and all other memory of the table after that. Everything else is as in
+    /// The only fault is `Memory`. The memory that serves to look up a type is given back before
+    /// the list is made, and all other memory of the table after that. Everything else is as in
     /// [`Table::finish`].
     pub fn into_canon(self, alloc: A) -> Result<Canon<A>, JoinFault>
     where

@@ -4,12 +4,12 @@
 //! - `type_table`: [`Table`], a set of types in the order in which they came, and [`Canon`], a set
 //!   of types as its canonical list.
 //! - `type_difference`: [`compare`], which tells the types that one list has and another lacks.
-//! - `closed_trees`, `checked_types` and `type_difference`: the [`laws`] of types, of canonical lists
-//!   and of differences.
+//! - `closed_trees`, `checked_types` and `type_difference`: the [`laws`] of types, of canonical
+//!   lists and of differences.
 //!
 //! This crate has no code of its own. What is proved stands on the pages of these crates and of
-//! `canonical_list`. A clause of a crate above names the definitions of the crate in which they
-//! stand, as `AreTypes` of `closed_trees`.
+//! `canonical_list`. A clause of a crate above this one names each definition with the crate in
+//! which it stands, such as `AreTypes` of `closed_trees`.
 //!
 //! # Example
 //!
