@@ -54,14 +54,14 @@ ShowsStreams file text = (layout : LayoutView) × HasLayout file layout × (text
 abbrev pub AreMarks : Bytes → Fields → List Bool → Type 0
 AreMarks bytes fields marks = (block : ℕ) → block < length marks → IsMark bytes fields block (get_or marks block false)
 
--- reads gave marks of the first `end` blocks of the file, and so many say that a block is free
+-- reads gave marks of the first `end` blocks of the file, and `free` of these marks say that the block is free
 pub record IsFreeCount (bytes : Bytes) (fields : Fields) (end free : ℕ) : Type 0 where
   pub marks : List Bool
   pub count : length marks ≡ end
   pub given : AreMarks bytes fields marks
   pub free_is : free ≡ count_by (λ mark. mark) marks
 
--- `streams` prints this text of what reads gave: this layout, and a free block map by which so many blocks are free
+-- `streams` prints this text of what reads gave: this layout, and how many blocks are free by a free block map that reads gave
 abbrev pub ShowsStreamsRead : Bytes → LayoutView → List ℕ → Type 0
 ShowsStreamsRead bytes layout text = (free : ℕ) × IsFreeCount bytes layout.superblock layout.superblock.num_blocks free × (text ≡ container_with free layout ++ stream_lines 0 layout.streams)
 

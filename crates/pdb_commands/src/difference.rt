@@ -46,14 +46,14 @@ fn difference_text<I: Inputs, S: BuildHasher + Drop, A: Allocator + Copy>(
 ///
 /// First come the types of the first input that the second one lacks, each once, in the order of
 /// their type indices: `- ` and the line that `types` prints for the first record of the type. Then
-/// come those of the second input that the first one lacks, with `+ `. A type that names another one
-/// of them is shown only with `Scope::All`. Nothing is written exactly if the inputs have the same
-/// types.
+/// come those of the second input that the first one lacks, with `+ `. A type that names another of
+/// these types is shown only with `Scope::All`. Nothing is written exactly if the inputs have the
+/// same types.
 ///
-/// The inputs are opened, read and judged as [`run_merge`](crate::run_merge) does it, and refused
-/// with the same faults, in the same order; the types of two inputs are never too large. The whole
-/// text is made before any of it is written. After `Write` the sink is broken and took the first
-/// bytes of the text. After any other fault it took nothing.
+/// The inputs are opened, read and checked as in [`run_merge`](crate::run_merge), and refused with
+/// the same faults, in the same order. The types of two inputs are never too large. The whole text
+/// is made before any of it is written. After `Write` the sink is broken and took the first bytes
+/// of the text. After any other fault it took nothing.
 pub fn run_diff<I: Inputs, W: Sink, S: BuildHasher + Drop, A: Allocator + Copy>(
     alloc: A,
     inputs: &I,
@@ -70,7 +70,7 @@ pub fn run_diff<I: Inputs, W: Sink, S: BuildHasher + Drop, A: Allocator + Copy>(
     ensures refuses { IfErr result (λ fault.
         (inner : MergeFault A) → fault ≡ RunFault.Merge inner →
         RefusesReading (I.known inputs.now) inner) }
-    // Only after both inputs were read and accepted may something have been written.
+    // Something may have been written only after both inputs were read.
     ensures late { result ≡ Err RunFault.Write →
         IfSome (I.known inputs.now) (λ each. CanRead each (length each)) }
     ensures write { result ≡ Err RunFault.Write →

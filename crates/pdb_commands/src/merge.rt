@@ -79,8 +79,8 @@ pub fn run_merge<I: Inputs + Drop, W: Sink, V: Sink, S: BuildHasher + Drop, A: A
     ensures refuses { IfErr result (λ fault.
         (inner : MergeFault A) → fault ≡ RunFault.Merge inner →
         RefusesFiles (I.known files) (record_limit settings.now) inner) }
-    // Only after every file was read may something have been written, and only where all of them
-    // can be merged.
+    // Something may have been written only after every file was read, and only if all of them can
+    // be merged.
     ensures late { result ≡ Err RunFault.Write →
         AcceptsFiles (I.known files) (record_limit settings.now) }
     ensures kept { result ≡ Err RunFault.Memory →

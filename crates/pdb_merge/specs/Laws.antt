@@ -44,7 +44,7 @@ EarlierMerge =
     (settings : SettingsView) → AreSettings settings → (files others : List (List ℕ)) (x : List ℕ) → Within (HasType files) (record_limit settings) → Merged (HasType files) settings x
     → SameTypes (x ∷ others) (files ++ others)
 
--- the same file is written for all lists of files with the same types, whatever the limits are
+-- the same file is written for all lists of files with the same types, if age, GUID and block size are equal, whatever the limits are
 abbrev pub OneMergedFile : Type 0
 OneMergedFile =
     (files others : List (List ℕ)) (settings its : SettingsView) (x y : List ℕ) → settings.age ≡ its.age → settings.guid ≡ its.guid → settings.block_size ≡ its.block_size
@@ -64,7 +64,7 @@ TypesOfBoth = (files others : List (List ℕ)) (t : Tree) → HasType (files ++ 
 abbrev pub AnyOrder : Type 0
 AnyOrder = (files others : List (List ℕ)) (limit : ℕ) → SameFiles files others → (CanMerge files limit ↔ CanMerge others limit) × SameTypes files others
 
--- if a list of files is refused, so is each list of the same files, in any order
+-- if a list of files is refused with a fault other than out of memory, no list of the same files can be merged, in whatever order
 abbrev pub RefusedInAnyOrder : Type 0 → Type 0
 RefusedInAnyOrder A =
     (files others : List (List ℕ)) (limit : ℕ) (fault : MergeFault A) → SameFiles files others

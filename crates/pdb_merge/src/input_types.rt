@@ -130,10 +130,10 @@ fn whole_types<'a, I: Inputs, A: Allocator + Copy>(
 /// Reads the types of the input at a position, from 0. The inputs before it were read. The types
 /// are lent from the buffer or from the input.
 ///
-/// The input is opened, read and judged as a merge does it. An input that is opened by position is
-/// read only as far as its types need it. If such a read fails, the input is read to its end. An
-/// input that cannot be read is refused first, `Input`, even if it comes after one that has a fault
-/// of its own. Then comes the fault of this input, `Refused`. Both name the input by its position.
+/// The input is opened, read and checked as in a merge. An input that is opened by position is read
+/// only as far as its types need it. If such a read fails, the input is read to its end. An input
+/// that cannot be read is refused first, `Input`, even if it comes after one that has a fault of
+/// its own. Then comes the fault of this input, `Refused`. Both name the input by its position.
 /// `Memory` is out of memory.
 pub fn read_input_types<'a, I: Inputs, A: Allocator + Copy>(
     alloc: A,

@@ -38,7 +38,8 @@ pub fn earlier_merge()
     ensures { EarlierMerge }
 {}
 
-/// The same file is written for all lists of files with the same types.
+/// The same file is written for all lists of files with the same types, if age, GUID and block size
+/// are equal.
 pub fn one_merged_file()
     ensures { OneMergedFile }
 {}
@@ -53,12 +54,14 @@ pub fn types_of_both()
     ensures { TypesOfBoth }
 {}
 
-/// If one list of files can be merged, so can each list of the same files, in any order.
+/// If one list of files can be merged, so can each list of the same files, in any order and each
+/// any number of times. Both have the same types.
 pub fn any_order()
     ensures { AnyOrder }
 {}
 
-/// If a list of files is refused, so is each list of the same files, in any order.
+/// If a list of files is refused with a fault other than out of memory, no list of the same files
+/// can be merged, in whatever order.
 pub fn refused_in_any_order<A: Allocator>()
     ensures { RefusedInAnyOrder A }
 {}
