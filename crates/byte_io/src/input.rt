@@ -54,8 +54,8 @@ impl From<AllocError> for ReadFault {
     }
 }
 
-/// Fetches the next bytes of a source into a nonempty slice, and returns how many. 0 means that there
-/// are no more. `TooLong` where more than `room` bytes came.
+/// Fetches the next bytes of a source into a nonempty slice, and returns how many. 0 means that
+/// there are no more. `TooLong` where more than `room` bytes came.
 fn fetch_piece<R: Source>(input: &mut R, piece: &mut [u8], room: usize) -> Result<usize, ReadFault>
     requires some { 0 < length piece.old }
     ensures value { IfOk result (λ n.
@@ -73,7 +73,8 @@ fn fetch_piece<R: Source>(input: &mut R, piece: &mut [u8], room: usize) -> Resul
     }
 }
 
-/// Makes room for more bytes in a buffer that is full. Returns how many bytes to fetch into its room.
+/// Makes room for more bytes in a buffer that is full. Returns how many bytes to fetch into its
+/// room.
 fn make_room<A: Allocator>(file: &mut Vec<u8, A>) -> Result<usize, AllocError>
     ensures same { file.new.items ≡ file.old.items }
     ensures some { IfOk result (λ room. (0 < room) × (room ≤ PIECE)) }
@@ -159,7 +160,7 @@ pub fn read_all<R: Source, A: Allocator>(
     Ok(file)
 }
 
-/// Reads a source to its end, and drops its bytes. The faults are those of [`read_into`], but for
+/// Reads a source to its end, and drops its bytes. The faults are those of [`read_into`], except
 /// `Memory`, since this does not allocate.
 pub fn skip_all<R: Source>(input: &mut R, limit: u32) -> Result<(), ReadFault>
     ensures value { OnOk result

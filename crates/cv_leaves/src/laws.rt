@@ -51,7 +51,8 @@ pub fn filling_keeps_the_blank()
     ensures { FillKeepsBlank }
 {}
 
-/// When the references of a record are written into its blank, the blank is the record again.
+/// When the references of a record of bytes are written into its blank, the blank is the record
+/// again.
 pub fn own_references_fill_the_blank()
     ensures { OwnFill }
 {}

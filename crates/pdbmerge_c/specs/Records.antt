@@ -7,7 +7,7 @@ use Rattle.tpi_records.specs.declared.fault.TpiFault.TheVariants.{Memory}
 use Rattle.pdbmerge_c.specs.declared.fault.Fault.{Fault}
 use Rattle.pdbmerge_c.specs.Fault.{IsTold, no_input}
 
--- the stream has as many records, and each begins at its offset: behind the header and the records before it
+-- there is an offset for each record of the stream, and the record begins there: behind the header and the records before it
 pub record AreOffsets (stream offsets : List ℕ) : Type 0 where
   pub records : List (List ℕ)
   pub has : HasRecords stream records

@@ -34,7 +34,7 @@ fn the_text_of_a_fault(rt: HostRuntime) -> Result<(), Fail> {
     Ok(())
 }
 
-/// A stream of no file is refused for the file, whatever the stream.
+/// Bytes that are no container are refused for that, whichever stream is asked for.
 #[test]
 fn a_stream_of_no_file(rt: HostRuntime) -> Result<(), Fail> {
     let mut fault = no_fault();

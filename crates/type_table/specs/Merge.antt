@@ -15,7 +15,7 @@ use Rattle.checked_types.specs.Graph.{graph_of}
 abbrev pub StartsWith : {A : Type 0} → List A → List A → Type 0
 StartsWith list front = (length front ≤ length list) × (take (length front) list ≡ front)
 
--- records that were checked are types, and walked through in an order of theirs; others are walked through as they stand
+-- records that were checked are types, and are walked through so that each comes after those that it names; others are walked through as they stand
 unfoldable pub IsRecordWalk : Bool → List (List ℕ) → List ℕ → Type 0
 IsRecordWalk true records order = AreTypes records × IsOrder (graph_of records) order
 IsRecordWalk false records order = order ≡ range_with_len 0 (length records)
