@@ -13,7 +13,7 @@
 //! [`run_shown_file`] does so too, and reads the whole file where a read by position fails.
 //!
 //! All commands that show a file have this in common. The input may have at most `limit` bytes. It
-//! is read to its end, and the whole text is made, before any of it is written. The faults of
+//! is read to its end, and the whole text is made, before any of the text is written. The faults of
 //! reading come first, then the command's own faults, and last `36 Write`: the sink did not take
 //! the whole text. After `36 Write` the sink is broken and took the first bytes of the text. After
 //! any other refusal nothing was written.

@@ -54,7 +54,7 @@ fn standings<A: Allocator + Copy>(
 ///
 /// The only fault is that memory is refused. This takes time in proportion to both lists. It
 /// allocates a set of all types, with a copy of the record of each, four bytes for each record, and
-/// two bytes for each type. What is left of that at the end is one byte for each record.
+/// two bytes for each type. All of this is given back. The answer has one byte for each record.
 pub fn compare<S: BuildHasher + Drop, A: Allocator + Copy>(
     alloc: A,
     first: &Types<'_, A>,

@@ -1,9 +1,9 @@
 //! Adds records to a table, each after those that it names.
 //!
-//! Records that are types are added in their order. Others are added as they stand, and checked on
-//! the way: compilers write most records after those that they name. Where one of these has a fault
-//! or names a later one, the walk ends: [`Types::check`](checked_types::Types::check) then finds
-//! the fault, or the order.
+//! Records that were checked are added in their order. Others are added as they stand, and checked
+//! on the way, since compilers write most records after those that they name. If one of these has a
+//! fault or names a later one, the walk ends. [`Types::check`](checked_types::Types::check) then
+//! finds the fault, or the order.
 
 ghost use Rattle.std.specs.Prelude.{◌≡◌, ◌≤◌, ◌<◌, ◌+◌, ◌^◌, true, false, IsTrue, IfOk, IfErr, IfSome, IfNone, length};
 ghost use Rattle.std.specs.List.{concat};
