@@ -72,7 +72,7 @@ pub use command_texts::Scope;
 pub use difference::run_diff;
 pub use fault::RunFault;
 pub use info::{run_info, run_info_at};
-pub use merge::run_merge;
+pub use merge::{run_merge, run_merge_by_types};
 pub use record::{run_record, run_record_at};
 pub use records::{run_records, run_records_at};
 pub use shown::{Shown, run_shown, run_shown_at, run_shown_file};

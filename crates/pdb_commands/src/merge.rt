@@ -6,7 +6,8 @@ ghost use Rattle.byte_io.specs.Inputs.{Give};
 ghost use Rattle.msf_streams.specs.Put.{AppendsPart};
 ghost use Rattle.pdb_info.specs.Settings.{record_limit};
 ghost use Rattle.pdb_merge.specs.Answer.{AcceptsFiles, RefusesFiles};
-ghost use Rattle.pdb_merge.specs.Merged.{WrotePart};
+ghost use Rattle.pdb_merge.specs.Merged.{Wrote, WrotePart};
+ghost use Rattle.types_guid.specs.Merge.{WroteByTypes, WrotePartByTypes};
 ghost use Rattle.pdb_merge.specs.declared.fault.MergeFault.{MergeFault};
 ghost use Rattle.pdb_commands.specs.Merge.{summary_lines, IsOfMerging, WroteWhole, WroteAndReported, WroteAndBrokeOff};
 
@@ -17,6 +18,7 @@ use pdb_info::Settings;
 use pdb_merge::{Summary, merge_to};
 use std::alloc::{AllocError, Allocator};
 use std::hash::BuildHasher;
+use types_guid::merge_by_types;
 
 /// Appends the number of types, of their bytes and of the bytes of the file, one per line.
 #[tactic(auto, unfolding(crate::specs::Merge::summary_lines))]
@@ -73,7 +75,7 @@ pub fn run_merge<I: Inputs + Drop, W: Sink, V: Sink, S: BuildHasher + Drop, A: A
     ensures own { IfErr result IsOfMerging }
     ensures value { (given : List (List ℕ)) → Give (I.known files) given →
         OnOk result
-        (WroteAndReported given settings.now (W.taken out.old) (W.taken out.new)
+        (WroteAndReported (Wrote given settings.now) (W.taken out.old) (W.taken out.new)
         (V.taken report.old) (V.taken report.new)) }
     ensures accepts { OnOk result (AcceptsFiles (I.known files) (record_limit settings.now)) }
     ensures refuses { IfErr result (λ fault.
@@ -91,13 +93,13 @@ pub fn run_merge<I: Inputs + Drop, W: Sink, V: Sink, S: BuildHasher + Drop, A: A
         × WrotePart given settings.now (W.taken out.old) (W.taken out.new)
         × (report.new ≡ report.old))
         ⊎ ((V.is_broken report.new ≡ true)
-        × WroteAndBrokeOff given settings.now (W.taken out.old) (W.taken out.new)
+        × WroteAndBrokeOff (Wrote given settings.now) (W.taken out.old) (W.taken out.new)
         (V.taken report.old) (V.taken report.new)) }
     // After `Memory`, nothing was written, or `out` took the whole file.
     ensures memory { (given : List (List ℕ)) → Give (I.known files) given →
         result ≡ Err RunFault.Memory →
         (out.new ≡ out.old)
-        ⊎ WroteWhole given settings.now (W.taken out.old) (W.taken out.new) }
+        ⊎ WroteWhole (Wrote given settings.now) (W.taken out.old) (W.taken out.new) }
     ensures broken { result ≡ Err RunFault.Write →
         (W.is_broken out.new ≡ true) ⊎ (V.is_broken report.new ≡ true) }
     ensures untold { result ≡ Err RunFault.Memory → report.new ≡ report.old }
@@ -106,5 +108,63 @@ pub fn run_merge<I: Inputs + Drop, W: Sink, V: Sink, S: BuildHasher + Drop, A: A
         (out.new ≡ out.old) × (report.new ≡ report.old)) }
 {
     let summary = merge_to(alloc, files, settings, out, hasher)?;
+    report_on(alloc, &summary, report)
+}
+
+/// Runs the command `merge` with a GUID that is made of the types: that of
+/// [`types_guid::guid_of_types`]. The GUID of the settings is not used.
+///
+/// Everything else is as in [`run_merge`].
+pub fn run_merge_by_types<
+    I: Inputs + Drop,
+    W: Sink,
+    V: Sink,
+    S: BuildHasher + Drop,
+    A: Allocator + Copy,
+>(
+    alloc: A,
+    files: I,
+    settings: &Settings,
+    out: &mut W,
+    report: &mut V,
+    hasher: S,
+) -> Result<(), RunFault<A>>
+    // The command has no other fault, whatever is known of the inputs.
+    ensures own { IfErr result IsOfMerging }
+    ensures value { (given : List (List ℕ)) → Give (I.known files) given →
+        OnOk result
+        (WroteAndReported (WroteByTypes given settings.now) (W.taken out.old) (W.taken out.new)
+        (V.taken report.old) (V.taken report.new)) }
+    ensures accepts { OnOk result (AcceptsFiles (I.known files) (record_limit settings.now)) }
+    ensures refuses { IfErr result (λ fault.
+        (inner : MergeFault A) → fault ≡ RunFault.Merge inner →
+        RefusesFiles (I.known files) (record_limit settings.now) inner) }
+    // Only after every file was read may something have been written, and only where all of them
+    // can be merged.
+    ensures late { result ≡ Err RunFault.Write →
+        AcceptsFiles (I.known files) (record_limit settings.now) }
+    ensures kept { result ≡ Err RunFault.Memory →
+        (out.new ≡ out.old) ⊎ AcceptsFiles (I.known files) (record_limit settings.now) }
+    ensures write { (given : List (List ℕ)) → Give (I.known files) given →
+        result ≡ Err RunFault.Write →
+        ((W.is_broken out.new ≡ true)
+        × WrotePartByTypes given settings.now (W.taken out.old) (W.taken out.new)
+        × (report.new ≡ report.old))
+        ⊎ ((V.is_broken report.new ≡ true)
+        × WroteAndBrokeOff (WroteByTypes given settings.now) (W.taken out.old) (W.taken out.new)
+        (V.taken report.old) (V.taken report.new)) }
+    // After `Memory`, nothing was written, or `out` took the whole file.
+    ensures memory { (given : List (List ℕ)) → Give (I.known files) given →
+        result ≡ Err RunFault.Memory →
+        (out.new ≡ out.old)
+        ⊎ WroteWhole (WroteByTypes given settings.now) (W.taken out.old) (W.taken out.new) }
+    ensures broken { result ≡ Err RunFault.Write →
+        (W.is_broken out.new ≡ true) ⊎ (V.is_broken report.new ≡ true) }
+    ensures untold { result ≡ Err RunFault.Memory → report.new ≡ report.old }
+    ensures untouched { IfErr result (λ fault.
+        (inner : MergeFault A) → fault ≡ RunFault.Merge inner →
+        (out.new ≡ out.old) × (report.new ≡ report.old)) }
+{
+    let summary = merge_by_types(alloc, files, settings, out, hasher)?;
     report_on(alloc, &summary, report)
 }

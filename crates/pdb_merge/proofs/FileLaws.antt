@@ -19,7 +19,7 @@ use Rattle.pdb_merge.proofs.ReadLaws.{one_list}
 use Rattle.pdb_merge.specs.Merged.{merged_file, IsFileOf, Merged, WroteFile, Wrote, WrotePart}
 use Rattle.pdb_merge.specs.declared.summary.Summary.{Summary}
 
-same_records : (P Q : Tree → Type 0) (records found : List (List ℕ)) → ((t : Tree) → P t ↔ Q t) → IsCanonOf records P → IsCanonOf found Q → records ≡ found
+pub same_records : (P Q : Tree → Type 0) (records found : List (List ℕ)) → ((t : Tree) → P t ↔ Q t) → IsCanonOf records P → IsCanonOf found Q → records ≡ found
 same_records P Q records found same (l, canonical_l, are_l, members_l) (m, canonical_m, are_m, members_m) =
     let one : l ≡ m = one_canonical_list l m canonical_l canonical_m (λ t. (λ c. (members_m t).1 ((same t).0 ((members_l t).0 c)), λ c. (members_l t).1 ((same t).1 ((members_m t).0 c)))) in
     are_l ∙ ap texts one ∙ sym are_m

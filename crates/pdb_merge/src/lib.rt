@@ -67,7 +67,7 @@ pub use fault::{AddFault, MergeFault, OutFault, PdbFault};
 pub use input_types::{InputBuffer, read_input_types};
 pub use merge::Merge;
 pub use merging::merge_files::merge_files;
-pub use merging::merge_to::merge_to;
+pub use merging::merge_to::{merge_to, write_canon};
 pub use merging::write_merged::write_merged;
 pub use read::{read_records, read_types};
 pub use read_at::{read_records_at, read_records_of, read_types_at, read_types_of};

@@ -32,8 +32,13 @@ fn out_fault<A: Allocator>(fault: WriteFault) -> OutFault<A>
     }
 }
 
-/// Writes the file of a canonical list that is within the limit. Returns the summary of the file.
-fn write_canon<W: Sink, A: Allocator + Copy>(
+/// Writes the file of a canonical list that is within the limit into a sink. Returns the summary of
+/// the file.
+///
+/// The faults, in order: `Memory`, when out of memory, and `Write`, where the sink did not take the
+/// whole file. After `Write` the sink is broken and took the first bytes of the file. After `Memory`
+/// it is unchanged.
+pub fn write_canon<W: Sink, A: Allocator + Copy>(
     alloc: A,
     canon: &Canon<A>,
     settings: &Settings,

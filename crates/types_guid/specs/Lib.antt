@@ -1,0 +1,2 @@
+pub mod Guid
+pub mod Merge

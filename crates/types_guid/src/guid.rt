@@ -1,0 +1,22 @@
+//! The GUID of types.
+
+ghost use Rattle.std.specs.Prelude.{◌≡◌};
+ghost use Rattle.types_guid.specs.Guid.{types_guid};
+
+use sha2::{Digest, Sha256};
+use std::alloc::Allocator;
+use type_trees::Canon;
+use uuid::Uuid;
+
+/// The GUID of the types of a canonical list: a UUID of version 8, whose other bits are the first of
+/// the SHA-256 of the records, one after the other with their length fields.
+///
+/// So equal sets of types have the same GUID. This does not allocate. (RFC 9562, "UUID Version 8".)
+pub fn guid_of_types<A: Allocator>(canon: &Canon<A>) -> Uuid
+    ensures { result ≡ types_guid canon.now }
+{
+    let digest = Sha256::digest(canon.bytes());
+    let mut first = [0; 16];
+    first.copy_from_slice(&digest[..16]);
+    Uuid::new_v8(first)
+}

@@ -1,0 +1,63 @@
+//! Merges whose GUID is made of the types.
+
+ghost use Rattle.std.specs.Prelude.{◌≡◌, ◌≢◌, true, ℕ, List, OnOk, IfOk, IfErr};
+ghost use Rattle.byte_io.specs.Inputs.{Give};
+ghost use Rattle.pdb_info.specs.Settings.{record_limit};
+ghost use Rattle.pdb_merge.specs.Answer.{AcceptsFiles, RefusesFiles};
+ghost use Rattle.pdb_merge.specs.declared.fault.MergeFault.{MergeFault};
+ghost use Rattle.types_guid.specs.Guid.{named};
+ghost use Rattle.types_guid.specs.Merge.{WroteByTypes, WrotePartByTypes};
+
+use crate::guid::guid_of_types;
+use byte_io::{Inputs, Sink};
+use pdb_info::Settings;
+use pdb_merge::{OutFault, Summary, merge_files, write_canon};
+use std::alloc::Allocator;
+use std::hash::BuildHasher;
+use type_trees::Canon;
+
+/// These settings, with the GUID of the types of a canonical list.
+fn named<A: Allocator>(settings: &Settings, canon: &Canon<A>) -> Settings
+    ensures { result ≡ named settings.now canon.now }
+{
+    let (limit, block_size) = (settings.limit(), settings.block_size());
+    let guid = guid_of_types(canon);
+    let Some(named) = Settings::new(guid, settings.age(), limit, block_size) else {
+        unreachable!()
+    };
+    named
+}
+
+/// Merges files, and writes the file of their types into a sink. The GUID of the file is made of its
+/// types, and that of the settings is not used.
+///
+/// The GUID is that of [`guid_of_types`]. Everything else is as in [`pdb_merge::merge_to`]: what is
+/// written, the faults and their order, and what stays.
+pub fn merge_by_types<I: Inputs + Drop, W: Sink, S: BuildHasher + Drop, A: Allocator + Copy>(
+    alloc: A,
+    files: I,
+    settings: &Settings,
+    out: &mut W,
+    hasher: S,
+) -> Result<Summary, OutFault<A>>
+    ensures value { (given : List (List ℕ)) → Give (I.known files) given →
+        IfOk result (WroteByTypes given settings.now (W.taken out.old) (W.taken out.new)) }
+    ensures accepts { OnOk result (AcceptsFiles (I.known files) (record_limit settings.now)) }
+    ensures refuses { IfErr result (λ fault.
+        (inner : MergeFault A) → fault ≡ OutFault.Merge inner →
+        RefusesFiles (I.known files) (record_limit settings.now) inner) }
+    // A fault of writing comes only after every file was read, and where all of them can be merged.
+    ensures late { IfErr result (λ fault.
+        ((inner : MergeFault A) → fault ≢ OutFault.Merge inner) →
+        AcceptsFiles (I.known files) (record_limit settings.now)) }
+    ensures broken { IfErr result (λ fault. fault ≡ OutFault.Write → W.is_broken out.new ≡ true) }
+    ensures write { (given : List (List ℕ)) → Give (I.known files) given →
+        IfErr result (λ fault.
+        fault ≡ OutFault.Write →
+        WrotePartByTypes given settings.now (W.taken out.old) (W.taken out.new)) }
+    ensures untouched { IfErr result (λ fault. fault ≢ OutFault.Write → out.new ≡ out.old) }
+{
+    let canon = merge_files(alloc, files, settings, hasher)?;
+    let settings = named(settings, &canon);
+    write_canon(alloc, &canon, &settings, out)
+}
