@@ -1,76 +1,85 @@
 //! The command `pdbmerge`: merges the types of Program Database (PDB) files, and shows what files
 //! hold.
 //!
-//! `line` reads the arguments, and `index` reads a type index among them. `files` opens a file,
-//! `inputs` are the files that a merge reads, and `output` is a file that is created at its first
-//! write. `report` prints the report of a merge, and `hold` keeps files off the numbers of the
-//! standard streams. The commands are those of `pdb_commands`. This module joins these to the
-//! system: arguments, files, the standard streams and the exit status.
+//! `arguments` takes the arguments from the system. `lists` reads the list of more inputs, and `report` prints the report of a merge. `hold` keeps
+//! files off the numbers of the standard streams, and `refusal` prints why a command was refused.
+//! The arguments are read by `command_line`, files are opened and created by `program_files`, and
+//! the commands are those of `pdb_commands`. This module joins these to the system: arguments, the
+//! standard streams and the exit status.
 #![tactic(auto)]
 
-mod fault;
-mod files;
+mod arguments;
 mod hold;
-mod index;
-mod inputs;
-mod line;
-mod output;
+mod lists;
+mod refusal;
 mod report;
 
+use arguments::arguments;
 use byte_io::{In, Out, put_all};
-use fault::{LineFault, ProgramFault};
-use files::{Reading, WholeFile, open_within};
+use command_line::{Line, LineFault, Merging, Naming, Task, USAGE, read_line};
+use fault_pages::Page;
 use hold::hold;
-use inputs::InputFiles;
-use line::{Line, USAGE, read_line};
-use output::NewFile;
-use pdb_commands::{RunFault, Scope, Shown, run_diff, run_merge, run_shown, run_shown_file};
-use pdb_info::Settings;
+use lists::read_list;
+use pdb_commands::{
+    Scope, Shown, run_diff, run_merge, run_merge_by_types, run_shown, run_shown_file,
+};
+use program_files::{InputFiles, NewFile, ProgramFault, Progress, Reading, WholeFile, open_within};
+use refusal::{Refusal, refuse, refuse_line};
 use report::{REPORT_LENGTH, is_standard_output, print};
-use std::env;
 use std::hash::{BuildHasher, BuildHasherDefault, DefaultHasher, RandomState};
-use std::io::{self, ErrorKind, writer};
+use std::io::writer;
 use std::process::ExitCode;
-use std::rt::Env;
 
 /// The exit status of `diff` where the files differ in their types.
 const DIFFERENT: u8 = 3;
 
-/// The arguments of the command line, without the program's name.
-fn arguments<R: Env + AllocGlobal>(rt: &R) -> Result<Vec<String>, LineFault> {
-    match env::args(rt) {
-        Ok(args) => Ok(args.skip(1).collect(rt.alloc())?),
-        Err(error) if error.kind() == ErrorKind::OutOfMemory => Err(LineFault::Memory),
-        // An argument is not UTF-8.
-        Err(_) => Err(LineFault::Word),
-    }
+/// The files that are compared.
+fn compared<'a>(
+    rt: &'a HostRuntime,
+    files: &'a [String],
+    max_bytes: u32,
+) -> InputFiles<'a, HostRuntime> {
+    InputFiles::new(rt, files, max_bytes, None)
 }
 
-/// The files to merge, the file to write, and the greatest number of bytes of a file or a stream.
-#[derive(Clone, Copy)]
-struct Merging<'a> {
-    inputs: &'a [String],
-    out: &'a str,
-    max_bytes: u32,
+/// The inputs of a merge, with what tells how many of them were read.
+fn inputs_of<'a>(rt: &'a HostRuntime, task: &'a Merging) -> InputFiles<'a, HostRuntime> {
+    let progress = if task.shows_progress {
+        Some(Progress::new(rt, task.inputs.len()))
+    } else {
+        None
+    };
+    InputFiles::new(rt, &task.inputs, task.max_bytes, progress)
 }
 
 /// Merges files into a new one, which is stored and closed then. Returns the report on it.
 fn write_merged<S: BuildHasher + Drop>(
     rt: &HostRuntime,
-    settings: &Settings,
-    files: &Merging<'_>,
+    task: &Merging,
     hasher: S,
 ) -> Result<Vec<u8>, ProgramFault> {
-    let mut new_file = NewFile::new(rt, files.out);
+    let mut new_file = NewFile::new(rt, task.out.as_str());
     let mut report = Vec::with_capacity(rt.alloc(), REPORT_LENGTH)?;
-    let merged = run_merge(
-        rt.alloc(),
-        InputFiles::new(rt, files.inputs, files.max_bytes),
-        settings,
-        &mut new_file,
-        &mut Out::new(&mut report),
-        hasher,
-    );
+    let inputs = inputs_of(rt, task);
+    let mut told = Out::new(&mut report);
+    let merged = match task.naming {
+        Naming::Given => run_merge(
+            rt.alloc(),
+            inputs,
+            &task.settings,
+            &mut new_file,
+            &mut told,
+            hasher,
+        ),
+        Naming::ByTypes => run_merge_by_types(
+            rt.alloc(),
+            inputs,
+            &task.settings,
+            &mut new_file,
+            &mut told,
+            hasher,
+        ),
+    };
     if new_file.is_refused() {
         return Err(ProgramFault::Create);
     }
@@ -82,27 +91,22 @@ fn write_merged<S: BuildHasher + Drop>(
 /// Merges files into a new one, and writes the report on it.
 fn merge_with<S: BuildHasher + Drop>(
     rt: &HostRuntime,
-    settings: &Settings,
-    files: &Merging<'_>,
+    task: &Merging,
     hasher: S,
 ) -> Result<(), ProgramFault> {
-    let is_output_taken = is_standard_output(rt, files.out);
-    let report = write_merged(rt, settings, files, hasher)?;
+    let is_output_taken = is_standard_output(rt, task.out.as_str());
+    let report = write_merged(rt, task, hasher)?;
     print(rt, &report, is_output_taken)
 }
 
 /// Merges files with hashes that nobody can predict, where the system gives random numbers. Where
 /// it gives none, the key is fixed, and records that share a hash have to be searched for.
-fn merge_into(
-    rt: &HostRuntime,
-    settings: &Settings,
-    files: &Merging<'_>,
-) -> Result<(), ProgramFault> {
+fn merge(rt: &HostRuntime, task: &Merging) -> Result<(), ProgramFault> {
     match RandomState::new(rt) {
-        Ok(hasher) => merge_with(rt, settings, files, hasher),
+        Ok(hasher) => merge_with(rt, task, hasher),
         Err(_) => {
             let hasher: BuildHasherDefault<DefaultHasher> = BuildHasherDefault::new();
-            merge_with(rt, settings, files, hasher)
+            merge_with(rt, task, hasher)
         }
     }
 }
@@ -122,7 +126,7 @@ fn compare_with<S: BuildHasher + Drop>(
     }
 }
 
-/// Compares the types of two files, with hashes as [`merge_into`] has them.
+/// Compares the types of two files, with hashes as [`merge`] has them.
 fn compare(
     rt: &HostRuntime,
     inputs: &InputFiles<'_, HostRuntime>,
@@ -171,70 +175,55 @@ fn show(rt: &HostRuntime, command: Shown, file: &str, max_bytes: u32) -> Result<
     Ok(())
 }
 
+/// Prints what is said of a fault.
+fn explain(rt: &HostRuntime, page: &Page) -> Result<(), ProgramFault> {
+    let text = format!(in rt.alloc(); "{page}")?;
+    put_all(&mut Out::new(writer(rt)), text.as_bytes())?;
+    Ok(())
+}
+
 /// Runs a command. Returns the exit status.
-fn run(rt: &HostRuntime, line: &Line) -> Result<ExitCode, ProgramFault> {
-    match line {
-        Line::Usage => {
-            put_all(&mut Out::new(writer(rt)), USAGE.as_bytes()).map_err(|_| RunFault::Write)?;
-        }
-        Line::Show {
+fn run(rt: &HostRuntime, task: &Task) -> Result<ExitCode, ProgramFault> {
+    match task {
+        Task::Usage => put_all(&mut Out::new(writer(rt)), USAGE.as_bytes())?,
+        Task::Explain(page) => explain(rt, page)?,
+        Task::Show {
             shown,
             file,
             max_bytes,
         } => show(rt, *shown, file.as_str(), *max_bytes)?,
-        Line::Diff {
+        Task::Diff {
             scope,
             files,
             max_bytes,
-        } => return compare(rt, &InputFiles::new(rt, files, *max_bytes), *scope),
-        Line::Merge {
-            settings,
-            out,
-            inputs,
-            max_bytes,
-        } => merge_into(
-            rt,
-            settings,
-            &Merging {
-                inputs,
-                out: out.as_str(),
-                max_bytes: *max_bytes,
-            },
-        )?,
+        } => return compare(rt, &compared(rt, files, *max_bytes), *scope),
+        Task::Merge(task) => merge(rt, task)?,
     }
     Ok(ExitCode::SUCCESS)
 }
 
-/// Prints why the arguments are refused, or the help that they ask for.
-fn explain<R: Print + Eprint>(rt: &R, fault: &LineFault) -> io::Result<()> {
-    match fault {
-        LineFault::Refused(error) => error.print(rt),
-        LineFault::Word => eprintln!(rt; "pdbmerge: wrong word"),
-        LineFault::Memory => eprintln!(rt; "pdbmerge: 33 Memory"),
-    }
+/// Reads the arguments.
+fn line_of(rt: &HostRuntime) -> Result<Line, LineFault> {
+    let arguments = arguments(rt)?;
+    read_line(rt.alloc(), &arguments)
 }
 
-/// Prints why a command was refused, and returns the exit status for it.
-fn refuse<R: Eprint>(rt: &R, fault: &ProgramFault) -> ExitCode {
-    // Where even this cannot be printed, only the exit status is left.
-    let _ = eprintln!(rt; "pdbmerge: {fault}");
-    ExitCode::FAILURE
+/// Runs a command, whose list of inputs is read first. Returns the exit status.
+fn run_line(rt: &HostRuntime, line: &mut Line) -> Result<ExitCode, Refusal> {
+    if let Task::Merge(task) = &mut line.task {
+        read_list(rt, task, line.is_verbose)?;
+    }
+    Ok(run(rt, &line.task)?)
 }
 
 fn main(rt: HostRuntime) -> ExitCode {
     let _held = hold(&rt);
-    let line = match arguments(&rt).and_then(|arguments| read_line(rt.alloc(), &arguments)) {
+    let mut line = match line_of(&rt) {
         Ok(line) => line,
-        Err(fault) => {
-            return match explain(&rt, &fault) {
-                // Help that was not written whole is refused as any other text is.
-                Err(_) if fault.status() == 0 => refuse(&rt, &RunFault::Write.into()),
-                _ => ExitCode::from(fault.status()),
-            };
-        }
+        Err(fault) => return refuse_line(&rt, &fault),
     };
-    match run(&rt, &line) {
+    match run_line(&rt, &mut line) {
         Ok(status) => status,
-        Err(fault) => refuse(&rt, &fault),
+        Err(refusal) => refuse(&rt, &refusal, &line),
     }
 }

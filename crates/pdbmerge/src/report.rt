@@ -1,7 +1,7 @@
 //! The report of a merge.
 
-use crate::fault::ProgramFault;
 use byte_io::{Out, put_all};
+use program_files::ProgramFault;
 use std::fs;
 use std::io::writer;
 use std::os::unix::fs::MetadataExt;

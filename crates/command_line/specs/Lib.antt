@@ -1,3 +1,3 @@
 pub mod Index
 pub mod Fault
-pub mod Output
+pub mod List

@@ -6,7 +6,7 @@ use Rattle.std.specs.Char.{digit_value}
 use Rattle.std.specs.Str.Parse.{IsNumeral, digits_value, ParsesUnsigned}
 use Rattle.std.proofs.lemmas.Int.Digits.{digits_value-lt}
 use Rattle.std.proofs.lemmas.Str.Parse.{without_leading_plus_none}
-use Rattle.pdbmerge.specs.Index.{IsIndexArgument}
+use Rattle.command_line.specs.Index.{IsIndexArgument}
 use native.Mathlib.Nat.{pow-le-pow_right}
 
 -- digits do not begin with a sign

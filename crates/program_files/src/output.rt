@@ -2,12 +2,12 @@
 
 ghost use Rattle.std.specs.Prelude.{◌≡◌, false};
 ghost use Rattle.std.specs.Io.KnownBytes.{Keeps};
-ghost use Rattle.pdbmerge.specs.Output.{taken_of};
+ghost use Rattle.program_files.specs.Output.{taken_of};
 
 use byte_io::{NotTaken, Out, Sink};
-use std::fs;
 use std::fs::OpenFile;
 use std::rt::Files;
+use std::{fmt, fs};
 
 /// Waits until the system has stored a regular file. Pipes and devices have nothing to store.
 fn store<F: OpenFile>(file: &F) -> Result<(), NotTaken> {
@@ -35,6 +35,14 @@ pub struct NewFile<'a, R: Files> {
     path: &'a str,
     state: State<R::File>,
     broken: bool,
+}
+
+impl<R: Files> fmt::Debug for NewFile<'_, R> {
+    fn fmt<W: fmt::Write>(&self, f: &mut fmt::Formatter<W>) -> fmt::Result {
+        f.debug_struct("NewFile")
+            .field("path", &self.path)
+            .finish_non_exhaustive()
+    }
 }
 
 impl<'a, R: Files> NewFile<'a, R> {

@@ -3,12 +3,12 @@
 ghost use Rattle.std.specs.Prelude.{◌≡◌, None, false};
 
 use byte_io::{In, InputFault, ReadFault, Seeking, Source};
-use std::fs;
 use std::fs::OpenFile;
 use std::rt::Files;
+use std::{fmt, fs};
 
 /// A file that is open, and how it is read.
-#[derive(Drop)]
+#[derive(Debug, Drop)]
 pub enum Reading<F> {
     /// By position: a regular file whose length the system tells.
     At(Seeking<F>),
@@ -67,6 +67,14 @@ pub struct WholeFile<'a, R: Files> {
     path: &'a str,
     state: State<R::File>,
     broken: bool,
+}
+
+impl<R: Files> fmt::Debug for WholeFile<'_, R> {
+    fn fmt<W: fmt::Write>(&self, f: &mut fmt::Formatter<W>) -> fmt::Result {
+        f.debug_struct("WholeFile")
+            .field("path", &self.path)
+            .finish_non_exhaustive()
+    }
 }
 
 impl<'a, R: Files> WholeFile<'a, R> {

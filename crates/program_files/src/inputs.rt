@@ -3,10 +3,14 @@
 ghost use Rattle.std.specs.Prelude.{◌≡◌, None, Some, length, slice_get, IfSome, IfNone};
 
 use crate::files::{Reading, open_told, open_within};
+use crate::progress::Progress;
 use byte_io::{AtFault, In, InputFault, Inputs, Opened, ReadFault, Seeking, read_into, skip_all};
 use pdb_commands::{RunFault, check_type_stream, check_type_stream_at};
 use std::alloc::Allocator;
+use std::fmt;
+use std::io::Eprint;
 use std::rt::Files;
+use std::time::Clock;
 
 /// The files with these names. One of them is open at a time.
 #[derive(Drop)]
@@ -14,12 +18,28 @@ pub struct InputFiles<'a, R: Files> {
     rt: &'a R,
     names: &'a [String],
     max_bytes: u32,
+    progress: Option<Progress<'a, R>>,
+}
+
+impl<R: Files> fmt::Debug for InputFiles<'_, R> {
+    fn fmt<W: fmt::Write>(&self, f: &mut fmt::Formatter<W>) -> fmt::Result {
+        f.debug_struct("InputFiles")
+            .field("names", &self.names)
+            .field("max_bytes", &self.max_bytes)
+            .finish_non_exhaustive()
+    }
 }
 
 impl<'a, R: Files + AllocGlobal> InputFiles<'a, R> {
     /// The files with these names. None of them is opened yet. A file with more than `max_bytes`
-    /// bytes is too long, and so is one whose stream of types has more.
-    pub fn new(rt: &'a R, names: &'a [String], max_bytes: u32) -> InputFiles<'a, R>
+    /// bytes is too long, and so is one whose stream of types has more. `progress` tells how many of
+    /// them were read.
+    pub fn new(
+        rt: &'a R,
+        names: &'a [String],
+        max_bytes: u32,
+        progress: Option<Progress<'a, R>>,
+    ) -> InputFiles<'a, R>
         ensures names { result.names.now ≡ names.now }
         ensures limit { result.max_bytes ≡ max_bytes }
     {
@@ -27,6 +47,7 @@ impl<'a, R: Files + AllocGlobal> InputFiles<'a, R> {
             rt,
             names,
             max_bytes,
+            progress,
         }
     }
 
@@ -73,7 +94,7 @@ fn limit_fault<A: Allocator>(fault: RunFault<A>) -> InputFault {
     }
 }
 
-impl<R: Files + AllocGlobal> Inputs for InputFiles<'_, R> {
+impl<R: Files + AllocGlobal + Clock + Eprint> Inputs for InputFiles<'_, R> {
     ghost known = { λ _. None };
 
     type File = Seeking<R::File>;
@@ -98,6 +119,9 @@ impl<R: Files + AllocGlobal> Inputs for InputFiles<'_, R> {
         input: usize,
         buffer: &'b mut Vec<u8, A>,
     ) -> Result<Opened<'b, Seeking<R::File>>, InputFault> {
+        if let Some(progress) = &self.progress {
+            progress.tell(input);
+        }
         match open_within(self.rt, self.path(input)?, self.max_bytes)? {
             Reading::At(file) => {
                 let mut file = file;

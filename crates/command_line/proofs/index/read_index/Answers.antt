@@ -1,7 +1,7 @@
 use Rattle.std.proofs.Common.{◌≡◌, ◌∙◌, ◌++◌, ◌∷◌, ℕ, List, sym, ap}
 use Rattle.std.specs.Prelude.{codes}
-use Rattle.pdbmerge.proofs.IndexLaws.{no_index}
-use Rattle.pdbmerge.proofs.index.read_index.Goals as goal
+use Rattle.command_line.proofs.IndexLaws.{no_index}
+use Rattle.command_line.proofs.index.read_index.Goals as goal
 
 pub returns-clause-none : goal.returns-clause-none
 returns-clause-none c =

@@ -1,7 +1,7 @@
 //! A type index as an argument of the command line.
 
 ghost use Rattle.std.specs.Prelude.{IfSome, IfNone, ℕ};
-ghost use Rattle.pdbmerge.specs.Index.{IsIndexArgument};
+ghost use Rattle.command_line.specs.Index.{IsIndexArgument};
 
 /// The type index that an argument is: `0x` and 1 to 8 hexadecimal digits of either case, and
 /// nothing else. `None` for any other argument. This does not allocate.

@@ -1,68 +1,14 @@
-//! Why arguments are no command, and why the program did not do what they ask for.
+//! Why the program did not do what its arguments ask for.
 
 ghost use Rattle.std.specs.Prelude.{◌≡◌};
-ghost use Rattle.pdbmerge.specs.Fault.{IsStatus, IsOfClap, program_from_input};
-ghost use Rattle.pdbmerge.specs.declared.fault.LineFault.TheVariants as line;
-ghost use Rattle.pdbmerge.specs.declared.fault.ProgramFault.TheVariants.{Run};
+ghost use Rattle.program_files.specs.Fault.{program_from_input, program_number, faulty_input};
+ghost use Rattle.program_files.specs.declared.fault.ProgramFault.TheVariants.{Run};
 ghost use Rattle.pdb_commands.specs.declared.fault.RunFault.TheVariants.{Memory, Write};
 
 use byte_io::{InputFault, NotTaken};
-use clap::error::ErrorKind;
 use pdb_commands::RunFault;
 use std::alloc::{AllocError, AllocFailed};
 use thiserror::Error;
-
-/// Why the arguments are no command.
-#[derive(Drop)]
-pub enum LineFault {
-    /// The arguments are refused, or they ask for help. The error has the text to print.
-    Refused(clap::Error),
-    /// A word among the arguments has no value that the command can use.
-    Word,
-    /// Out of memory.
-    Memory,
-}
-
-impl From<AllocError> for LineFault {
-    ghost from_gives = { λ _ fault. fault ≡ line.Memory };
-
-    fn from(_error: AllocError) -> LineFault {
-        LineFault::Memory
-    }
-}
-
-impl<T: Drop> From<AllocFailed<T>> for LineFault {
-    ghost from_gives = { λ _ fault. fault ≡ line.Memory };
-
-    fn from(_error: AllocFailed<T>) -> LineFault {
-        LineFault::Memory
-    }
-}
-
-impl From<clap::Error> for LineFault {
-    ghost from_gives = { IsOfClap };
-
-    fn from(error: clap::Error) -> LineFault {
-        if error.kind() == ErrorKind::OutOfMemory {
-            LineFault::Memory
-        } else {
-            LineFault::Refused(error)
-        }
-    }
-}
-
-impl LineFault {
-    /// The exit status: 0 for a request for help, 1 for out of memory, 2 for all others.
-    pub fn status(&self) -> u8
-        ensures { IsStatus self.now result }
-    {
-        match self {
-            LineFault::Refused(error) => { if error.use_stderr() { 2 } else { 0 } }
-            LineFault::Word => 2,
-            LineFault::Memory => 1,
-        }
-    }
-}
 
 /// Why the program did not do what the arguments ask for.
 #[derive(Debug, PartialEq, Eq, Drop, Error)]
@@ -76,6 +22,29 @@ pub enum ProgramFault {
     /// The file to write cannot be created.
     #[error("41 Create")]
     Create,
+}
+
+impl ProgramFault {
+    /// The number of the fault, which stands in its text.
+    pub fn number(&self) -> u32
+        ensures { result ≡ program_number self.now }
+    {
+        match self {
+            ProgramFault::Run(fault) => fault.number(),
+            ProgramFault::Open => 40,
+            ProgramFault::Create => 41,
+        }
+    }
+
+    /// The position of the input that the fault names, from 0. `None` where it names none.
+    pub fn file(&self) -> Option<usize>
+        ensures { result ≡ faulty_input self.now }
+    {
+        match self {
+            ProgramFault::Run(RunFault::Merge(fault)) => fault.file(),
+            _ => None,
+        }
+    }
 }
 
 impl From<AllocError> for ProgramFault {

@@ -1,0 +1,315 @@
+//! The arguments of the command line, as values.
+
+ghost use Rattle.std.specs.Prelude.{◌≡◌, [], false};
+
+use crate::fault::{LineFault, WrongWord};
+use crate::index::read_index;
+use crate::words::program;
+use clap::ArgMatches;
+use fault_pages::{Page, page_of};
+use pdb_commands::{Scope, Shown};
+use pdb_info::Settings;
+use std::alloc::Global;
+use uuid::Uuid;
+
+/// What is printed where there are no arguments.
+pub const USAGE: &str = "usage: pdbmerge COMMAND [WORDS]\n";
+
+/// The limit of `merge` where its arguments give none, in bytes.
+const LIMIT: u32 = 1_073_741_824;
+
+/// The size of a block where the arguments of `merge` give none, in bytes.
+const BLOCK_SIZE: u32 = 4096;
+
+/// What `--guid` takes.
+const GUID: &str = "a GUID, as 00112233-4455-6677-8899-aabbccddeeff, or the word types";
+
+/// The greatest number of bytes of a file or a stream where the arguments give none: no limit.
+const MAX_BYTES: u32 = u32::MAX;
+
+/// The paths of more inputs: the file that has them, and the byte at the end of each.
+#[derive(Debug, Drop)]
+pub struct PathList {
+    /// The path of the list; `-` stands for standard input.
+    pub path: String,
+    /// A line feed, or 0.
+    pub end: u8,
+}
+
+/// The GUID of a file that is written.
+#[derive(Clone, Copy, Debug, PartialEq, Eq)]
+pub enum Naming {
+    /// The GUID of the settings.
+    Given,
+    /// The GUID of the types of the file. That of the settings is not used.
+    ByTypes,
+}
+
+/// `merge --guid G --age N [--limit L] [--block-size B] [--max-bytes N] [--files-from LIST] [-0]
+/// [--progress] OUT IN...`
+#[derive(Debug, Drop)]
+pub struct Merging {
+    pub settings: Settings,
+    pub naming: Naming,
+    pub out: String,
+    pub inputs: Vec<String>,
+    pub list: Option<PathList>,
+    pub shows_progress: bool,
+    pub max_bytes: u32,
+}
+
+/// A command with its arguments as values.
+#[derive(Debug, Drop)]
+pub enum Task {
+    /// There are no arguments.
+    Usage,
+    /// A command that reads one file: its name, as `types [--max-bytes N] FILE`, and for `record`
+    /// an INDEX after the file.
+    Show {
+        shown: Shown,
+        file: String,
+        max_bytes: u32,
+    },
+    /// `diff [--origins] [--max-bytes N] A B`
+    Diff {
+        scope: Scope,
+        files: Vec<String>,
+        max_bytes: u32,
+    },
+    /// `merge`, with its arguments.
+    Merge(Merging),
+    /// `explain N`
+    Explain(Page),
+}
+
+/// What the arguments ask for.
+#[derive(Debug, Drop)]
+pub struct Line {
+    /// The command.
+    pub task: Task,
+    /// Whether more is said after a refusal.
+    pub is_verbose: bool,
+}
+
+/// What an argument takes that is any number of four bytes.
+const NUMBER: &str = "a number up to 4294967295";
+
+/// The age of a file.
+const AGE: Number = Number {
+    name: "age",
+    word: "--age",
+    wanted: NUMBER,
+};
+
+/// How many bytes the types may have together.
+const OF_LIMIT: Number = Number {
+    name: "limit",
+    word: "--limit",
+    wanted: "a number up to 1073741824",
+};
+
+/// How many bytes a block has.
+const OF_BLOCKS: Number = Number {
+    name: "block-size",
+    word: "--block-size",
+    wanted: "512, 1024, 2048, 4096, 8192, 16384 or 32768",
+};
+
+/// The greatest number of bytes of a file or a stream.
+const MAX: Number = Number {
+    name: "max-bytes",
+    word: "--max-bytes",
+    wanted: NUMBER,
+};
+
+/// Whether more is to be said after a refusal.
+fn is_verbose(arguments: &ArgMatches<'_>) -> bool {
+    arguments.get_flag("verbose")
+}
+
+/// The fault of an argument that has no value that its command can use. It says which argument
+/// this is only where more is to be said.
+fn wrong(arguments: &ArgMatches<'_>, argument: &'static str, wanted: &'static str) -> LineFault {
+    if is_verbose(arguments) {
+        LineFault::Word(Some(WrongWord::Value { argument, wanted }))
+    } else {
+        LineFault::Word(None)
+    }
+}
+
+/// A copy of the argument that has a name.
+fn argument_of(
+    alloc: Global,
+    arguments: &ArgMatches<'_>,
+    name: &'static str,
+) -> Result<String, LineFault> {
+    match arguments.get_str(name) {
+        Some(argument) => Ok(String::from_str(alloc, argument)?),
+        None => Err(wrong(arguments, name, "a value")),
+    }
+}
+
+/// An argument that is a number.
+#[derive(Clone, Copy)]
+struct Number {
+    /// Its name among the arguments.
+    name: &'static str,
+    /// How it stands in the line.
+    word: &'static str,
+    /// What is wanted there.
+    wanted: &'static str,
+}
+
+/// The number in an argument.
+fn number_of(arguments: &ArgMatches<'_>, number: &Number) -> Result<u32, LineFault> {
+    let given = arguments.get_str(number.name);
+    let value = given.and_then(|text| text.parse().ok());
+    value.ok_or(wrong(arguments, number.word, number.wanted))
+}
+
+/// The number in an argument, or `default` where there is no such argument.
+fn number_or(arguments: &ArgMatches<'_>, number: &Number, default: u32) -> Result<u32, LineFault> {
+    if arguments.contains_id(number.name) {
+        number_of(arguments, number)
+    } else {
+        Ok(default)
+    }
+}
+
+/// The greatest number of bytes of a file or a stream that is read.
+fn max_bytes_of(arguments: &ArgMatches<'_>) -> Result<u32, LineFault> {
+    number_or(arguments, &MAX, MAX_BYTES)
+}
+
+/// Where the GUID of the file that is written comes from, and the GUID that is given.
+fn guid_of(arguments: &ArgMatches<'_>) -> Result<(Naming, Uuid), LineFault> {
+    match arguments.get_str("guid") {
+        Some("types") => Ok((Naming::ByTypes, Uuid::nil())),
+        given => match given.map(Uuid::parse_str) {
+            Some(Ok(guid)) => Ok((Naming::Given, guid)),
+            _ => Err(wrong(arguments, "--guid", GUID)),
+        },
+    }
+}
+
+/// The settings of the file that is written.
+fn settings_of(arguments: &ArgMatches<'_>, guid: Uuid) -> Result<Settings, LineFault> {
+    let age = number_of(arguments, &AGE)?;
+    let limit = number_or(arguments, &OF_LIMIT, LIMIT)?;
+    let block_size = number_or(arguments, &OF_BLOCKS, BLOCK_SIZE)?;
+    if LIMIT < limit {
+        return Err(wrong(arguments, OF_LIMIT.word, OF_LIMIT.wanted));
+    }
+    match Settings::new(guid, age, limit, block_size) {
+        Some(settings) => Ok(settings),
+        None => Err(wrong(arguments, OF_BLOCKS.word, OF_BLOCKS.wanted)),
+    }
+}
+
+/// The files that are merged.
+fn inputs_of(alloc: Global, arguments: &ArgMatches<'_>) -> Result<Vec<String>, LineFault> {
+    let mut inputs = Vec::new(alloc);
+    if let Some(given) = arguments.get_strs("IN") {
+        for input in given {
+            inputs.push(String::from_str(alloc, input)?)?;
+        }
+    }
+    Ok(inputs)
+}
+
+/// The list of the paths of more files, where there is one.
+fn list_of(alloc: Global, arguments: &ArgMatches<'_>) -> Result<Option<PathList>, LineFault> {
+    let Some(path) = arguments.get_str("files-from") else {
+        return Ok(None);
+    };
+    let end = if arguments.get_flag("null") { 0 } else { b'\n' };
+    let path = String::from_str(alloc, path)?;
+    Ok(Some(PathList { path, end }))
+}
+
+/// What `merge` is asked for.
+fn merging_of(alloc: Global, arguments: &ArgMatches<'_>) -> Result<Merging, LineFault> {
+    let (naming, guid) = guid_of(arguments)?;
+    Ok(Merging {
+        settings: settings_of(arguments, guid)?,
+        naming,
+        out: argument_of(alloc, arguments, "OUT")?,
+        inputs: inputs_of(alloc, arguments)?,
+        list: list_of(alloc, arguments)?,
+        shows_progress: arguments.get_flag("progress"),
+        max_bytes: max_bytes_of(arguments)?,
+    })
+}
+
+/// The two files that are compared.
+fn compared_of(alloc: Global, arguments: &ArgMatches<'_>) -> Result<Vec<String>, LineFault> {
+    let mut files = Vec::new(alloc);
+    files.push(argument_of(alloc, arguments, "A")?)?;
+    files.push(argument_of(alloc, arguments, "B")?)?;
+    Ok(files)
+}
+
+/// What the command with this name shows of a file.
+fn shown_of(name: &str, arguments: &ArgMatches<'_>) -> Result<Shown, LineFault> {
+    match name {
+        "records" => Ok(Shown::Records),
+        "record" => match arguments.get_str("INDEX").and_then(read_index) {
+            Some(index) => Ok(Shown::Record(index)),
+            None => Err(wrong(arguments, "INDEX", "a type index, as 0x1000")),
+        },
+        "types" => Ok(Shown::Types),
+        "check" => Ok(Shown::Check),
+        "streams" => Ok(Shown::Streams),
+        _ => Ok(Shown::Info),
+    }
+}
+
+/// The page of the fault whose number is the argument of `explain`.
+fn page_in(arguments: &ArgMatches<'_>) -> Result<Page, LineFault> {
+    let number = arguments.get_str("N").and_then(|word| word.parse().ok());
+    let page = number.and_then(page_of);
+    page.ok_or(wrong(arguments, "N", "the number of a fault, from 1 to 41"))
+}
+
+/// What the command with this name is asked for.
+fn task_of(alloc: Global, name: &str, arguments: &ArgMatches<'_>) -> Result<Task, LineFault> {
+    match name {
+        "merge" => Ok(Task::Merge(merging_of(alloc, arguments)?)),
+        "diff" => Ok(Task::Diff {
+            scope: if arguments.get_flag("origins") {
+                Scope::Origins
+            } else {
+                Scope::All
+            },
+            files: compared_of(alloc, arguments)?,
+            max_bytes: max_bytes_of(arguments)?,
+        }),
+        "explain" => Ok(Task::Explain(page_in(arguments)?)),
+        _ => Ok(Task::Show {
+            shown: shown_of(name, arguments)?,
+            file: argument_of(alloc, arguments, "FILE")?,
+            max_bytes: max_bytes_of(arguments)?,
+        }),
+    }
+}
+
+/// Reads the arguments of a command line, which come without the program's name.
+pub fn read_line(alloc: Global, arguments: &[String]) -> Result<Line, LineFault>
+    ensures usage { arguments.now ≡ [] →
+        result ≡ Ok (record { task = Task.Usage; is_verbose = false }) }
+{
+    if arguments.is_empty() {
+        return Ok(Line {
+            task: Task::Usage,
+            is_verbose: false,
+        });
+    }
+    let matches = program(alloc)?.try_get_matches_from(arguments)?;
+    match matches.subcommand() {
+        Some((name, arguments)) => Ok(Line {
+            task: task_of(alloc, name, arguments)?,
+            is_verbose: is_verbose(arguments),
+        }),
+        None => Err(LineFault::Word(None)),
+    }
+}

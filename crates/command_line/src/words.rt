@@ -1,0 +1,334 @@
+//! The words of the command line: commands, options and arguments, and their help.
+
+use clap::{Arg, ArgAction, Command};
+use std::alloc::{AllocError, Global};
+
+/// The head of the help text.
+const ABOUT: &str =
+    "pdbmerge 0.1.0: merges the types of Program Database (PDB) files, and shows what files hold";
+
+/// What `merge` does.
+const MERGE: &str = "Merges the types of files into one: the same types give the same bytes";
+
+/// What `diff` does.
+const DIFF: &str =
+    "Shows the types that only one of two files has: A's own after '- ', B's own after '+ '";
+
+/// What `explain` does.
+const EXPLAIN: &str = "Shows what a fault means, what makes it, and what to do";
+
+/// A command that reads one file and shows something of it.
+struct ShownCommand {
+    name: &'static str,
+    about: &'static str,
+}
+
+/// A command of the program.
+enum Kind {
+    Merge,
+    Diff,
+    Show(ShownCommand),
+    Explain,
+}
+
+/// The commands, in the order of the help.
+static SUBCOMMANDS: [Kind; 9] = [
+    Kind::Merge,
+    Kind::Diff,
+    Kind::Show(ShownCommand {
+        name: "records",
+        about: "Shows each type record: its type index, its kind, its size in bytes",
+    }),
+    Kind::Show(ShownCommand {
+        name: "record",
+        about: "Shows one type record: its bytes, what it names, what it is called",
+    }),
+    Kind::Show(ShownCommand {
+        name: "types",
+        about: "Shows each type record: its leaf, its size, the types that it names, its name",
+    }),
+    Kind::Show(ShownCommand {
+        name: "check",
+        about: "Shows whether the types of a file can be trusted, and how many there are",
+    }),
+    Kind::Show(ShownCommand {
+        name: "streams",
+        about: "Shows the container: its blocks, and each stream with its size and blocks",
+    }),
+    Kind::Show(ShownCommand {
+        name: "info",
+        about: "Shows what identifies the file: version, signature, age, GUID, named streams, feature codes",
+    }),
+    Kind::Explain,
+];
+
+/// An option: one that takes a value, or one that does not.
+struct Choice {
+    name: &'static str,
+    short: Option<char>,
+    value: Option<&'static str>,
+    help: &'static str,
+    is_required: bool,
+}
+
+/// The option of every command that reads: what limits its reading.
+const MAX: Choice = Choice {
+    name: "max-bytes",
+    short: None,
+    value: Some("N"),
+    help: "The greatest number of bytes of a file, or of a stream that is read; up to 4294967295",
+    is_required: false,
+};
+
+/// The option of every command: what it says after a refusal.
+const VERBOSE: Choice = Choice {
+    name: "verbose",
+    short: Some('v'),
+    value: None,
+    help: "After a refusal, also says which file or word it is about, and where more is said",
+    is_required: false,
+};
+
+/// The options of `merge`.
+static OF_MERGE: [Choice; 9] = [
+    Choice {
+        name: "guid",
+        short: None,
+        value: Some("G"),
+        help: "The GUID of the file that is written",
+        is_required: true,
+    },
+    Choice {
+        name: "age",
+        short: None,
+        value: Some("N"),
+        help: "Its age, a number up to 4294967295",
+        is_required: true,
+    },
+    Choice {
+        name: "limit",
+        short: None,
+        value: Some("L"),
+        help: "How many bytes the types may have together, up to 1073741824, which is the default",
+        is_required: false,
+    },
+    Choice {
+        name: "block-size",
+        short: None,
+        value: Some("B"),
+        help: "How many bytes a block of the file has: 512, 1024, 2048, 4096 (the default), 8192, 16384 or 32768",
+        is_required: false,
+    },
+    MAX,
+    Choice {
+        name: "files-from",
+        short: None,
+        value: Some("LIST"),
+        help: "A file with the paths of more IN, one a line, or - for standard input",
+        is_required: false,
+    },
+    Choice {
+        name: "null",
+        short: Some('0'),
+        value: None,
+        help: "The paths of LIST end with a NUL, as those of find -print0 do",
+        is_required: false,
+    },
+    Choice {
+        name: "progress",
+        short: None,
+        value: None,
+        help: "Writes to standard error how many of the inputs were read",
+        is_required: false,
+    },
+    VERBOSE,
+];
+
+/// The options of `diff`.
+static OF_DIFF: [Choice; 3] = [
+    Choice {
+        name: "origins",
+        short: None,
+        value: None,
+        help: "Only the types whose own named types are all in the other file: where it begins",
+        is_required: false,
+    },
+    MAX,
+    VERBOSE,
+];
+
+/// The options of a command that reads one file.
+static OF_SHOWN: [Choice; 2] = [MAX, VERBOSE];
+
+/// The options of `explain`.
+static OF_EXPLAIN: [Choice; 1] = [VERBOSE];
+
+/// The exit statuses, at the end of each help text.
+const STATUSES: &str =
+    "Exit status: 0 done; 1 refused, with one line on standard error that begins \
+    with 'pdbmerge: '\nand the fault's number and name; 2 the arguments are wrong.";
+
+/// More on the options of `merge`, and the exit statuses, at the end of its help text.
+const MERGE_STATUSES: &str =
+    "With --guid types the GUID is made of the types: the same types give the same GUID.\n\n\
+    Exit status: 0 done; 1 refused, with one line on standard error that begins \
+    with 'pdbmerge: '\nand the fault's number and name; 2 the arguments are wrong.";
+
+/// The exit statuses of `diff`, at the end of its help text.
+const DIFF_STATUSES: &str =
+    "Exit status: 0 the files have the same types; 3 they differ; 1 refused, with one line on \
+    standard\nerror that begins with 'pdbmerge: ' and the fault's number and name; 2 the arguments \
+    are wrong.";
+
+// Commands and arguments are large values. Each is made by a function of its own, one at a time, so
+// that the stack has few of them.
+
+/// An option.
+#[inline(never)]
+fn option<'a>(alloc: Global, choice: &'a Choice) -> Arg<'a> {
+    let arg = Arg::new(alloc, choice.name)
+        .long(choice.name)
+        .help(choice.help)
+        .required(choice.is_required);
+    let arg = match choice.short {
+        Some(short) => arg.short(short),
+        None => arg,
+    };
+    match choice.value {
+        Some(value) => arg.value_name(value).action(ArgAction::Set),
+        None => arg.action(ArgAction::SetTrue),
+    }
+}
+
+/// The path of a file.
+#[inline(never)]
+fn path<'a>(alloc: Global, name: &'a str, help: &'a str) -> Arg<'a> {
+    Arg::new(alloc, name)
+        .help(help)
+        .required(true)
+        .action(ArgAction::Set)
+}
+
+/// The paths of the files that are merged. A list of paths stands for them too.
+#[inline(never)]
+fn inputs<'a>(alloc: Global) -> Result<Arg<'a>, AllocError> {
+    Arg::new(alloc, "IN")
+        .help("The PDB files whose types are merged")
+        .num_args(1..)
+        .action(ArgAction::Append)
+        .required_unless_present("files-from")
+}
+
+/// A command with its options. `end` stands at the end of its help.
+#[inline(never)]
+fn command<'a>(
+    alloc: Global,
+    name: &'a str,
+    about: &'a str,
+    options: &'a [Choice],
+    end: &'a str,
+) -> Result<Command<'a>, AllocError> {
+    let mut command = Command::new(alloc, name)
+        .before_help(ABOUT)
+        .about(about)
+        .after_help(end);
+    for choice in options {
+        command = command.arg(option(alloc, choice))?;
+    }
+    Ok(command)
+}
+
+/// A command that reads one file, with its arguments.
+#[inline(never)]
+fn with_file<'a>(
+    alloc: Global,
+    command: Command<'a>,
+    has_index: bool,
+) -> Result<Command<'a>, AllocError> {
+    let command = command.arg(path(alloc, "FILE", "The PDB file to read"))?;
+    if !has_index {
+        return Ok(command);
+    }
+    command.arg(path(alloc, "INDEX", "The type index of the record, as 0x1000"))
+}
+
+/// A command that reads one file and shows something of it.
+#[inline(never)]
+fn showing<'a>(alloc: Global, shown: &'a ShownCommand) -> Result<Command<'a>, AllocError> {
+    let command = command(alloc, shown.name, shown.about, &OF_SHOWN, STATUSES)?;
+    with_file(alloc, command, shown.name == "record")
+}
+
+/// The command that merges, with its arguments.
+#[inline(never)]
+fn with_inputs<'a>(alloc: Global, command: Command<'a>) -> Result<Command<'a>, AllocError> {
+    let command = command.arg(path(alloc, "OUT", "The PDB file to write"))?;
+    command.arg(inputs(alloc)?)
+}
+
+/// The command that reads files and writes one file with their types.
+#[inline(never)]
+fn merging<'a>(alloc: Global) -> Result<Command<'a>, AllocError> {
+    let command = command(alloc, "merge", MERGE, &OF_MERGE, MERGE_STATUSES)?;
+    with_inputs(alloc, command)
+}
+
+/// The command that compares, with its arguments.
+#[inline(never)]
+fn with_files<'a>(alloc: Global, command: Command<'a>) -> Result<Command<'a>, AllocError> {
+    let command = command.arg(path(
+        alloc,
+        "A",
+        "The PDB file whose own types are shown with '- '",
+    ))?;
+    command.arg(path(
+        alloc,
+        "B",
+        "The PDB file whose own types are shown with '+ '",
+    ))
+}
+
+/// The command that shows the types that only one of two files has.
+#[inline(never)]
+fn differing<'a>(alloc: Global) -> Result<Command<'a>, AllocError> {
+    let command = command(alloc, "diff", DIFF, &OF_DIFF, DIFF_STATUSES)?;
+    with_files(alloc, command)
+}
+
+/// The command that says what a fault means.
+#[inline(never)]
+fn explaining<'a>(alloc: Global) -> Result<Command<'a>, AllocError> {
+    let command = command(alloc, "explain", EXPLAIN, &OF_EXPLAIN, STATUSES)?;
+    command.arg(path(alloc, "N", "The number of the fault, from 1 to 41"))
+}
+
+/// A command of the program.
+#[inline(never)]
+fn subcommand<'a>(alloc: Global, which: &'a Kind) -> Result<Command<'a>, AllocError> {
+    match which {
+        Kind::Merge => merging(alloc),
+        Kind::Diff => differing(alloc),
+        Kind::Show(shown) => showing(alloc, shown),
+        Kind::Explain => explaining(alloc),
+    }
+}
+
+/// The program without its commands.
+#[inline(never)]
+fn bare<'a>(alloc: Global) -> Result<Command<'a>, AllocError> {
+    let program = Command::new(alloc, "pdbmerge")
+        .about(ABOUT)
+        .after_help(STATUSES)
+        .bin_name("pdbmerge")?;
+    Ok(program.no_binary_name(true).subcommand_required(true))
+}
+
+/// The program with its commands.
+#[inline(never)]
+pub fn program<'a>(alloc: Global) -> Result<Command<'a>, AllocError> {
+    let mut program = bare(alloc)?;
+    for which in &SUBCOMMANDS {
+        program = program.subcommand(subcommand(alloc, which)?)?;
+    }
+    Ok(program)
+}

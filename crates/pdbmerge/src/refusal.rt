@@ -1,0 +1,87 @@
+//! What the program says of a refusal.
+
+use command_line::{Line, LineFault, Task};
+use pdb_commands::RunFault;
+use program_files::ProgramFault;
+use std::io::{self, Eprint, Print};
+use std::process::ExitCode;
+
+/// Why the program ends without having done what it was asked for.
+#[derive(Drop)]
+pub enum Refusal {
+    /// The arguments, or the paths of a list, can't be used.
+    Line(LineFault),
+    /// The command was refused.
+    Program(ProgramFault),
+}
+
+impl From<ProgramFault> for Refusal {
+    fn from(fault: ProgramFault) -> Refusal {
+        Refusal::Program(fault)
+    }
+}
+
+/// Prints why the arguments are refused, or the help that they ask for.
+fn print_line_fault<R: Print + Eprint>(rt: &R, fault: &LineFault) -> io::Result<()> {
+    match fault {
+        LineFault::Refused(error) => error.print(rt),
+        LineFault::Word(wrong) => {
+            eprintln!(rt; "pdbmerge: wrong word")?;
+            match wrong {
+                Some(wrong) => eprintln!(rt; "{wrong}"),
+                None => Ok(()),
+            }
+        }
+        LineFault::Memory => eprintln!(rt; "pdbmerge: 33 Memory"),
+    }
+}
+
+/// Prints why the arguments are refused, or the help that they ask for. Returns the exit status.
+pub fn refuse_line<R: Print + Eprint>(rt: &R, fault: &LineFault) -> ExitCode {
+    match print_line_fault(rt, fault) {
+        // Help that was not written whole is refused as any other text is.
+        Err(_) if fault.status() == 0 => print_fault(rt, &RunFault::Write.into()),
+        _ => ExitCode::from(fault.status()),
+    }
+}
+
+/// Prints a fault, and returns the exit status for it.
+fn print_fault<R: Eprint>(rt: &R, fault: &ProgramFault) -> ExitCode {
+    // Where even this cannot be printed, only the exit status is left.
+    let _ = eprintln!(rt; "pdbmerge: {fault}");
+    ExitCode::FAILURE
+}
+
+/// The inputs that a fault counts.
+fn inputs_of(task: &Task) -> &[String] {
+    match task {
+        Task::Merge(task) => &task.inputs,
+        Task::Diff { files, .. } => files,
+        _ => &[],
+    }
+}
+
+/// Prints which input a fault names, and where more is said of the fault.
+fn say_more<R: Eprint>(rt: &R, fault: &ProgramFault, task: &Task) -> io::Result<()> {
+    if let Some(file) = fault.file() {
+        if let Some(path) = inputs_of(task).get(file) {
+            eprintln!(rt; "file {file} is {path}")?;
+        }
+    }
+    eprintln!(rt; "pdbmerge explain {} says more", fault.number())
+}
+
+/// Prints why a command was refused, and more where the arguments ask for it. Returns the exit
+/// status.
+pub fn refuse<R: Print + Eprint>(rt: &R, refusal: &Refusal, line: &Line) -> ExitCode {
+    match refusal {
+        Refusal::Line(fault) => refuse_line(rt, fault),
+        Refusal::Program(fault) => {
+            let status = print_fault(rt, fault);
+            if line.is_verbose {
+                let _ = say_more(rt, fault, &line.task);
+            }
+            status
+        }
+    }
+}

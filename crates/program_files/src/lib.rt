@@ -1,0 +1,25 @@
+//! The files that the program reads and writes.
+//!
+//! - [`open_within`] opens a file, and tells how it is read ([`Reading`]). A [`WholeFile`] is opened
+//!   at its first read.
+//! - [`InputFiles`] are the inputs of a merge, one of which is open at a time. [`Progress`] tells how
+//!   many of them were read.
+//! - [`NewFile`] is a file that is created at its first write.
+//! - [`ProgramFault`] says why the program did not do what it was asked for.
+//!
+//! What is proved: a file is opened as the input at its position, and a file that breaks stays
+//! broken. The number of a fault is the one of its kind (`program_number`). No contract can say what
+//! a file of the system gives or takes; the tests of the program show it.
+#![tactic(auto)]
+
+mod fault;
+mod files;
+mod inputs;
+mod output;
+mod progress;
+
+pub use fault::ProgramFault;
+pub use files::{Reading, WholeFile, open_within};
+pub use inputs::InputFiles;
+pub use output::NewFile;
+pub use progress::Progress;
