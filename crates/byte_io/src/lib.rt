@@ -1,6 +1,6 @@
 //! What takes bytes, and what gives them.
 //!
-//! All reading and writing of the project goes through three traits. A fault of the system is a
+//! All reading and writing of the project goes through four traits. A fault of the system is a
 //! value, and the contracts of the traits say what it means.
 //!
 //! - [`Sink`] takes bytes. [`Out`] makes a sink of any `Write`, and [`put_all`] writes a whole

@@ -8,8 +8,10 @@ use crate::orders::names_nodes;
 use byte_fields::{u16_at, u32_at};
 use byte_io::{In, Out, put_all};
 use closed_trees::renumber_into;
+use command_line::push_paths;
 use command_texts::{push_named, push_quoted};
 use cv_leaves::{list_places, places, ref_at, type_name};
+use fault_pages::page_of;
 use msf_blocks::Layout;
 use msf_streams::{gather, pieces};
 use packed_texts::PackedTexts;
@@ -24,7 +26,8 @@ use test_samples::{CONST, TO_FIRST, TO_INT, VOLATILE, folding, sample, stream_wi
 use text_set::TextSet;
 use topological_order::{Graph, topological_order};
 use tpi_records::{Records, tpi_header_bytes};
-use type_trees::{Standing, Table, Types, compare};
+use type_trees::{Canon, Standing, Table, Types, compare};
+use types_guid::guid_of_types;
 
 /// `byte_fields` reads little-endian numbers.
 #[test]
@@ -125,7 +128,9 @@ fn the_records_of_a_stream(rt: HostRuntime) -> Result<(), Fail> {
     stream.extend_from_slice(TO_INT)?;
     let records = Records::read(rt.alloc(), &stream)?;
     assert_eq!(rt; records.len(), 1);
-    assert_eq!(rt; records.get(0), Some(TO_INT));
+    for record in &records {
+        assert_eq!(rt; record, TO_INT);
+    }
     Ok(())
 }
 
@@ -264,6 +269,14 @@ fn a_merge_of_two_files(rt: HostRuntime) -> Result<(), Fail> {
     Ok(())
 }
 
+/// `types_guid` makes a GUID of types: here of none.
+#[test]
+fn the_guid_of_no_types(rt: HostRuntime) -> Result<(), Fail> {
+    let guid = guid_of_types(&Canon::empty(rt.alloc())).to_string(rt.alloc())?;
+    assert_eq!(rt; guid.as_str(), "e3b0c442-98fc-8c14-9afb-f4c8996fb924");
+    Ok(())
+}
+
 /// `command_texts` appends the lines that commands print.
 #[test]
 fn lines_of_a_text(rt: HostRuntime) -> Result<(), Fail> {
@@ -289,5 +302,24 @@ fn a_check_of_a_file(rt: HostRuntime) -> Result<(), Fail> {
         text.as_slice(),
         b"accepted\nrecords 2\nbytes 24\nlevels 1\n".as_slice()
     );
+    Ok(())
+}
+
+/// `fault_pages` says what a fault means.
+#[test]
+fn the_page_of_a_fault(rt: HostRuntime) -> Result<(), Fail> {
+    let page = page_of(37).ok_or("no such fault")?;
+    assert_eq!(rt; page.meaning, "a read failed");
+    Ok(())
+}
+
+/// `command_line` reads lists of paths, which stand for arguments.
+#[test]
+fn the_paths_of_a_list(rt: HostRuntime) -> Result<(), Fail> {
+    let mut paths = Vec::new(rt.alloc());
+    let read = push_paths(rt.alloc(), b"one.pdb\nother.pdb\n", b'\n', &mut paths);
+    assert!(rt; read.is_ok());
+    assert_eq!(rt; paths.len(), 2);
+    assert_eq!(rt; paths[1].as_str(), "other.pdb");
     Ok(())
 }

@@ -39,7 +39,9 @@
 //!     stream.extend_from_slice(TO_INT)?;
 //!     let records = Records::read(rt.alloc(), &stream)?;
 //!     assert_eq!(rt; records.len(), 1);
-//!     assert_eq!(rt; records.get(0), Some(TO_INT));
+//!     for record in &records {
+//!         assert_eq!(rt; record, TO_INT);
+//!     }
 //!     Ok(())
 //! }
 //! ```
