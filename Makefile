@@ -38,6 +38,8 @@ demo:
 # around it, and a minute of damaged files; then half a minute of them over the libraries, by the
 # program of campaign_driver. tests/tools installs the tools that this needs, `rt ci` leaves the
 # programs that it proved and linked, and tools/archive compiles the library for C.
+# Every script takes the program that this variable names.
+test: export PDBMERGE := $(CURDIR)/$(PROGRAM)
 test:
 	tests/tools
 	$(RT) ci
@@ -46,31 +48,34 @@ test:
 	tools/archive
 	tools/figures --check
 	tools/readmes --check
+	tools/faults --check
 	tools/stale
+	tests/help
 	tools/unreached
 	tools/columns
-	tests/program $(PROGRAM)
-	tests/examples $(PROGRAM)
-	tests/examples $(PROGRAM) examples/differences
-	tests/answers $(PROGRAM)
-	tests/rows $(PROGRAM)
-	tests/difference $(PROGRAM)
-	tests/failures $(PROGRAM)
-	tests/position $(PROGRAM)
-	tests/surroundings $(PROGRAM)
-	tests/faults $(PROGRAM)
-	tests/cookbook $(PROGRAM)
-	tests/manual $(PROGRAM)
-	tests/library $(ARCHIVE) $(PROGRAM)
-	tests/dist $(PROGRAM)
-	tests/spread $(PROGRAM)
-	PDBMERGE=$(PROGRAM) tests/campaign 60 1
-	tests/driver $(PROGRAM)
+	tests/program
+	tests/examples
+	tests/examples examples/differences
+	tests/answers
+	tests/rows
+	tests/words
+	tests/difference
+	tests/failures
+	tests/position
+	tests/surroundings
+	tests/faults
+	tests/cookbook
+	tests/manual
+	tests/library
+	tests/dist
+	tests/spread
+	tests/campaign 60 1
+	tests/driver
 	tests/campaign --driver crates/campaign_driver/out/campaign_driver 30 1
 
 # Times merges of growing size beside llvm-pdbutil, and plots them in docs/sizes.svg.
 bench: $(PROGRAM)
-	bench/sizes $(PROGRAM)
+	PDBMERGE=$(PROGRAM) bench/sizes
 
 SHARE = $(DESTDIR)$(PREFIX)/share
 install: $(PROGRAM)

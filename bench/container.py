@@ -1,5 +1,8 @@
 """PDB files of any size for the benchmarks, made from nothing (blocks of 4,096 bytes unless another size is given)."""
-import struct
+import itertools, pathlib, struct, sys
+
+sys.path.append(str(pathlib.Path(__file__).resolve().parent.parent / 'tests'))
+from harness import blocks_of, cut, image, numbers, superblock, words
 
 BLOCK = 4096
 # Stream 1: version, signature, age, GUID, and a map of no named streams.
@@ -69,29 +72,16 @@ def tpi(body, count):
 
 
 def pdb(stream, order=lambda blocks: blocks, info=b'', block=BLOCK):
-    """A container with five streams: the second has the bytes of info, at most one block, and the
-    third these bytes, in blocks of this order. Each block has `block` bytes. The third stream is in
-    consecutive blocks if it ends before the next pair of map blocks. There is one pair in `block` blocks."""
-    infos, blocks = -(-len(info) // block), -(-len(stream) // block)
-    directory_len = 4 * (1 + 5 + infos + blocks)
-    directory_blocks = -(-directory_len // block)
-    free, number = [], 3
-    while len(free) < 1 + directory_blocks + infos + blocks:
-        if number % block not in (1, 2):
-            free.append(number)
-        number += 1
-    count = free[-1] + 1
-    block_map, at, first = free[0], free[1:1 + directory_blocks], 1 + directory_blocks
-    named, data = free[first:first + infos], order(free[first + infos:])
-    directory = struct.pack('<6I', 5, 0, len(info), len(stream), 0, 0) + struct.pack(f'<{infos + blocks}I', *named, *data)
-    file = bytearray(count * block)
-    file[:56] = b'Microsoft C/C++ MSF 7.00\r\n\x1aDS\0\0\0' + struct.pack('<6I', block, 1, count, directory_len, 0, block_map)
-    file[block_map * block:block_map * block + 4 * directory_blocks] = struct.pack(f'<{directory_blocks}I', *at)
-    for text, places in ((directory, at), (info, named), (stream, data)):
-        for k, n in enumerate(places):
-            part = text[k * block:(k + 1) * block]
-            file[n * block:n * block + len(part)] = part
-    return bytes(file)
+    """A container with five streams: the second has the bytes of info, at most one block, and the third these
+    bytes, in blocks of this order. The third stream is in consecutive blocks if its order is the plain one and it
+    ends before the next pair of map blocks. There is one pair in `block` blocks."""
+    infos, data = cut(info, block), cut(stream, block)
+    # The place of each block of the third stream.
+    places = order(list(range(len(infos), len(infos) + len(data))))
+    parts = dict(zip(places, data))
+    sizes = [0, len(info), len(stream), 0, 0]
+    lists = [[], range(len(infos)), places, [], []]
+    return image(sizes, lists, [*infos, *(parts[place] for place in sorted(places))], block)
 
 
 def taken(free, count):
@@ -104,28 +94,28 @@ def taken(free, count):
 def write_beside(path, streams, count, fill=b'', block=BLOCK):
     """Writes a file of so many blocks with these streams, and with one more that has all blocks that
     are left. Each block of this last stream holds `fill`. Without it they are holes, as are the free
-    block maps, and the file is sparse. Returns how many bytes the directory has."""
-    free = [n for n in range(3, count) if n % block not in (1, 2)]
-    blocks = lambda size: -(-size // block)
-    placed = [(stream, taken(free, blocks(len(stream)))) for stream in streams]
+    block maps, and the file is sparse: an `image` of the harness would hold it in memory. Returns how many
+    bytes the directory has."""
+    free = [n for n in itertools.takewhile(lambda n: n < count, numbers(block)) if n]
+    placed = [(stream, taken(free, blocks_of(len(stream), block))) for stream in streams]
     # There is room for the numbers of all these blocks. The directory may end one block earlier.
-    room = taken(free, blocks(4 * (2 + len(streams) + sum(len(numbers) for _, numbers in placed) + len(free))))
+    listed = sum(len(blocks) for _, blocks in placed) + len(free)
+    room = taken(free, blocks_of(4 * (2 + len(streams) + listed), block))
     [block_map] = taken(free, 1)
     sizes = [*map(len, streams), len(free) * block]
-    words = [len(sizes), *sizes, *(n for _, numbers in placed for n in numbers), *free]
-    directory = struct.pack(f'<{len(words)}I', *words)
-    listed = room[:blocks(len(directory))]
-    superblock = b'Microsoft C/C++ MSF 7.00\r\n\x1aDS\0\0\0' + struct.pack('<6I', block, 1, count, len(directory), 0, block_map)
-    placed += [(superblock, [0]), (struct.pack(f'<{len(listed)}I', *listed), [block_map]), (directory, listed)]
+    directory = words(len(sizes), *sizes, *(n for _, blocks in placed for n in blocks), *free)
+    used = room[:blocks_of(len(directory), block)]
+    front = superblock(block, count, len(directory), block_map)
+    placed += [(front, [0]), (words(*used), [block_map]), (directory, used)]
     with open(path, 'wb') as file:
         file.truncate(count * block)
         for n in free if fill else []:
             file.seek(n * block)
             file.write(fill)
-        for text, numbers in placed:
-            for k, n in enumerate(numbers):
+        for text, blocks in placed:
+            for n, part in zip(blocks, cut(text, block)):
                 file.seek(n * block)
-                file.write(text[k * block:(k + 1) * block])
+                file.write(part)
     return len(directory)
 
 

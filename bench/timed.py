@@ -1,5 +1,9 @@
 """What the benchmarks share: compiling a program in plain Rust, and timing programs."""
-import collections, contextlib, multiprocessing, os, shutil, subprocess, sys, tempfile, time
+import collections, contextlib, multiprocessing, os, pathlib, shutil, subprocess, sys, tempfile, time
+
+ROOT = pathlib.Path(__file__).resolve().parent.parent
+sys.path.append(str(ROOT / 'tests'))
+from harness import MERGE
 
 # Seconds, processor seconds, the greatest resident memory in bytes, and the text that was printed.
 Run = collections.namedtuple('Run', 'seconds processor memory text')
@@ -57,7 +61,7 @@ def unpacked(source, folder):
 
 def merging(pdbmerge, out, files):
     """The words that make pdbmerge merge these files."""
-    return [pdbmerge, 'merge', '--guid', '00112233-4455-6677-8899-aabbccddeeff', '--age', '1', out, *files]
+    return [pdbmerge, *MERGE, out, *files]
 
 
 def run(words, out=None, status=0):

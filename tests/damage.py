@@ -5,10 +5,10 @@ the case alone. The tables of leaves and members are those of docs/FORMAT.md: da
 where a record names other types. No answer of the program is made from them."""
 import pathlib, random, struct
 from typing import NamedTuple
+import harness
+from harness import FIRST, superblock, words
 
-MAGIC = b'Microsoft C/C++ MSF 7.00\r\n\x1aDS\0\0\0'
 SIZES = [512, 1024, 2048, 4096, 8192, 16384, 32768]
-FIRST = 0x1000
 HEADER = 56
 INT = 0x74
 NIL = 0xFFFFFFFF
@@ -30,10 +30,6 @@ NUMERICS = {0x8000: 1, 0x8001: 2, 0x8002: 2, 0x8003: 4, 0x8004: 4, 0x8009: 8, 0x
 ROOM = {512: 8_384_968, 1024: 67_101_640, 2048: 536_856_520}
 
 
-def words(*numbers):
-    return struct.pack(f'<{len(numbers)}I', *numbers)
-
-
 def u16_at(data, at):
     return data[at] | data[at + 1] << 8
 
@@ -45,7 +41,8 @@ def u32_at(data, at):
 # ---- Files
 
 def blocks_of(size, block):
-    return 0 if size == NIL else -(-size // block)
+    """How many blocks a stream of this size takes, which may be nil."""
+    return 0 if size == NIL else harness.blocks_of(size, block)
 
 
 def streams_of(file):
@@ -64,7 +61,8 @@ def streams_of(file):
 
 class Plan:
     """Where the parts of a file are: its block map, the blocks of its directory, and for each stream its
-    size and its blocks. What is in the blocks of a stream is in `streams`."""
+    size and its blocks. What is in the blocks of a stream is in `streams`. The blocks are in any order, and
+    damage may move each of them, so this is no `image` of the harness."""
 
     def __init__(self, block, streams, rng, map_last=False):
         self.block, self.streams = block, streams
@@ -86,7 +84,7 @@ class Plan:
         block = self.block
         directory = words(len(self.sizes), *self.sizes, *(n for blocks in self.lists for n in blocks)) + self.rest
         file = bytearray(self.count * block)
-        file[:56] = MAGIC + words(block, 1, self.count, len(directory), 0, self.block_map)
+        file[:56] = superblock(block, self.count, len(directory), self.block_map)
         for n, part in self.parts:
             file[n * block:n * block + len(part)] = part
         for k, n in enumerate(self.directory):

@@ -42,6 +42,9 @@ static inline void *allocate(size_t size) {
     return memory;
 }
 
+/* Memory for so many values of a type. C++ makes no pointer to a type of a pointer to void. */
+#define ALLOCATE(type, count) ((type *)allocate((count) * sizeof(type)))
+
 /* Reads a file into memory that is never freed. */
 static inline pdbmerge_slice read_file(const char *name) {
     FILE *file = fopen(name, "rb");

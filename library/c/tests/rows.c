@@ -1,5 +1,5 @@
 /* Answers as the program does, by the calls of the library alone, so that the tests of the program
- * can be run on the library.
+ * can be run on the library. This is a program in C, and one in C++ too.
  *
  * usage: rows COMMAND WORD.., with the words of the program
  *
@@ -61,7 +61,7 @@ static uint32_t read_stream(pdbmerge_slice file, uint32_t number, const uint8_t 
     uint32_t answer = pdbmerge_stream(file.bytes, file.length, number, NULL, 0, length, &fault);
     if (answer != PDBMERGE_OK && answer != PDBMERGE_ROOM)
         return answer;
-    uint8_t *room = allocate(*length);
+    uint8_t *room = ALLOCATE(uint8_t, *length);
     *bytes = room;
     return pdbmerge_stream(file.bytes, file.length, number, room, *length, length, &fault);
 }
@@ -73,7 +73,7 @@ static uint32_t read_types(pdbmerge_slice file, struct types *types) {
     answer = pdbmerge_records(types->stream, types->length, NULL, 0, &types->count, &fault);
     if (answer != PDBMERGE_OK && answer != PDBMERGE_ROOM)
         return answer;
-    uint64_t *room = allocate(types->count * sizeof *room);
+    uint64_t *room = ALLOCATE(uint64_t, types->count);
     types->offsets = room;
     return pdbmerge_records(types->stream, types->length, room, types->count, &types->count, &fault);
 }
@@ -238,7 +238,7 @@ static int run_diff(const struct line *line) {
     uint32_t answer = pdbmerge_diff(files[0].bytes, files[0].length, files[1].bytes, files[1].length,
                                     &line->settings.seed, NULL, 0, &count, &fault);
     if (answer == PDBMERGE_ROOM) {
-        differences = allocate(count * sizeof *differences);
+        differences = ALLOCATE(pdbmerge_difference, count);
         answer = pdbmerge_diff(files[0].bytes, files[0].length, files[1].bytes, files[1].length,
                                &line->settings.seed, differences, count, &count, &fault);
     }
@@ -256,14 +256,14 @@ static int run_diff(const struct line *line) {
 
 static int run_merge(const struct line *line) {
     size_t count = (size_t)line->count - 1;
-    pdbmerge_slice *files = allocate(count * sizeof *files);
+    pdbmerge_slice *files = ALLOCATE(pdbmerge_slice, count);
     for (size_t at = 0; at < count; at++)
         files[at] = read_file(line->words[at + 1]);
     pdbmerge_report report;
     uint32_t answer = pdbmerge_merge(files, count, &line->settings, NULL, 0, &report, &fault);
     if (answer != PDBMERGE_ROOM)
         return refused();
-    uint8_t *out = allocate(report.length);
+    uint8_t *out = ALLOCATE(uint8_t, report.length);
     if (pdbmerge_merge(files, count, &line->settings, out, report.length, &report, &fault) != PDBMERGE_OK)
         return refused();
     FILE *file = fopen(line->words[0], "wb");
@@ -326,7 +326,7 @@ static const struct {
 };
 
 int main(int argc, char **argv) {
-    struct line line = {settings_of(4096), 0, 0, allocate((size_t)argc * sizeof *line.words)};
+    struct line line = {settings_of(4096), 0, 0, ALLOCATE(const char *, (size_t)argc)};
     for (int at = 2; at < argc;)
         at += take_word(&line, argv, at);
     for (size_t at = 0; argc > 1 && at < sizeof COMMANDS / sizeof *COMMANDS; at++)
