@@ -7,13 +7,19 @@ _pdbmerge_files() { # WORD
     mapfile -t COMPREPLY < <(compgen -f -X '!*.pdb' -- "$1"; compgen -d -- "$1")
 }
 
+# Offers all files and folders.
+_pdbmerge_any_files() { # WORD
+    compopt -o filenames 2>/dev/null
+    mapfile -t COMPREPLY < <(compgen -f -- "$1")
+}
+
 # Offers those of the given words that begin as WORD does.
 _pdbmerge_words() { # WORD WORDS
     mapfile -t COMPREPLY < <(compgen -W "$2" -- "$1")
 }
 
 _pdbmerge() {
-    local commands='merge diff records record types check streams info help'
+    local commands='merge diff records record types check streams info explain help'
     local sizes='512 1024 2048 4096 8192 16384 32768'
     local word=${COMP_WORDS[COMP_CWORD]}
     local before=${COMP_WORDS[COMP_CWORD - 1]}
@@ -29,9 +35,10 @@ _pdbmerge() {
         return
     fi
     case $command in
-        merge) options='--guid --age --limit --block-size --max-bytes -h --help' ;;
-        diff) options='--origins --max-bytes -h --help' ;;
-        records | record | types | check | streams | info) options='--max-bytes -h --help' ;;
+        merge) options='--guid --age --limit --block-size --max-bytes --files-from -0 --null --progress -v --verbose -h --help' ;;
+        diff) options='--origins --max-bytes -v --verbose -h --help' ;;
+        records | record | types | check | streams | info) options='--max-bytes -v --verbose -h --help' ;;
+        explain) options='-v --verbose -h --help' ;;
         help)
             if ((COMP_CWORD == 2)); then
                 _pdbmerge_words "$word" "$commands"
@@ -51,7 +58,15 @@ _pdbmerge() {
             _pdbmerge_words "$word" "$sizes"
             return
             ;;
-        --guid | --age | --limit | --max-bytes) return ;;
+        --guid)
+            _pdbmerge_words "$word" types
+            return
+            ;;
+        --files-from)
+            _pdbmerge_any_files "$word"
+            return
+            ;;
+        --age | --limit | --max-bytes) return ;;
     esac
     if [[ $word == -* ]]; then
         _pdbmerge_words "$word" "$options"
@@ -64,10 +79,11 @@ _pdbmerge() {
             given=$((given + 1))
         fi
     done
-    # merge reads any number of files, diff two, and each other command one.
+    # merge reads any number of files, diff two, explain none, and each other command one.
     case $command in
         merge) _pdbmerge_files "$word" ;;
         diff) ((given < 2)) && _pdbmerge_files "$word" ;;
+        explain) ((given < 1)) && _pdbmerge_words "$word" "$(echo {1..41})" ;;
         *) ((given < 1)) && _pdbmerge_files "$word" ;;
     esac
 }
