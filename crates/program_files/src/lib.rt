@@ -10,6 +10,18 @@
 //! What is proved: a file is opened as the input at its position, and a file that breaks stays
 //! broken. The number of a fault is the one of its kind (`program_number`). No contract can say what
 //! a file of the system gives or takes; the tests of the program show it.
+//!
+//! # Example
+//!
+//! `program_files` opens the files that the program reads. This is a test of the crate
+//! `test_examples`:
+//!
+//! ```
+//! fn a_file_that_is_not_there(rt: HostRuntime) {
+//!     let opened = open_within(&rt, "no/such/file.pdb", u32::MAX);
+//!     assert!(rt; matches!(opened, Err(InputFault::Open)));
+//! }
+//! ```
 #![tactic(auto)]
 
 mod fault;

@@ -6,7 +6,7 @@ ghost use Rattle.cv_leaves.specs.Named.{named_places};
 
 use crate::orders::names_nodes;
 use byte_fields::{u16_at, u32_at};
-use byte_io::{In, Out, put_all};
+use byte_io::{In, InputFault, Out, put_all};
 use closed_trees::renumber_into;
 use command_line::push_paths;
 use command_texts::{push_named, push_quoted};
@@ -18,6 +18,7 @@ use packed_texts::PackedTexts;
 use pdb_commands::run_check;
 use pdb_info::{Info, Settings, guid_of};
 use pdb_merge::{Buffer, merge_to, read_records, read_types};
+use program_files::open_within;
 use record_set::RecordSet;
 use std::alloc::{AllocError, Allocator, Global};
 use std::hash::BuildHasher;
@@ -322,4 +323,11 @@ fn the_paths_of_a_list(rt: HostRuntime) -> Result<(), Fail> {
     assert_eq!(rt; paths.len(), 2);
     assert_eq!(rt; paths[1].as_str(), "other.pdb");
     Ok(())
+}
+
+/// `program_files` opens the files that the program reads.
+#[test]
+fn a_file_that_is_not_there(rt: HostRuntime) {
+    let opened = open_within(&rt, "no/such/file.pdb", u32::MAX);
+    assert!(rt; matches!(opened, Err(InputFault::Open)));
 }
