@@ -59,8 +59,8 @@ fn push_path(alloc: Global, path: &[u8], paths: &mut Vec<String>) -> Result<(), 
 
 /// Appends the paths of a list. Each path ends with the byte `end`, which the last one may lack.
 ///
-/// The faults: `NotUtf8` for a path that is not UTF-8, and `Memory`. The paths before it were
-/// appended then.
+/// The faults: `NotUtf8` for a path that is not UTF-8, and `Memory`. Nothing is said of the paths
+/// then.
 pub fn push_paths(
     alloc: Global,
     list: &[u8],
