@@ -14,5 +14,6 @@ pub mod RefusedLaws
 pub mod AtLayoutLaws
 pub mod BlockLaws
 pub mod FreeMapLaws
+pub mod CountLaws
 pub mod OneLayoutLaws
 pub mod WrittenLaws

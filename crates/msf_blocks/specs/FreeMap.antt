@@ -1,5 +1,5 @@
 -- The free block map in force ("The MSF File Format", "The Free Block Map").
-use Rattle.std.specs.Prelude.{ℕ, ◌+◌, ◌-◌, ◌*◌, ◌/◌, ◌%◌, ◌^◌, ◌==◌, ◌&&◌, nat_lt, min, Bool, List, map, slice_index, if◌then◌else◌}
+use Rattle.std.specs.Prelude.{ℕ, ◌+◌, ◌-◌, ◌*◌, ◌/◌, ◌%◌, ◌^◌, ◌==◌, ◌&&◌, nat_lt, min, Bool, count_by, List, map, slice_index, if◌then◌else◌}
 use Rattle.std.specs.List.{range_with_len}
 use lib.ListN.{replicate}
 use Rattle.msf_blocks.specs.Superblock.{Fields}
@@ -22,6 +22,10 @@ abbrev pub is_free : List ℕ → Fields → ℕ → Bool
 is_free file fields block =
     nat_lt (map_block_of fields block) fields.num_blocks
     && map_byte_of file fields block / 2 ^ (block % blocks_per_map_block fields % 8) % 2 == 1
+
+-- how many blocks of the file are free
+unfoldable pub free_blocks : List ℕ → Fields → ℕ
+free_blocks file fields = count_by (is_free file fields) (range_with_len 0 fields.num_blocks)
 
 -- ---- the map blocks of a file in which every block is in use
 

@@ -3,7 +3,7 @@
 
 ghost use Rattle.std.specs.Prelude.{◌≡◌, ◌⊎◌, ◌<◌, ◌≤◌, ◌+◌, ◌*◌, ◌/◌, ◌%◌, ◌^◌, ◌↔◌, length, IsTrue, IfSome, IfNone};
 ghost use Rattle.msf_blocks.specs.BlockNumber.{IsBlockSize};
-ghost use Rattle.msf_blocks.specs.FreeMap.{is_free, map_block_of, map_byte, map_block};
+ghost use Rattle.msf_blocks.specs.FreeMap.{free_blocks, is_free, map_block_of, map_byte, map_block};
 ghost use Rattle.msf_blocks.specs.Superblock.{HoldsBlocks};
 
 use crate::superblock::Superblock;
@@ -39,6 +39,25 @@ pub fn free_bit(file: &[u8], superblock: &Superblock, n: u32) -> Option<bool>
     let bit = n % per_map_block;
     let byte = map_block as usize * block_size as usize + (bit / 8) as usize;
     Some(is_set(file[byte], bit % 8))
+}
+
+/// How many blocks of the file are free, by the free block map in force. A block whose bit is in
+/// no map block of the file is not free.
+///
+/// This does not allocate, and takes time in proportion to the number of blocks. ("The MSF File
+/// Format", "The Free Block Map".)
+#[tactic(auto, using(crate::proofs::CountLaws::count_yes, crate::proofs::CountLaws::count_no), unfolding(crate::specs::FreeMap::free_blocks))]
+pub fn free_blocks(file: &[u8], superblock: &Superblock) -> u32
+    requires { HoldsBlocks file.now superblock.now }
+    ensures { result ≡ free_blocks file.now superblock.now }
+{
+    let mut free = 0;
+    for block in 0..superblock.num_blocks() {
+        if free_bit(file, superblock, block).unwrap_or(false) {
+            free += 1;
+        }
+    }
+    free
 }
 
 /// The byte of map 1 for the eight blocks that begin with block `first`. The bits of blocks of the

@@ -13,8 +13,8 @@
 //!   and [`blocks_for`] how many blocks hold a number of bytes.
 //! - [`superblock_bytes`], [`block_map_bytes`], [`directory_bytes`] and [`fill_map_block`] write the
 //!   parts of an image that are not streams.
-//! - [`nth_block`] and [`is_map_block`] tell map blocks from other blocks, and [`free_bit`] reads
-//!   the free block map in force.
+//! - [`nth_block`] and [`is_map_block`] tell map blocks from other blocks. [`free_bit`] reads the
+//!   free block map in force, and [`free_blocks`] counts the blocks that it says are free.
 //! - [`Sink`], [`Source`] and what belongs to them are those of the crate `byte_io`.
 //! - [`laws`] says what holds of every container: a file has at most one layout.
 //!
@@ -56,6 +56,6 @@ pub use blocks::read_blocks;
 pub use byte_io::{In, NotTaken, Out, Sink, Source, put_all};
 pub use directory::{block_map_bytes, directory_bytes};
 pub use fault::MsfFault;
-pub use free_map::{fill_map_block, free_bit};
+pub use free_map::{fill_map_block, free_bit, free_blocks};
 pub use layout::Layout;
 pub use superblock::{MAGIC, Superblock, superblock_bytes};

@@ -6,5 +6,4 @@ pub mod LayoutLaws
 pub mod MergeLaws
 pub mod ShowLaws
 pub mod ShownLaws
-pub mod StreamsLaws
 pub mod TypesLaws

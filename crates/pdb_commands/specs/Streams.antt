@@ -1,10 +1,9 @@
 -- What the command `streams` prints.
 use Rattle.std.specs.Prelude.{ℕ, ◌≡◌, ◌*◌, ◌/◌, ◌%◌, ◌^◌, ◌<◌, ◌==◌, ◌&&◌, nat_lt, slice_index, get_or, Bool, false, count_by, List, ◌++◌, length, Some}
-use Rattle.std.specs.List.{range_with_len}
 use Rattle.byte_fields.specs.Check.{first_failing}
 use Rattle.msf_blocks.specs.Superblock.{Fields}
 use Rattle.byte_io.specs.At.{AreGiven, Bytes, StandsAt}
-use Rattle.msf_blocks.specs.FreeMap.{is_free, map_block_of, blocks_per_map_block}
+use Rattle.msf_blocks.specs.FreeMap.{free_blocks, map_block_of, blocks_per_map_block}
 use Rattle.msf_blocks.specs.Layout.{LayoutView, HasLayout, layout_checks}
 use Rattle.pdb_merge.specs.Read.{IsLayoutFaultRead}
 use Rattle.pdb_merge.specs.declared.fault.PdbFault.{PdbFault}
@@ -12,10 +11,6 @@ use Rattle.pdb_merge.specs.declared.fault.PdbFault.TheVariants as pdb
 use Rattle.command_texts.specs.Streams.{container_with, stream_lines}
 use Rattle.pdb_commands.specs.declared.fault.RunFault.{RunFault}
 use Rattle.pdb_commands.specs.declared.fault.RunFault.TheVariants.{Pdb}
-
--- how many blocks of the file are free
-unfoldable pub free_blocks : List ℕ → Fields → ℕ
-free_blocks file fields = count_by (is_free file fields) (range_with_len 0 fields.num_blocks)
 
 -- the lines on the container
 abbrev pub container_lines : List ℕ → LayoutView → List ℕ

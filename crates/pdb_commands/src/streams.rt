@@ -3,46 +3,19 @@
 ghost use Rattle.std.specs.Prelude.{◌≡◌, ◌⊎◌, ◌*◌, ◌/◌, ◌%◌, ◌<◌, ◌≤◌, length, true, Some, IfOk, IfErr, IfSome, IfNone};
 ghost use Rattle.byte_io.specs.At.{Breaks, IfKnown};
 ghost use Rattle.msf_blocks.specs.BlockNumber.{IsBlockSize};
-ghost use Rattle.msf_blocks.specs.FreeMap.{is_free, map_block_of, blocks_per_map_block};
+ghost use Rattle.msf_blocks.specs.FreeMap.{free_blocks, is_free, map_block_of, blocks_per_map_block};
 ghost use Rattle.msf_blocks.specs.Layout.{HasLayout};
 ghost use Rattle.msf_blocks.specs.Superblock.{HoldsBlocks};
 ghost use Rattle.pdb_commands.specs.Show.{Answers, AnswersAt};
-ghost use Rattle.pdb_commands.specs.Streams.{HasLayoutFault, HasMap, IsFreeCount, IsMapGiven, IsMark, RefusesStreams, RefusesStreamsRead, ShowsStreams, ShowsStreamsRead, bit_of, free_blocks, is_free_by};
+ghost use Rattle.pdb_commands.specs.Streams.{HasLayoutFault, HasMap, IsFreeCount, IsMapGiven, IsMark, RefusesStreams, RefusesStreamsRead, ShowsStreams, ShowsStreamsRead, bit_of, is_free_by};
 
 use crate::command::{Show, ShowAt, run, run_at};
 use crate::fault::RunFault;
 use byte_io::{AtFault, ReadAt, Sink, Source};
 use command_texts::layout_text;
-use msf_blocks::{Layout, MsfFault, Superblock, free_bit};
-use msf_streams::Container;
+use msf_blocks::{Layout, MsfFault, Superblock, free_blocks};
 use pdb_merge::PdbFault;
 use std::alloc::Allocator;
-
-/// Whether a block of the file is free, by the map that the superblock names.
-fn is_free<A: Allocator>(container: &Container<'_, '_, A>, block: u32) -> bool
-    requires { block < container.now.layout.superblock.num_blocks }
-    ensures { result ≡ is_free container.now.file container.now.layout.superblock block }
-{
-    match free_bit(container.file(), container.layout().superblock(), block) {
-        Some(free) => free,
-        // No map block in the file has a bit for it.
-        None => false,
-    }
-}
-
-/// How many blocks of the file are free, by the map that the superblock names.
-#[tactic(auto, using(crate::proofs::StreamsLaws::count_yes, crate::proofs::StreamsLaws::count_no), unfolding(crate::specs::Streams::free_blocks))]
-fn free_blocks<A: Allocator>(container: &Container<'_, '_, A>) -> u32
-    ensures { result ≡ free_blocks container.now.file container.now.layout.superblock }
-{
-    let mut free = 0;
-    for block in 0..container.layout().superblock().num_blocks() {
-        if is_free(container, block) {
-            free += 1;
-        }
-    }
-    free
-}
 
 /// The number of the map block with the bit of a block.
 #[tactic(auto, using(msf_blocks::proofs::SizeLaws::size_facts))]
@@ -198,7 +171,7 @@ impl<A: Allocator + Copy> Show<A> for Streams {
 
     fn text(&self, alloc: A, file: &[u8]) -> Result<String<A>, RunFault<A>> {
         let layout = read_layout(alloc, file)?;
-        let free = free_blocks(&Container::new(file, &layout));
+        let free = free_blocks(file, layout.superblock());
         Ok(layout_text(alloc, free, &layout)?)
     }
 }

@@ -1,8 +1,7 @@
 use Rattle.std.proofs.Common.{◌∙◌, ◌+◌, sym, ap, arith}
-use Rattle.msf_blocks.specs.FreeMap.{is_free}
-use Rattle.pdb_commands.specs.Streams.{free_blocks}
+use Rattle.msf_blocks.specs.FreeMap.{free_blocks, is_free}
+use Rattle.msf_blocks.proofs.CountLaws.{count_yes, count_no, count_whole}
 use Rattle.pdb_commands.proofs.FreeLaws.{next_map, next_page, one_free, one_used}
-use Rattle.pdb_commands.proofs.StreamsLaws.{count_yes, count_no, count_whole}
 use Rattle.pdb_commands.proofs.streams.free_blocks_at.Goals as goal
 use Rattle.pdb_commands.proofs.streams.free_blocks_at.Goals.{then-branch, else-branch}
 
