@@ -75,15 +75,6 @@ pub fn push_names<A: Allocator>(text: &mut String<A>, names: &[Name<'_>]) -> Res
     Ok(())
 }
 
-/// How many bytes the names have together.
-pub fn names_length(names: &[Name<'_>]) -> usize {
-    let mut length = 0usize;
-    for name in names {
-        length = length.saturating_add(name.text.len());
-    }
-    length
-}
-
 /// Appends the lines of all feature codes.
 pub fn push_features<A: Allocator>(text: &mut String<A>, features: &[u32]) -> Result<(), AllocError>
     ensures { OnOk result

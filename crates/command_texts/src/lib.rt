@@ -4,11 +4,10 @@
 //! name and a number, or bytes in quotes. The others make what one command prints, or a part of it:
 //! [`record_text`], [`record_lines`], [`push_type_line`], [`layout_text`], [`push_checked`],
 //! [`push_difference`], and for `info` [`push_info_header`], [`push_names`] and [`push_features`].
-//! [`names_length`] says how many bytes `info` asks for before it appends the names.
 //!
 //! What is proved: if a call returns Ok, the text is the old text followed by the bytes that
 //! `specs/` defines for the values. The only fault is out of memory, and nothing is said of the
-//! text after it. Nothing is proved of the value of [`names_length`], and no text depends on it.
+//! text after it.
 //!
 //! Here nothing is read and nothing is refused. The crate `pdb_commands` does both.
 //!
@@ -42,7 +41,7 @@ mod types;
 
 pub use check::push_checked;
 pub use difference::{Scope, push_difference};
-pub use info::{names_length, push_features, push_info_header, push_names};
+pub use info::{push_features, push_info_header, push_names};
 pub use record::record_text;
 pub use records::record_lines;
 pub use streams::layout_text;

@@ -11,10 +11,10 @@ use crate::command::{Show, ShowAt, run, run_at};
 use crate::fault::RunFault;
 use crate::streams::read_layout;
 use byte_io::{AtFault, ReadAt, Sink, Source};
-use command_texts::{names_length, push_features, push_info_header, push_names};
+use command_texts::{push_features, push_info_header, push_names};
 use msf_blocks::{Layout, MsfFault};
 use msf_streams::{contents, gather_at};
-use pdb_info::info_stream;
+use pdb_info::{info_stream, names_length};
 use pdb_merge::PdbFault;
 use std::alloc::Allocator;
 

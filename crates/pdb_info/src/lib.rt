@@ -10,7 +10,8 @@
 //!
 //! - [`info_stream`] says which stream of a container is its info stream, if it has one.
 //! - [`InfoHeader::read`] reads the header alone: version, signature, age and GUID.
-//! - [`Info::read`] checks and reads the whole stream. The names are lent from the stream.
+//! - [`Info::read`] checks and reads the whole stream. The names are lent from the stream, and
+//!   [`names_length`] says how many bytes they have together.
 //! - [`info_bytes`] makes the info stream of a file that is written: a header with the age and the
 //!   GUID of its [`Settings`], no named stream and no feature code.
 //! - [`guid_bytes`] and [`guid_of`] convert between a GUID and the bytes that store it.
@@ -67,7 +68,7 @@ pub use fault::InfoFault;
 pub use guid::{guid_bytes, guid_of};
 pub use header::InfoHeader;
 pub use info::Info;
-pub use names::Name;
+pub use names::{Name, names_length};
 pub use settings::Settings;
 pub use stream::{INFO_STREAM, info_stream};
 pub use written::info_bytes;

@@ -1,6 +1,6 @@
 //! Streams with their names, and the feature codes after them.
 
-ghost use Rattle.std.specs.Prelude.{◌≡◌, ◌+◌, ◌*◌, ◌≤◌, true, length, map, IfOk, IfErr, None};
+ghost use Rattle.std.specs.Prelude.{◌≡◌, ◌+◌, ◌-◌, ◌*◌, ◌^◌, ◌≤◌, true, length, map, min, sum_by, IfOk, IfErr, None};
 ghost use Rattle.byte_fields.specs.Number.{number_at};
 ghost use Rattle.byte_fields.specs.Check.{first_failing, checks_below};
 ghost use Rattle.pdb_info.specs.Names.{IsMap, is_named, named_in, pair_at, pair_checks, pair_offset, pairs_offset, names_below, size_of, buffer_of, features_of, features_offset};
@@ -21,6 +21,18 @@ pub struct Name<'a> {
     pub text: &'a [u8],
     /// The number of the stream.
     pub stream: u32,
+}
+
+/// How many bytes the names have together: 2^64 - 1 where they have more. Names may share bytes of
+/// the buffer, and so have far more together than the info stream.
+pub fn names_length(names: &[Name<'_>]) -> usize
+    ensures { result ≡ min (2 ^ 64 - 1) (sum_by (λ name. length name.text.now) names.now) }
+{
+    let mut length = 0usize;
+    for name in names {
+        length = length.saturating_add(name.text.len());
+    }
+    length
 }
 
 impl NameMap {
