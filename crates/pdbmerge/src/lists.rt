@@ -40,7 +40,7 @@ pub fn read_list(rt: &HostRuntime, task: &mut Merging, is_verbose: bool) -> Resu
     let Some(list) = &task.list else {
         return Ok(());
     };
-    let bytes = bytes_of(rt, list, task.max_bytes)?;
+    let bytes = bytes_of(rt, list, task.max_bytes).map_err(Refusal::List)?;
     match push_paths(rt.alloc(), &bytes, list.end, &mut task.inputs) {
         Ok(()) => Ok(()),
         Err(ListFault::NotUtf8) => Err(Refusal::Line(not_utf8(is_verbose))),

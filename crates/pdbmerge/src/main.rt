@@ -1,8 +1,9 @@
 //! The command `pdbmerge`: merges the types of Program Database (PDB) files, and shows what files
 //! hold.
 //!
-//! `arguments` takes the arguments from the system. `lists` reads the list of more inputs, and `report` prints the report of a merge. `hold` keeps
-//! files off the numbers of the standard streams, and `refusal` prints why a command was refused.
+//! `arguments` takes the arguments from the system. `lists` reads the list of more inputs, and
+//! `report` prints the report of a merge. `hold` keeps files off the numbers of the standard
+//! streams, and `refusal` prints why a command was refused.
 //! The arguments are read by `command_line`, files are opened and created by `program_files`, and
 //! the commands are those of `pdb_commands`. This module joins these to the system: arguments, the
 //! standard streams and the exit status.

@@ -11,6 +11,8 @@ use std::process::ExitCode;
 pub enum Refusal {
     /// The arguments, or the paths of a list, can't be used.
     Line(LineFault),
+    /// The list of more inputs can't be read.
+    List(ProgramFault),
     /// The command was refused.
     Program(ProgramFault),
 }
@@ -61,27 +63,55 @@ fn inputs_of(task: &Task) -> &[String] {
     }
 }
 
-/// Prints which input a fault names, and where more is said of the fault.
-fn say_more<R: Eprint>(rt: &R, fault: &ProgramFault, task: &Task) -> io::Result<()> {
+/// Prints which input a fault names.
+fn name_input<R: Eprint>(rt: &R, fault: &ProgramFault, task: &Task) -> io::Result<()> {
     if let Some(file) = fault.file() {
         if let Some(path) = inputs_of(task).get(file) {
             eprintln!(rt; "file {file} is {path}")?;
         }
     }
+    Ok(())
+}
+
+/// Prints which file the list of more inputs is.
+fn name_list<R: Eprint>(rt: &R, task: &Task) -> io::Result<()> {
+    if let Task::Merge(task) = task {
+        if let Some(list) = &task.list {
+            eprintln!(rt; "LIST is {}", list.path)?;
+        }
+    }
+    Ok(())
+}
+
+/// Prints where more is said of a fault.
+fn name_page<R: Eprint>(rt: &R, fault: &ProgramFault) -> io::Result<()> {
     eprintln!(rt; "pdbmerge explain {} says more", fault.number())
+}
+
+/// Prints which file a refusal is about, and where more is said of the fault.
+fn say_more<R: Eprint>(rt: &R, refusal: &Refusal, task: &Task) -> io::Result<()> {
+    match refusal {
+        Refusal::Line(_) => Ok(()),
+        Refusal::List(fault) => {
+            name_list(rt, task)?;
+            name_page(rt, fault)
+        }
+        Refusal::Program(fault) => {
+            name_input(rt, fault, task)?;
+            name_page(rt, fault)
+        }
+    }
 }
 
 /// Prints why a command was refused, and more where the arguments ask for it. Returns the exit
 /// status.
 pub fn refuse<R: Print + Eprint>(rt: &R, refusal: &Refusal, line: &Line) -> ExitCode {
-    match refusal {
+    let status = match refusal {
         Refusal::Line(fault) => refuse_line(rt, fault),
-        Refusal::Program(fault) => {
-            let status = print_fault(rt, fault);
-            if line.is_verbose {
-                let _ = say_more(rt, fault, &line.task);
-            }
-            status
-        }
+        Refusal::List(fault) | Refusal::Program(fault) => print_fault(rt, fault),
+    };
+    if line.is_verbose {
+        let _ = say_more(rt, refusal, &line.task);
     }
+    status
 }
