@@ -38,7 +38,7 @@ extern "C" {
 /* What a call returns. */
 enum {
     PDBMERGE_OK = 0,
-    /* 1 to 31 and 34: the bytes are refused; `text` of the fault says why. */
+    /* 1 to 31 and 34: the bytes are refused. 39: there is no such record. `text` of the fault says why. */
     PDBMERGE_TOO_LARGE = 32, /* the types have more bytes together than the limit */
     PDBMERGE_MEMORY = 33,    /* malloc or realloc returned NULL */
     PDBMERGE_ROOM = 100,     /* there is too little room; the call says how much it takes */
@@ -86,6 +86,27 @@ typedef struct pdbmerge_identity {
 uint32_t pdbmerge_identify(const uint8_t *file, size_t length,
                            pdbmerge_identity *identity, pdbmerge_fault *fault);
 
+/* What the container of a file has. */
+typedef struct pdbmerge_container {
+    uint32_t block_size;      /* how many bytes a block has */
+    uint32_t blocks;          /* how many blocks the superblock counts */
+    uint32_t free_blocks;     /* how many of them are free, by the free block map in force */
+    uint32_t directory_bytes; /* how many bytes the stream directory has */
+    uint32_t streams;         /* how many streams it lists */
+} pdbmerge_container;
+
+/* Reads the container of a file, and lists the sizes of its streams in bytes, in the order of their
+ * numbers. A nil stream has size 0. `room` is how many sizes there is room for. `container` is written
+ * after PDBMERGE_OK and after PDBMERGE_ROOM. Faults, in order: 1 to 10; 33; 100. */
+uint32_t pdbmerge_layout(const uint8_t *file, size_t length, pdbmerge_container *container,
+                         uint32_t *sizes, size_t room, pdbmerge_fault *fault);
+
+/* Lists the numbers of the blocks of all streams, one stream after the other, each in the order of its
+ * bytes. A stream has as many blocks as its size needs, so the sizes of pdbmerge_layout tell the room.
+ * `count` is how many there are, also after PDBMERGE_ROOM. Faults, in order: 1 to 10; 33; 100. */
+uint32_t pdbmerge_blocks(const uint8_t *file, size_t length,
+                         uint32_t *blocks, size_t room, uint64_t *count, pdbmerge_fault *fault);
+
 /* What an accepted file has. */
 typedef struct pdbmerge_counts {
     uint32_t records; /* type records */
@@ -128,6 +149,23 @@ uint32_t pdbmerge_merge(const pdbmerge_slice *files, size_t count,
 uint32_t pdbmerge_stream(const uint8_t *file, size_t length, uint32_t stream,
                          uint8_t *out, size_t room, uint64_t *size, pdbmerge_fault *fault);
 
+/* Lists the numbers of the streams that have a name, in the order of the buckets of the named stream
+ * map. `stream` are the bytes of stream 1, as pdbmerge_stream copies them. `count` is how many there
+ * are, also after PDBMERGE_ROOM. Faults, in order: 12 to 15; 33; 100. */
+uint32_t pdbmerge_named_streams(const uint8_t *stream, size_t length,
+                                uint32_t *numbers, size_t room, uint64_t *count, pdbmerge_fault *fault);
+
+/* Copies the names of these streams to the front of `out`, in the same order, each with a NUL behind
+ * it. `size` is how many bytes they have together, also after PDBMERGE_ROOM. Names may share bytes of
+ * stream 1, and have far more together. Faults, in order: 12 to 15; 33; 100. */
+uint32_t pdbmerge_stream_names(const uint8_t *stream, size_t length,
+                               uint8_t *out, size_t room, uint64_t *size, pdbmerge_fault *fault);
+
+/* Lists the feature codes that end stream 1. `count` is how many there are, also after PDBMERGE_ROOM.
+ * Faults, in order: 12 to 15; 33; 100. */
+uint32_t pdbmerge_features(const uint8_t *stream, size_t length,
+                           uint32_t *features, size_t room, uint64_t *count, pdbmerge_fault *fault);
+
 /* Lists where each type record begins: offsets in the bytes of stream 2, as pdbmerge_stream copies
  * them. The records have the type indices 0x1000, 0x1001 and so on. A record begins with two bytes,
  * the lower one first, that say how many follow them; the next two are its kind. `room` is how many
@@ -135,6 +173,12 @@ uint32_t pdbmerge_stream(const uint8_t *file, size_t length, uint32_t stream,
  * Faults, in order: 16 to 24; 33; 100. */
 uint32_t pdbmerge_records(const uint8_t *stream, size_t length,
                           uint64_t *offsets, size_t room, uint64_t *count, pdbmerge_fault *fault);
+
+/* Finds where the record with this type index begins: its offset in the bytes of stream 2. This takes
+ * as long as pdbmerge_records, which finds all of them at once.
+ * Faults, in order: 16 to 24; 33; 39, where no record has the index. */
+uint32_t pdbmerge_record(const uint8_t *stream, size_t length, uint32_t index,
+                         uint64_t *offset, pdbmerge_fault *fault);
 
 /* A type that a record names. */
 typedef struct pdbmerge_reference {

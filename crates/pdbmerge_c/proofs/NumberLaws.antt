@@ -33,7 +33,7 @@ use Rattle.pdb_merge.specs.declared.fault.PdbFault.TheVariants as pdb
 abbrev pub IsKnown : ℕ → Type 0
 IsKnown number = (1 ≤ number) × (number < 100)
 
-msf_known : (fault : MsfFault) → IsKnown (msf_number fault)
+pub msf_known : (fault : MsfFault) → IsKnown (msf_number fault)
 msf_known msf.Short = (omega arith, omega arith)
 msf_known msf.Magic = (omega arith, omega arith)
 msf_known (msf.BlockSize _) = (omega arith, omega arith)
@@ -50,7 +50,7 @@ stream_known : (fault : StreamFault) → IsKnown (stream_number fault)
 stream_known (streams.NoStream _) = (omega arith, omega arith)
 stream_known streams.Memory = (omega arith, omega arith)
 
-info_known : (fault : InfoFault) → IsKnown (info_number fault)
+pub info_known : (fault : InfoFault) → IsKnown (info_number fault)
 info_known infos.InfoShort = (omega arith, omega arith)
 info_known (infos.NamesShort _) = (omega arith, omega arith)
 info_known (infos.NamesCount _ _) = (omega arith, omega arith)

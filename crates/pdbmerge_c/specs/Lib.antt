@@ -1,10 +1,13 @@
 pub mod Fault
 pub mod Given
 pub mod Identify
+pub mod Container
 pub mod Check
 pub mod Merge
 pub mod Stream
+pub mod Info
 pub mod Records
+pub mod Record
 pub mod References
 pub mod Name
 pub mod Diff

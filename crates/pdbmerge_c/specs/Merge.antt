@@ -19,12 +19,12 @@ use Rattle.pdbmerge_c.specs.Fault.{IsTold, input_code}
 use Rattle.pdbmerge_c.specs.Given.{Fills}
 
 -- the bytes of the files
-abbrev pub bytes_of : List (Bor (List ℕ)) → List (List ℕ)
-bytes_of files = map (λ file. file.now) files
+abbrev pub bytes_of_files : List (Bor (List ℕ)) → List (List ℕ)
+bytes_of_files files = map (λ file. file.now) files
 
 -- what reading each of them gives: its bytes
 abbrev pub inputs_of : List (Bor (List ℕ)) → Option (List (Result (List ℕ) InputFault))
-inputs_of files = Some (map Ok (bytes_of files))
+inputs_of files = Some (map Ok (bytes_of_files files))
 
 -- a file can have these settings
 abbrev pub AreAllowed : Choices → Type 0
@@ -37,9 +37,9 @@ settings_of choices = record { guid = choices.guid; age = choices.age; limit = c
 -- this is the file of the types of the files, and the report says how many types it has, how many bytes they have together, and how long it is
 pub record IsReported (files : List (Bor (List ℕ))) (choices : Choices) (report : Report) (file : List ℕ) : Type 0 where
   pub records : List (List ℕ)
-  pub is_file : IsFileOf (bytes_of files) (settings_of choices) file records
+  pub is_file : IsFileOf (bytes_of_files files) (settings_of choices) file records
   pub types : report.types ≡ length records
-  pub bytes : Weighs (HasType (bytes_of files)) report.bytes
+  pub bytes : Weighs (HasType (bytes_of_files files)) report.bytes
   pub long : report.length ≡ length file
 
 -- that file is at the front of `out`

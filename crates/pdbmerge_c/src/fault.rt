@@ -12,6 +12,9 @@ pub(crate) const DONE: u32 = 0;
 /// Out of memory.
 pub(crate) const MEMORY: u32 = 33;
 
+/// No record has the type index that is asked for.
+pub(crate) const NO_RECORD: u32 = 39;
+
 /// There is too little room for the answer.
 pub(crate) const ROOM: u32 = 100;
 

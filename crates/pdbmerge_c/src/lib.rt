@@ -11,9 +11,13 @@
 //! - `pdbmerge_identify` reads what identifies a file, an [`Identity`].
 //! - `pdbmerge_check` says whether the types of a file can be trusted, with [`Counts`].
 //! - `pdbmerge_merge` writes one file with the types of several, by [`Choices`], and a [`Report`].
-//! - `pdbmerge_stream` copies a stream of a file, and `pdbmerge_records` lists where the records in
-//!   it begin. `pdbmerge_references` lists the types that a record names, each a [`Reference`], and
-//!   `pdbmerge_name` copies the name of its type.
+//! - `pdbmerge_layout` reads the container of a file, a [`ContainerCounts`] and the sizes of its streams,
+//!   and `pdbmerge_blocks` lists the blocks of these streams. `pdbmerge_stream` copies a stream.
+//! - `pdbmerge_named_streams`, `pdbmerge_stream_names` and `pdbmerge_features` list what stream 1
+//!   says of streams and features.
+//! - `pdbmerge_records` lists where the records of stream 2 begin, and `pdbmerge_record` finds one
+//!   by its type index. `pdbmerge_references` lists the types that a record names, each a
+//!   [`Reference`], and `pdbmerge_name` copies the name of its type.
 //! - `pdbmerge_diff` lists the types that only one of two files has, each a [`OneSided`].
 //!
 //! What is proved: the contract of each call says what it answers for all bytes. That of
@@ -27,6 +31,8 @@ mod diff;
 mod fault;
 mod give;
 mod identify;
+mod info;
+mod layout;
 mod merge;
 mod name;
 mod records;
@@ -42,6 +48,7 @@ pub use check::Counts;
 pub use diff::OneSided;
 pub use fault::Fault;
 pub use identify::Identity;
+pub use layout::ContainerCounts;
 pub use merge::{Choices, Report};
 pub use references::Reference;
 pub use seed::Seed;

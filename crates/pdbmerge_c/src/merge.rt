@@ -6,7 +6,7 @@ ghost use Rattle.pdb_info.specs.Settings.{SettingsView, record_limit};
 ghost use Rattle.pdb_merge.specs.Merged.{Wrote};
 ghost use Rattle.pdb_merge.specs.Union.{CanMerge};
 ghost use Rattle.pdbmerge_c.specs.Fault.{IsSaid};
-ghost use Rattle.pdbmerge_c.specs.Merge.{AreAllowed, IsRefusal, Merges, LacksRoom, RefusesMerge, bytes_of, inputs_of, settings_of};
+ghost use Rattle.pdbmerge_c.specs.Merge.{AreAllowed, IsRefusal, Merges, LacksRoom, RefusesMerge, bytes_of_files, inputs_of, settings_of};
 
 use crate::fault::{Fault, MEMORY, SETTINGS, refuse, tell};
 use crate::give::give;
@@ -69,7 +69,7 @@ fn merge_in_memory(
     seed: &Seed,
 ) -> Result<Merged, OutFault>
     ensures value { IfOk result (λ merged.
-        Wrote (bytes_of files.now) settings.now (Some [])
+        Wrote (bytes_of_files files.now) settings.now (Some [])
         (⟦<Out<Vec<u8>> as Sink>⟧.taken merged.file) merged.summary) }
     ensures refuses { IfErr result (IsRefusal files.now settings.now) }
 {
@@ -90,7 +90,7 @@ fn refuse_merge(fault: &mut Fault, why: &OutFault) -> u32
     ensures settings { result ≢ 101 }
     ensures found { (files : List (Bor (List ℕ))) (settings : SettingsView) →
         IsRefusal files settings why.now →
-        CanMerge (bytes_of files) (record_limit settings) → result ≡ 33 }
+        CanMerge (bytes_of_files files) (record_limit settings) → result ≡ 33 }
     ensures refuses { (files : List (Bor (List ℕ))) (settings : SettingsView) →
         IsRefusal files settings why.now → RefusesMerge files settings fault.new }
 {
@@ -124,7 +124,7 @@ pub extern "C" fn pdbmerge_merge(
         RefusesMerge files.now (settings_of choices.now) fault.new }
     // Files that can be merged are refused only when out of memory or of room.
     ensures found { AreAllowed choices.now →
-        CanMerge (bytes_of files.now) (record_limit (settings_of choices.now)) →
+        CanMerge (bytes_of_files files.now) (record_limit (settings_of choices.now)) →
         (result ≡ 0) ⊎ (result ≡ 33) ⊎ (result ≡ 100) }
     ensures untouched { result ≢ 0 → out.new ≡ out.old }
     ensures kept { result ≢ 0 → result ≢ 100 → report.new ≡ report.old }

@@ -14,12 +14,17 @@ void *__wrap_malloc(size_t size);
 void *__wrap_realloc(void *block, size_t size);
 void __wrap_free(void *block);
 
+/* The room for each list of numbers. */
+enum { NUMBERS = 1 << 12 };
+
 /* All that the calls write but their faults. */
 struct results {
     pdbmerge_identity identity;
+    pdbmerge_container container;
     pdbmerge_counts counts;
     pdbmerge_report report;
     uint64_t size;
+    uint32_t numbers[NUMBERS];
     uint64_t offsets[1 << 12];
     pdbmerge_reference references[1 << 8];
     pdbmerge_difference differences[1 << 12];
@@ -56,6 +61,18 @@ static uint32_t run_identify(struct results *to, pdbmerge_fault *fault) {
     return pdbmerge_identify(files[0].bytes, files[0].length, &to->identity, fault);
 }
 
+static uint32_t run_layout(struct results *to, pdbmerge_fault *fault) {
+    return pdbmerge_layout(files[0].bytes, files[0].length, &to->container, to->numbers, NUMBERS, fault);
+}
+
+static uint32_t run_layout_room(struct results *to, pdbmerge_fault *fault) {
+    return pdbmerge_layout(files[0].bytes, files[0].length, &to->container, to->numbers, 0, fault);
+}
+
+static uint32_t run_blocks(struct results *to, pdbmerge_fault *fault) {
+    return pdbmerge_blocks(files[0].bytes, files[0].length, to->numbers, NUMBERS, &to->size, fault);
+}
+
 static uint32_t run_check(struct results *to, pdbmerge_fault *fault) {
     return pdbmerge_check(files[0].bytes, files[0].length, &to->counts, fault);
 }
@@ -81,8 +98,13 @@ static uint32_t run_merge_room(struct results *to, pdbmerge_fault *fault) {
     return merge(2, 0, to, fault);
 }
 
+static uint32_t stream_of(uint32_t number, struct results *to, pdbmerge_fault *fault) {
+    return pdbmerge_stream(files[0].bytes, files[0].length, number,
+                           to->out, sizeof to->out, &to->size, fault);
+}
+
 static uint32_t run_stream(struct results *to, pdbmerge_fault *fault) {
-    return pdbmerge_stream(files[0].bytes, files[0].length, 2, to->out, sizeof to->out, &to->size, fault);
+    return stream_of(2, to, fault);
 }
 
 static uint32_t diff(const pdbmerge_slice *second, struct results *to, pdbmerge_fault *fault) {
@@ -99,8 +121,28 @@ static uint32_t run_diff_refused(struct results *to, pdbmerge_fault *fault) {
     return diff(&files[2], to, fault);
 }
 
-/* Stream 2 of the first file. */
-static pdbmerge_slice stream;
+/* Stream 1 and stream 2 of the first file. */
+static pdbmerge_slice info, stream;
+
+static uint32_t run_named_streams(struct results *to, pdbmerge_fault *fault) {
+    return pdbmerge_named_streams(info.bytes, info.length, to->numbers, NUMBERS, &to->size, fault);
+}
+
+static uint32_t run_stream_names(struct results *to, pdbmerge_fault *fault) {
+    return pdbmerge_stream_names(info.bytes, info.length, to->out, sizeof to->out, &to->size, fault);
+}
+
+static uint32_t run_features(struct results *to, pdbmerge_fault *fault) {
+    return pdbmerge_features(info.bytes, info.length, to->numbers, NUMBERS, &to->size, fault);
+}
+
+static uint32_t run_record(struct results *to, pdbmerge_fault *fault) {
+    return pdbmerge_record(stream.bytes, stream.length, 0x1001, &to->size, fault);
+}
+
+static uint32_t run_no_record(struct results *to, pdbmerge_fault *fault) {
+    return pdbmerge_record(stream.bytes, stream.length, 0xfff, &to->size, fault);
+}
 
 static uint32_t run_records(struct results *to, pdbmerge_fault *fault) {
     return pdbmerge_records(stream.bytes, stream.length,
@@ -126,13 +168,21 @@ static const struct call {
     uint32_t number; /* the right answer */
 } CALLS[] = {
     {"identify", run_identify, PDBMERGE_OK},
+    {"layout", run_layout, PDBMERGE_OK},
+    {"layout without room", run_layout_room, PDBMERGE_ROOM},
+    {"blocks", run_blocks, PDBMERGE_OK},
     {"check", run_check, PDBMERGE_OK},
     {"check of a refused file", run_check_refused, 34},
     {"merge", run_merge, PDBMERGE_OK},
     {"merge of a refused file", run_merge_refused, 34},
     {"merge without room", run_merge_room, PDBMERGE_ROOM},
     {"stream", run_stream, PDBMERGE_OK},
+    {"named streams", run_named_streams, PDBMERGE_OK},
+    {"stream names", run_stream_names, PDBMERGE_OK},
+    {"features", run_features, PDBMERGE_OK},
     {"records", run_records, PDBMERGE_OK},
+    {"record", run_record, PDBMERGE_OK},
+    {"record that is not there", run_no_record, 39},
     {"references", run_references, PDBMERGE_OK},
     {"name", run_name, PDBMERGE_OK},
     {"diff", run_diff, PDBMERGE_OK},
@@ -185,17 +235,23 @@ static long fail_each(const struct call *call) {
     return refused;
 }
 
-int main(int argc, char **argv) {
+/* A stream of the first file. */
+static pdbmerge_slice copy_of(uint32_t number) {
     static struct results results;
     pdbmerge_fault fault;
+    hold("a stream of the first file", stream_of(number, &results, &fault), PDBMERGE_OK);
+    pdbmerge_slice copy = {memcpy(allocate(results.size), results.out, results.size), results.size};
+    return copy;
+}
+
+int main(int argc, char **argv) {
     long refused = 0;
     if (argc != 4)
         return 2;
     for (int at = 0; at < 3; at++)
         files[at] = read_file(argv[at + 1]);
-    run_stream(&results, &fault);
-    stream.bytes = memcpy(allocate(results.size), results.out, results.size);
-    stream.length = results.size;
+    info = copy_of(1);
+    stream = copy_of(2);
     for (size_t at = 0; at < sizeof CALLS / sizeof *CALLS; at++)
         refused += fail_each(&CALLS[at]);
     hold("some call was refused memory", refused > 0, 1);

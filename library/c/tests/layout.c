@@ -32,6 +32,12 @@ static void print_common(void) {
     FIELD(pdbmerge_identity, guid, 0);
     FIELD(pdbmerge_identity, age, 16);
     FIELD(pdbmerge_identity, block_size, 20);
+    SIZE(pdbmerge_container, 20);
+    FIELD(pdbmerge_container, block_size, 0);
+    FIELD(pdbmerge_container, blocks, 4);
+    FIELD(pdbmerge_container, free_blocks, 8);
+    FIELD(pdbmerge_container, directory_bytes, 12);
+    FIELD(pdbmerge_container, streams, 16);
     SIZE(pdbmerge_counts, 12);
     FIELD(pdbmerge_counts, records, 0);
     FIELD(pdbmerge_counts, bytes, 4);

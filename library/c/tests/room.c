@@ -1,8 +1,10 @@
-/* Room that is too small, NULL for what has no bytes, settings that no file can have, and the texts
- * of faults.
+/* Room that is too small, NULL for what has no bytes, type indices that no record has, settings that
+ * no file can have, and the texts of faults.
  *
- * usage: room FIRST SECOND CYCLE COUNT, two files that differ in their types, and one whose records
- *        0x1000 and so on, as many as COUNT says, each name themselves */
+ * usage: room FIRST SECOND CYCLE COUNT EMPTY, two files that differ in their types, of which the first
+ *        has named streams and feature codes; one whose records 0x1000 and so on, as many as COUNT
+ *        says, each name themselves; and one of 5 blocks of 4096 bytes, none of them free, without
+ *        streams */
 #include "checks.h"
 
 enum {
@@ -12,15 +14,46 @@ enum {
     MORE = 64             /* memory behind the room of a call */
 };
 
-static pdbmerge_slice first, second, cycle, stream;
+static pdbmerge_slice first, second, cycle, empty;
+/* Stream 1 and stream 2 of the first file. */
+static pdbmerge_slice info, stream;
 static unsigned long cycles;
 
 /* ---- Room */
 
 typedef uint32_t given_room(void *out, size_t room, uint64_t *size, pdbmerge_fault *fault);
 
+/* The container is looked at as well: that of a call with enough room. */
+static uint32_t into_layout(void *out, size_t room, uint64_t *size, pdbmerge_fault *fault) {
+    static pdbmerge_container whole;
+    pdbmerge_container container;
+    memset(&container, PATTERN, sizeof container);
+    uint32_t number = pdbmerge_layout(first.bytes, first.length, &container, out, room, fault);
+    if (whole.block_size == 0)
+        whole = container;
+    hold("the container", memcmp(&container, &whole, sizeof whole) == 0, 1);
+    *size = container.streams;
+    return number;
+}
+
+static uint32_t into_blocks(void *out, size_t room, uint64_t *size, pdbmerge_fault *fault) {
+    return pdbmerge_blocks(first.bytes, first.length, out, room, size, fault);
+}
+
 static uint32_t into_stream(void *out, size_t room, uint64_t *size, pdbmerge_fault *fault) {
     return pdbmerge_stream(first.bytes, first.length, 2, out, room, size, fault);
+}
+
+static uint32_t into_named_streams(void *out, size_t room, uint64_t *size, pdbmerge_fault *fault) {
+    return pdbmerge_named_streams(info.bytes, info.length, out, room, size, fault);
+}
+
+static uint32_t into_stream_names(void *out, size_t room, uint64_t *size, pdbmerge_fault *fault) {
+    return pdbmerge_stream_names(info.bytes, info.length, out, room, size, fault);
+}
+
+static uint32_t into_features(void *out, size_t room, uint64_t *size, pdbmerge_fault *fault) {
+    return pdbmerge_features(info.bytes, info.length, out, room, size, fault);
 }
 
 static uint32_t into_records(void *out, size_t room, uint64_t *size, pdbmerge_fault *fault) {
@@ -63,7 +96,12 @@ static const struct row {
     given_room *call;
     size_t item;
 } ROWS[] = {
+    {"layout", into_layout, sizeof(uint32_t)},
+    {"blocks", into_blocks, sizeof(uint32_t)},
     {"stream", into_stream, 1},
+    {"named streams", into_named_streams, sizeof(uint32_t)},
+    {"stream names", into_stream_names, 1},
+    {"features", into_features, sizeof(uint32_t)},
     {"records", into_records, sizeof(uint64_t)},
     {"references", into_references, sizeof(pdbmerge_reference)},
     {"name", into_name, 1},
@@ -117,6 +155,38 @@ static void hold_rooms(const struct row *row) {
     free(same);
 }
 
+/* ---- Records by their type indices */
+
+/* An index that no record of a type stream has. */
+static void hold_no_record(pdbmerge_slice types, uint32_t index) {
+    pdbmerge_fault fault;
+    uint64_t offset = 7;
+    char text[32];
+    sprintf(text, "39 NoRecord 0x%x", (unsigned)index);
+    hold(text, pdbmerge_record(types.bytes, types.length, index, &offset, &fault), 39);
+    hold_fault(text, &fault, 39, text);
+    hold("offset is as before", offset, 7);
+}
+
+/* Each record is found where the list says that it begins, and there are no others. */
+static void hold_records(void) {
+    pdbmerge_fault fault;
+    size_t most = stream.length / 4; /* a record has at least four bytes */
+    uint64_t *offsets = allocate(most * sizeof *offsets), count = 0, offset = 0;
+    hold("the list", into_records(offsets, most, &count, &fault), PDBMERGE_OK);
+    for (uint32_t at = 0; at < count; at++) {
+        uint32_t number = pdbmerge_record(stream.bytes, stream.length, 0x1000 + at, &offset, &fault);
+        hold("a record by its index", number, PDBMERGE_OK);
+        hold_fault("a record by its index", &fault, PDBMERGE_OK, "");
+        hold("where it begins", offset, offsets[at]);
+    }
+    hold_no_record(stream, 0);
+    hold_no_record(stream, 0xfff);
+    hold_no_record(stream, 0x1000 + (uint32_t)count);
+    hold_no_record(stream, UINT32_MAX);
+    free(offsets);
+}
+
 /* ---- NULL for what has no bytes */
 
 /* A fault that belongs to an input. */
@@ -129,20 +199,40 @@ static void hold_input(const pdbmerge_fault *fault, uint64_t input, const char *
 static void hold_null_files(void) {
     pdbmerge_fault fault;
     pdbmerge_identity identity;
+    pdbmerge_container container;
     pdbmerge_counts counts;
-    uint64_t size = 7;
     memset(&identity, PATTERN, sizeof identity);
+    memset(&container, PATTERN, sizeof container);
     memset(&counts, PATTERN, sizeof counts);
     hold("identify of NULL", pdbmerge_identify(NULL, 0, &identity, &fault), 1);
     hold_fault("identify of NULL", &fault, 1, "1 Short");
     hold("identity is as before", is_untouched((uint8_t *)&identity, 0, sizeof identity), 1);
+    hold("layout of NULL", pdbmerge_layout(NULL, 0, &container, NULL, 0, &fault), 1);
+    hold_fault("layout of NULL", &fault, 1, "1 Short");
+    hold("container is as before", is_untouched((uint8_t *)&container, 0, sizeof container), 1);
     hold("check of NULL", pdbmerge_check(NULL, 0, &counts, &fault), 1);
     hold_fault("check of NULL", &fault, 1, "1 Short");
     hold("counts are as before", is_untouched((uint8_t *)&counts, 0, sizeof counts), 1);
+}
+
+/* The calls that list or copy something, or find an offset. */
+static void hold_null_lists(void) {
+    pdbmerge_fault fault;
+    uint64_t size = 7;
+    hold("blocks of NULL", pdbmerge_blocks(NULL, 0, NULL, 0, &size, &fault), 1);
+    hold_fault("blocks of NULL", &fault, 1, "1 Short");
     hold("stream of NULL", pdbmerge_stream(NULL, 0, 0, NULL, 0, &size, &fault), 1);
     hold_fault("stream of NULL", &fault, 1, "1 Short");
+    hold("named streams of NULL", pdbmerge_named_streams(NULL, 0, NULL, 0, &size, &fault), 12);
+    hold_fault("named streams of NULL", &fault, 12, "12 InfoShort");
+    hold("stream names of NULL", pdbmerge_stream_names(NULL, 0, NULL, 0, &size, &fault), 12);
+    hold_fault("stream names of NULL", &fault, 12, "12 InfoShort");
+    hold("features of NULL", pdbmerge_features(NULL, 0, NULL, 0, &size, &fault), 12);
+    hold_fault("features of NULL", &fault, 12, "12 InfoShort");
     hold("records of NULL", pdbmerge_records(NULL, 0, NULL, 0, &size, &fault), 16);
     hold_fault("records of NULL", &fault, 16, "16 TpiShort");
+    hold("record of NULL", pdbmerge_record(NULL, 0, 0x1000, &size, &fault), 16);
+    hold_fault("record of NULL", &fault, 16, "16 TpiShort");
     hold("references of NULL", pdbmerge_references(NULL, 0, 0x1234, NULL, 0, &size, &fault), 22);
     hold_fault("references of NULL", &fault, 22, "22 RecordShort index 0x1234");
     hold("name of NULL", pdbmerge_name(NULL, 0, 0x1234, NULL, 0, &size, &fault), 22);
@@ -167,6 +257,40 @@ static void hold_null_pairs(void) {
     hold("count of no differences", count, 0);
 }
 
+/* A file without streams has neither sizes nor blocks. */
+static void hold_no_streams(void) {
+    static const pdbmerge_container wanted = {4096, 5, 0, 4, 0};
+    pdbmerge_fault fault;
+    pdbmerge_container container;
+    uint64_t count = 7;
+    memset(&container, PATTERN, sizeof container);
+    uint32_t number = pdbmerge_layout(empty.bytes, empty.length, &container, NULL, 0, &fault);
+    hold("layout of no streams", number, PDBMERGE_OK);
+    hold("their container", memcmp(&container, &wanted, sizeof wanted) == 0, 1);
+    number = pdbmerge_blocks(empty.bytes, empty.length, NULL, 0, &count, &fault);
+    hold("blocks of no streams", number, PDBMERGE_OK);
+    hold("how many they are", count, 0);
+}
+
+/* A stream 1 with neither named streams nor feature codes. */
+static void hold_no_names(void) {
+    static const uint32_t words[13] = {20000404, 0, 1, 0, 0, 0, 0, 0, 0, 8, 0, 0, 0};
+    const uint8_t *plain = (const uint8_t *)words;
+    pdbmerge_fault fault;
+    uint64_t size = 7;
+    uint32_t number = pdbmerge_named_streams(plain, sizeof words, NULL, 0, &size, &fault);
+    hold("no named streams", number, PDBMERGE_OK);
+    hold("how many they are", size, 0);
+    size = 7;
+    number = pdbmerge_stream_names(plain, sizeof words, NULL, 0, &size, &fault);
+    hold("no stream names", number, PDBMERGE_OK);
+    hold("how many bytes they have", size, 0);
+    size = 7;
+    number = pdbmerge_features(plain, sizeof words, NULL, 0, &size, &fault);
+    hold("no features", number, PDBMERGE_OK);
+    hold("how many they are", size, 0);
+}
+
 /* Streams and records that have nothing to list. */
 static void hold_null_room(void) {
     static const uint32_t header[HEADER / 4] = {20040203, HEADER, 0x1000, 0x1000};
@@ -180,6 +304,7 @@ static void hold_null_room(void) {
     number = pdbmerge_records((const uint8_t *)header, HEADER, NULL, 0, &size, &fault);
     hold("a type stream without records", number, PDBMERGE_OK);
     hold("how many they are", size, 0);
+    hold_no_record((pdbmerge_slice){(const uint8_t *)header, HEADER}, 0x1000);
     size = 7;
     number = pdbmerge_references(label, sizeof label, 0x1000, NULL, 0, &size, &fault);
     hold("a record that names nothing", number, PDBMERGE_OK);
@@ -281,24 +406,36 @@ static void hold_long_texts(void) {
     hold_long_text("merge of cycles", &fault, "file 1: ");
 }
 
+/* A stream of the first file. */
+static pdbmerge_slice copy_of(uint32_t number) {
+    pdbmerge_fault fault;
+    uint64_t length = 0;
+    uint8_t *copy = allocate(first.length);
+    uint32_t answer = pdbmerge_stream(first.bytes, first.length, number, copy, first.length, &length, &fault);
+    hold("a stream of the first file", answer, PDBMERGE_OK);
+    return (pdbmerge_slice){copy, length};
+}
+
 int main(int argc, char **argv) {
-    if (argc != 5)
+    if (argc != 6)
         return 2;
     first = read_file(argv[1]);
     second = read_file(argv[2]);
     cycle = read_file(argv[3]);
     cycles = strtoul(argv[4], NULL, 10);
-    uint8_t *copy = allocate(first.length);
-    uint64_t length = 0;
-    pdbmerge_fault fault;
-    hold("stream 2 of the first file", into_stream(copy, first.length, &length, &fault), PDBMERGE_OK);
-    stream = (pdbmerge_slice){copy, length};
+    empty = read_file(argv[5]);
+    info = copy_of(1);
+    stream = copy_of(2);
     if (wrong != 0)
         return finish("room");
     for (size_t at = 0; at < sizeof ROWS / sizeof *ROWS; at++)
         hold_rooms(&ROWS[at]);
+    hold_records();
     hold_null_files();
+    hold_null_lists();
     hold_null_pairs();
+    hold_no_streams();
+    hold_no_names();
     hold_null_room();
     hold_merges();
     hold_settings();

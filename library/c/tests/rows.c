@@ -3,9 +3,8 @@
  *
  * usage: rows COMMAND WORD.., with the words of the program
  *
- * Three answers differ. `streams` prints nothing, since no call tells the blocks of a stream; but it
- * refuses what the program refuses. `info` prints neither named streams nor features, which no call
- * reads. `record` knows no fault 39, which is the program's own. */
+ * It answers every row of the tables of examples/. The status is 2 where a call gives more block
+ * numbers, or more bytes of names, than the streams have. */
 #include "checks.h"
 
 enum {
@@ -35,10 +34,29 @@ struct line {
     const char **words; /* those that belong to no option */
 };
 
+/* Numbers that a call lists. */
+struct numbers {
+    const uint32_t *items;
+    uint64_t count;
+};
+
+/* The container of a file, and the sizes and the blocks of its streams. */
+struct layout {
+    pdbmerge_container container;
+    const uint32_t *sizes;
+    struct numbers blocks;
+};
+
+/* The streams that have a name, and their names, each with a NUL behind it. */
+struct names {
+    struct numbers streams;
+    const uint8_t *texts;
+    uint64_t size;
+};
+
 /* Stream 2 of a file, and where its records begin. */
 struct types {
-    const uint8_t *stream;
-    uint64_t length;
+    pdbmerge_slice stream;
     const uint64_t *offsets;
     uint64_t count;
 };
@@ -57,44 +75,92 @@ static pdbmerge_fault fault;
 
 /* ---- Reading by the calls. Each returns the number of the fault. */
 
-static uint32_t read_stream(pdbmerge_slice file, uint32_t number, const uint8_t **bytes, uint64_t *length) {
-    uint32_t answer = pdbmerge_stream(file.bytes, file.length, number, NULL, 0, length, &fault);
-    if (answer != PDBMERGE_OK && answer != PDBMERGE_ROOM)
+/* Whether an answer says how much room to give. */
+static int is_sized(uint32_t answer) {
+    return answer == PDBMERGE_OK || answer == PDBMERGE_ROOM;
+}
+
+/* A call that lists numbers of some bytes: of a file, or of a stream. */
+typedef uint32_t listing(const uint8_t *, size_t, uint32_t *, size_t, uint64_t *, pdbmerge_fault *);
+
+static uint32_t list(listing *call, pdbmerge_slice of, struct numbers *numbers) {
+    uint32_t answer = call(of.bytes, of.length, NULL, 0, &numbers->count, &fault);
+    if (!is_sized(answer))
         return answer;
-    uint8_t *room = ALLOCATE(uint8_t, *length);
-    *bytes = room;
-    return pdbmerge_stream(file.bytes, file.length, number, room, *length, length, &fault);
+    uint32_t *room = ALLOCATE(uint32_t, numbers->count);
+    numbers->items = room;
+    return call(of.bytes, of.length, room, numbers->count, &numbers->count, &fault);
+}
+
+static uint32_t read_layout(pdbmerge_slice file, struct layout *layout) {
+    pdbmerge_container *container = &layout->container;
+    uint32_t answer = pdbmerge_layout(file.bytes, file.length, container, NULL, 0, &fault);
+    if (!is_sized(answer))
+        return answer;
+    uint32_t *room = ALLOCATE(uint32_t, container->streams);
+    layout->sizes = room;
+    answer = pdbmerge_layout(file.bytes, file.length, container, room, container->streams, &fault);
+    return answer != PDBMERGE_OK ? answer : list(pdbmerge_blocks, file, &layout->blocks);
+}
+
+static uint32_t read_stream(pdbmerge_slice file, uint32_t number, pdbmerge_slice *stream) {
+    uint64_t length;
+    uint32_t answer = pdbmerge_stream(file.bytes, file.length, number, NULL, 0, &length, &fault);
+    if (!is_sized(answer))
+        return answer;
+    uint8_t *room = ALLOCATE(uint8_t, length);
+    stream->bytes = room;
+    stream->length = length;
+    return pdbmerge_stream(file.bytes, file.length, number, room, length, &length, &fault);
+}
+
+static uint32_t read_names(pdbmerge_slice stream, struct names *names) {
+    uint32_t answer = list(pdbmerge_named_streams, stream, &names->streams);
+    if (answer != PDBMERGE_OK)
+        return answer;
+    answer = pdbmerge_stream_names(stream.bytes, stream.length, NULL, 0, &names->size, &fault);
+    if (!is_sized(answer))
+        return answer;
+    uint8_t *room = ALLOCATE(uint8_t, names->size);
+    names->texts = room;
+    return pdbmerge_stream_names(stream.bytes, stream.length, room, names->size, &names->size, &fault);
 }
 
 static uint32_t read_types(pdbmerge_slice file, struct types *types) {
-    uint32_t answer = read_stream(file, 2, &types->stream, &types->length);
+    pdbmerge_slice *stream = &types->stream;
+    uint32_t answer = read_stream(file, 2, stream);
     if (answer != PDBMERGE_OK)
         return answer;
-    answer = pdbmerge_records(types->stream, types->length, NULL, 0, &types->count, &fault);
-    if (answer != PDBMERGE_OK && answer != PDBMERGE_ROOM)
+    answer = pdbmerge_records(stream->bytes, stream->length, NULL, 0, &types->count, &fault);
+    if (!is_sized(answer))
         return answer;
     uint64_t *room = ALLOCATE(uint64_t, types->count);
     types->offsets = room;
-    return pdbmerge_records(types->stream, types->length, room, types->count, &types->count, &fault);
+    return pdbmerge_records(stream->bytes, stream->length, room, types->count, &types->count, &fault);
 }
 
-/* The bytes of the record at a position, without what it names. */
-static void find_record(const struct types *types, uint64_t at, struct record *record) {
-    record->bytes = types->stream + types->offsets[at];
+/* The bytes of the record at an offset of stream 2, without what it names. */
+static void find_record(pdbmerge_slice stream, uint64_t offset, unsigned index, struct record *record) {
+    record->bytes = stream.bytes + offset;
     record->size = 2 + record->bytes[0] + 256u * record->bytes[1];
     record->kind = record->bytes[2] + 256u * record->bytes[3];
-    record->index = FIRST + (unsigned)at;
+    record->index = index;
 }
 
-static uint32_t read_record(const struct types *types, uint64_t at, struct record *record) {
-    find_record(types, at, record);
-    uint64_t left = types->length - types->offsets[at];
-    uint32_t answer = pdbmerge_references(record->bytes, left, record->index,
+static uint32_t read_record(pdbmerge_slice stream, uint64_t offset, unsigned index, struct record *record) {
+    find_record(stream, offset, index, record);
+    uint64_t left = stream.length - offset;
+    uint32_t answer = pdbmerge_references(record->bytes, left, index,
                                           record->references, MOST_NAMED, &record->named, &fault);
     if (answer != PDBMERGE_OK)
         return answer;
-    return pdbmerge_name(record->bytes, left, record->index,
+    return pdbmerge_name(record->bytes, left, index,
                          record->name, MOST_OF_NAME, &record->name_length, &fault);
+}
+
+/* Reads the record at a position, from 0. */
+static uint32_t read_nth(const struct types *types, uint64_t at, struct record *record) {
+    return read_record(types->stream, types->offsets[at], FIRST + (unsigned)at, record);
 }
 
 /* ---- Printing as docs/COMMANDS.md says. */
@@ -104,16 +170,16 @@ static int refused(void) {
     return 1;
 }
 
-static void print_name(const struct record *record) {
+static void print_quoted(const uint8_t *bytes, uint64_t length) {
     putchar('"');
-    for (uint64_t at = 0; at < record->name_length; at++) {
-        uint8_t byte = record->name[at];
+    for (uint64_t at = 0; at < length; at++) {
+        uint8_t byte = bytes[at];
         if (byte >= 0x20 && byte <= 0x7e && byte != '"' && byte != '\\')
             putchar(byte);
         else
             printf("\\x%02x", byte);
     }
-    printf("\"\n");
+    putchar('"');
 }
 
 static const char *leaf_of(unsigned kind) {
@@ -127,18 +193,63 @@ static void print_type(const struct record *record) {
     printf("0x%x %s %u", record->index, leaf_of(record->kind), record->size);
     for (uint64_t at = 0; at < record->named; at++)
         printf(" 0x%x", (unsigned)record->references[at].index);
-    if (record->name_length == PDBMERGE_NO_NAME) {
-        putchar('\n');
-        return;
+    if (record->name_length != PDBMERGE_NO_NAME) {
+        putchar(' ');
+        print_quoted(record->name, record->name_length);
     }
-    putchar(' ');
-    print_name(record);
+    putchar('\n');
 }
 
 static void print_guid(const uint8_t *guid) {
     for (int at = 0; at < 16; at++)
         printf(at == 4 || at == 6 || at == 8 || at == 10 ? "-%02x" : "%02x", guid[at]);
     putchar('\n');
+}
+
+static void print_header(pdbmerge_slice stream, const pdbmerge_identity *identity) {
+    uint32_t head[2];
+    memcpy(head, stream.bytes, sizeof head);
+    printf("version %u\nsignature 0x%x\n", (unsigned)head[0], (unsigned)head[1]);
+    printf("age %u\nguid ", (unsigned)identity->age);
+    print_guid(identity->guid);
+}
+
+/* Prints the line of each named stream. Whether their names are all that was copied. */
+static int print_names(const struct names *names) {
+    const uint8_t *text = names->texts;
+    for (uint64_t at = 0; at < names->streams.count; at++) {
+        size_t length = strlen((const char *)text);
+        printf("name ");
+        print_quoted(text, length);
+        printf(" %u\n", (unsigned)names->streams.items[at]);
+        text += length + 1;
+    }
+    return text == names->texts + names->size;
+}
+
+/* Prints numbers, each with a text in front of it and one behind it. */
+static void print_numbers(const char *front, const uint32_t *numbers, uint64_t count, const char *behind) {
+    for (uint64_t at = 0; at < count; at++)
+        printf("%s%u%s", front, (unsigned)numbers[at], behind);
+}
+
+static void print_container(const pdbmerge_container *container) {
+    printf("block-size %u\nblocks %u\n", (unsigned)container->block_size, (unsigned)container->blocks);
+    printf("free %u\ndirectory %u\nstreams %u\n", (unsigned)container->free_blocks,
+           (unsigned)container->directory_bytes, (unsigned)container->streams);
+}
+
+/* Prints the line of each stream. Whether their blocks are all that were listed. */
+static int print_streams(const struct layout *layout) {
+    uint64_t before = 0, block_size = layout->container.block_size;
+    for (uint32_t at = 0; at < layout->container.streams; at++) {
+        uint64_t count = (layout->sizes[at] + block_size - 1) / block_size;
+        printf("%u %u", (unsigned)at, (unsigned)layout->sizes[at]);
+        print_numbers(" ", layout->blocks.items + before, count, "");
+        putchar('\n');
+        before += count;
+    }
+    return before == layout->blocks.count;
 }
 
 /* ---- The commands. Each returns the status. */
@@ -159,21 +270,22 @@ static int run_records(const struct line *line) {
     if (read_types(read_file(line->words[0]), &types) != PDBMERGE_OK)
         return refused();
     for (uint64_t at = 0; at < types.count; at++) {
-        find_record(&types, at, &record);
+        find_record(types.stream, types.offsets[at], FIRST + (unsigned)at, &record);
         printf("0x%x 0x%04x %u\n", record.index, record.kind, record.size);
     }
     return 0;
 }
 
 static int run_record(const struct line *line) {
-    static struct types types;
     static struct record record;
-    uint64_t at = strtoul(line->words[1], NULL, 16) - FIRST;
-    if (read_types(read_file(line->words[0]), &types) != PDBMERGE_OK)
+    uint32_t index = (uint32_t)strtoul(line->words[1], NULL, 16);
+    pdbmerge_slice stream;
+    uint64_t offset;
+    if (read_stream(read_file(line->words[0]), 2, &stream) != PDBMERGE_OK)
         return refused();
-    if (at >= types.count)
-        return 2;
-    if (read_record(&types, at, &record) != PDBMERGE_OK)
+    if (pdbmerge_record(stream.bytes, stream.length, index, &offset, &fault) != PDBMERGE_OK)
+        return refused();
+    if (read_record(stream, offset, index, &record) != PDBMERGE_OK)
         return refused();
     for (unsigned byte = 0; byte < record.size; byte++)
         printf("%02x", record.bytes[byte]);
@@ -184,7 +296,8 @@ static int run_record(const struct line *line) {
     }
     if (record.name_length != PDBMERGE_NO_NAME) {
         printf("name ");
-        print_name(&record);
+        print_quoted(record.name, record.name_length);
+        putchar('\n');
     }
     return 0;
 }
@@ -196,37 +309,38 @@ static int run_types(const struct line *line) {
         return refused();
     /* Nothing is printed before a refusal. */
     for (uint64_t at = 0; at < types.count; at++)
-        if (read_record(&types, at, &record) != PDBMERGE_OK)
+        if (read_nth(&types, at, &record) != PDBMERGE_OK)
             return refused();
     for (uint64_t at = 0; at < types.count; at++) {
-        read_record(&types, at, &record);
+        read_nth(&types, at, &record);
         print_type(&record);
     }
     return 0;
 }
 
 static int run_info(const struct line *line) {
-    pdbmerge_slice file = read_file(line->words[0]);
+    pdbmerge_slice file = read_file(line->words[0]), stream;
     pdbmerge_identity identity;
-    const uint8_t *bytes;
-    uint64_t length;
+    struct names names;
+    struct numbers features;
     if (pdbmerge_identify(file.bytes, file.length, &identity, &fault) != PDBMERGE_OK)
         return refused();
-    if (read_stream(file, 1, &bytes, &length) != PDBMERGE_OK)
+    if (read_stream(file, 1, &stream) != PDBMERGE_OK || read_names(stream, &names) != PDBMERGE_OK)
         return refused();
-    uint32_t head[2];
-    memcpy(head, bytes, sizeof head);
-    printf("version %u\nsignature 0x%x\n", (unsigned)head[0], (unsigned)head[1]);
-    printf("age %u\nguid ", (unsigned)identity.age);
-    print_guid(identity.guid);
-    return 0;
+    if (list(pdbmerge_features, stream, &features) != PDBMERGE_OK)
+        return refused();
+    print_header(stream, &identity);
+    int is_whole = print_names(&names);
+    print_numbers("feature ", features.items, features.count, "\n");
+    return is_whole ? 0 : 2;
 }
 
 static int run_streams(const struct line *line) {
-    pdbmerge_slice file = read_file(line->words[0]);
-    uint64_t size;
-    uint32_t answer = pdbmerge_stream(file.bytes, file.length, 0, NULL, 0, &size, &fault);
-    return answer == PDBMERGE_OK || answer == PDBMERGE_ROOM ? 0 : refused();
+    struct layout layout;
+    if (read_layout(read_file(line->words[0]), &layout) != PDBMERGE_OK)
+        return refused();
+    print_container(&layout.container);
+    return print_streams(&layout) ? 0 : 2;
 }
 
 static int run_diff(const struct line *line) {
@@ -247,7 +361,7 @@ static int run_diff(const struct line *line) {
     for (uint64_t at = 0; at < count; at++) {
         if (line->origins && !differences[at].origin)
             continue;
-        read_record(&types[differences[at].input], differences[at].index - FIRST, &record);
+        read_nth(&types[differences[at].input], differences[at].index - FIRST, &record);
         printf(differences[at].input == 0 ? "- " : "+ ");
         print_type(&record);
     }

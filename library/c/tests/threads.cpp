@@ -55,21 +55,40 @@ Answer checked(pdbmerge_slice file) {
     return answer_of(number, counts);
 }
 
-Answer stream_of(pdbmerge_slice file) {
+Answer layout_of(pdbmerge_slice file) {
+    std::vector<uint32_t> sizes(1 << 16);
+    pdbmerge_container container{};
+    pdbmerge_fault fault;
+    const uint32_t number =
+        pdbmerge_layout(file.bytes, file.length, &container, sizes.data(), sizes.size(), &fault);
+    return answer_of(number, sizes, container.streams);
+}
+
+Answer stream_of(pdbmerge_slice file, uint32_t stream) {
     std::vector<uint8_t> out(1 << 20);
     uint64_t size = 0;
     pdbmerge_fault fault;
-    const uint32_t number = pdbmerge_stream(file.bytes, file.length, 2, out.data(), out.size(), &size, &fault);
+    const uint32_t number =
+        pdbmerge_stream(file.bytes, file.length, stream, out.data(), out.size(), &size, &fault);
     return answer_of(number, out, size);
 }
 
-Answer records_of(const std::vector<uint8_t> &stream) {
-    std::vector<uint64_t> offsets(1 << 16);
+// What a call lists of a file or of a stream.
+template <typename Item>
+Answer list_of(uint32_t (*call)(const uint8_t *, size_t, Item *, size_t, uint64_t *, pdbmerge_fault *),
+               pdbmerge_slice bytes) {
+    std::vector<Item> items(1 << 16);
     uint64_t count = 0;
     pdbmerge_fault fault;
-    const uint32_t number =
-        pdbmerge_records(stream.data(), stream.size(), offsets.data(), offsets.size(), &count, &fault);
-    return answer_of(number, offsets, count);
+    const uint32_t number = call(bytes.bytes, bytes.length, items.data(), items.size(), &count, &fault);
+    return answer_of(number, items, count);
+}
+
+Answer record_of(const std::vector<uint8_t> &stream) {
+    uint64_t offset = 0;
+    pdbmerge_fault fault;
+    const uint32_t number = pdbmerge_record(stream.data(), stream.size(), 0x1001, &offset, &fault);
+    return answer_of(number, offset);
 }
 
 Answer references_of(const std::vector<uint8_t> &stream) {
@@ -102,9 +121,22 @@ Answer difference_of(const pdbmerge_slice *files) {
 
 // The answers of each call.
 std::vector<Answer> all_answers(const pdbmerge_slice *files) {
-    const std::vector<uint8_t> stream = stream_of(files[0]).bytes;
-    return {identified(files[0]), checked(files[0]),     merged(files, 2), stream_of(files[0]),
-            records_of(stream),   references_of(stream), name_of(stream),  difference_of(files)};
+    const std::vector<uint8_t> first = stream_of(files[0], 1).bytes, stream = stream_of(files[0], 2).bytes;
+    const pdbmerge_slice info{first.data(), first.size()}, types{stream.data(), stream.size()};
+    return {identified(files[0]),
+            layout_of(files[0]),
+            list_of(pdbmerge_blocks, files[0]),
+            checked(files[0]),
+            merged(files, 2),
+            stream_of(files[0], 2),
+            list_of(pdbmerge_named_streams, info),
+            list_of(pdbmerge_stream_names, info),
+            list_of(pdbmerge_features, info),
+            list_of(pdbmerge_records, types),
+            record_of(stream),
+            references_of(stream),
+            name_of(stream),
+            difference_of(files)};
 }
 
 // Eight threads, and what each of them found wrong.

@@ -24,22 +24,31 @@ __all__ = [
     'Counts',
     'Difference',
     'Identity',
+    'Layout',
     'Merged',
+    'NamedStream',
     'OutOfMemory',
     'PdbError',
     'Record',
     'Reference',
     'SettingsError',
+    'Stream',
     'check',
     'diff',
+    'features',
     'identify',
+    'layout',
     'merge',
+    'named_streams',
+    'record',
     'records',
     'stream',
     'types',
     'version',
 ]
 
+# The stream that holds the names of streams and the feature codes.
+_INFO = 1
 # The stream that holds the type records, and the type index of the first of them.
 _TYPES = 2
 _FIRST = 0x1000
@@ -74,6 +83,37 @@ class Identity:
     guid: uuid.UUID
     age: int
     block_size: int
+
+
+@dataclasses.dataclass(frozen=True)
+class Stream:
+    """A stream of a file: its size in bytes, and the numbers of its blocks, in the order of its bytes."""
+
+    size: int
+    blocks: List[int]
+
+
+@dataclasses.dataclass(frozen=True)
+class Layout:
+    """What the container of a file has. The streams are in the order of their numbers.
+
+    `block_size` is in bytes. `blocks` is how many blocks there are, and `free_blocks` how many of them
+    are free. `directory_bytes` is the length of the stream directory.
+    """
+
+    block_size: int
+    blocks: int
+    free_blocks: int
+    directory_bytes: int
+    streams: List[Stream]
+
+
+@dataclasses.dataclass(frozen=True)
+class NamedStream:
+    """A stream that has a name, and its number."""
+
+    name: bytes
+    number: int
 
 
 @dataclasses.dataclass(frozen=True)
@@ -159,7 +199,7 @@ def _done(status: int, fault: _library.Fault) -> bool:
     raise _EXCEPTIONS.get(status, PdbError)(text, status, index)
 
 
-_Item = TypeVar('_Item', c.c_uint64, _library.Reference, _library.Difference)
+_Item = TypeVar('_Item', c.c_uint32, c.c_uint64, _library.Reference, _library.Difference)
 
 
 def _listed(
@@ -173,6 +213,14 @@ def _listed(
         room = count.value
 
 
+def _numbers(
+    room: int, call: Callable[[c.Array[c.c_uint32], int, c.c_uint64, _library.Fault], int]
+) -> List[int]:
+    """The numbers that a call lists."""
+    numbers, count = _listed(c.c_uint32, room, call)
+    return numbers[:count]
+
+
 def _made(room: int, length: Callable[[], int], call: Callable[[int, int], bool]) -> bytes:
     """The bytes that a call writes. If there was too little room, it is called once more."""
     while True:
@@ -180,6 +228,12 @@ def _made(room: int, length: Callable[[], int], call: Callable[[int, int], bool]
             if call(made.address, room):
                 return made.cut(length())
         room = length()
+
+
+def _copied(call: Callable[[int, int, c.c_uint64, _library.Fault], int]) -> bytes:
+    """The bytes that a call copies."""
+    size, fault = c.c_uint64(), _library.Fault()
+    return _made(0, lambda: size.value, lambda out, room: _done(call(out, room, size, fault), fault))
 
 
 def _word(number: int, what: str) -> int:
@@ -210,6 +264,27 @@ def identify(file: Buffer) -> Identity:
     with _library.lent(file) as [data]:
         _done(_library.identify(data.bytes, data.length, identity, fault), fault)
     return Identity(uuid.UUID(bytes=bytes(identity.guid)), identity.age, identity.block_size)
+
+
+def layout(file: Buffer) -> Layout:
+    """The container of a file: its blocks, and which of them each stream has."""
+    container = _library.Container()
+
+    def listed(sizes: c.Array[c.c_uint32], room: int, count: c.c_uint64, fault: _library.Fault) -> int:
+        status = _library.layout(data.bytes, data.length, container, sizes, room, fault)
+        count.value = container.streams
+        return status
+
+    with _library.lent(file) as [data]:
+        sizes = _numbers(256, listed)
+        needed = [-(-size // container.block_size) for size in sizes]
+        blocks = iter(
+            _numbers(sum(needed), lambda *answer: _library.blocks(data.bytes, data.length, *answer))
+        )
+    streams = [Stream(size, list(itertools.islice(blocks, count))) for size, count in zip(sizes, needed)]
+    return Layout(
+        container.block_size, container.blocks, container.free_blocks, container.directory_bytes, streams
+    )
 
 
 def check(file: Buffer) -> Counts:
@@ -257,15 +332,23 @@ def _room(files: List[_library.Slice], limit: int) -> int:
 def stream(file: Buffer, number: int) -> bytes:
     """A copy of a stream of a file, by its number from 0."""
     _word(number, 'number')
-    size, fault = c.c_uint64(), _library.Fault()
     with _library.lent(file) as [data]:
-        return _made(
-            0,
-            lambda: size.value,
-            lambda out, room: _done(
-                _library.stream(data.bytes, data.length, number, out, room, size, fault), fault
-            ),
-        )
+        return _copied(lambda *answer: _library.stream(data.bytes, data.length, number, *answer))
+
+
+def named_streams(file: Buffer) -> List[NamedStream]:
+    """The streams of a file that have a name, in the order of its named stream map."""
+    with _library.lent(stream(file, _INFO)) as [data]:
+        numbers = _numbers(0, lambda *answer: _library.named_streams(data.bytes, data.length, *answer))
+        names = _copied(lambda *answer: _library.stream_names(data.bytes, data.length, *answer))
+    # A NUL ends each name.
+    return [NamedStream(name, number) for name, number in zip(names.split(b'\0'), numbers)]
+
+
+def features(file: Buffer) -> List[int]:
+    """The feature codes of a file, in the order in which they stand there."""
+    with _library.lent(stream(file, _INFO)) as [data]:
+        return _numbers(0, lambda *answer: _library.features(data.bytes, data.length, *answer))
 
 
 def records(file: Buffer) -> Iterator[Record]:
@@ -281,8 +364,22 @@ def records(file: Buffer) -> Iterator[Record]:
 def _each(held: memoryview, offsets: Iterable[int]) -> Iterator[Record]:
     """The records that begin at these offsets."""
     for index, at in enumerate(offsets, _FIRST):
-        end = at + 2 + int.from_bytes(held[at:at + 2], 'little')
-        yield Record(index, held[at:end])
+        yield _cut(held, index, at)
+
+
+def _cut(held: memoryview, index: int, at: int) -> Record:
+    """The record that begins at this offset."""
+    end = at + 2 + int.from_bytes(held[at:at + 2], 'little')
+    return Record(index, held[at:end])
+
+
+def record(file: Buffer, index: int) -> Record:
+    """The type record of a type index, which is not checked as a type. Fault 39 says that there is none."""
+    _word(index, 'index')
+    held, offset, fault = memoryview(stream(file, _TYPES)), c.c_uint64(), _library.Fault()
+    with _library.lent(held) as [data]:
+        _done(_library.record(data.bytes, data.length, index, offset, fault), fault)
+    return _cut(held, index, offset.value)
 
 
 def types(file: Buffer) -> Iterator[Record]:

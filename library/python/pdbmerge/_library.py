@@ -44,6 +44,21 @@ class Identity(c.Structure):
     _fields_ = [('guid', c.c_uint8 * 16), ('age', c.c_uint32), ('block_size', c.c_uint32)]
 
 
+class Container(c.Structure):
+    block_size: int
+    blocks: int
+    free_blocks: int
+    directory_bytes: int
+    streams: int
+    _fields_ = [
+        ('block_size', c.c_uint32),
+        ('blocks', c.c_uint32),
+        ('free_blocks', c.c_uint32),
+        ('directory_bytes', c.c_uint32),
+        ('streams', c.c_uint32),
+    ]
+
+
 class Counts(c.Structure):
     records: int
     bytes: int
@@ -99,17 +114,24 @@ def _declared(name: str, *arguments: type) -> Callable[..., int]:
 
 
 _bytes = (c.c_void_p, c.c_size_t)
+_words = (c.POINTER(c.c_uint32), c.c_size_t)
 _fault = c.POINTER(Fault)
 _size = c.POINTER(c.c_uint64)
 
 version = _declared('pdbmerge_version')
 identify = _declared('pdbmerge_identify', *_bytes, c.POINTER(Identity), _fault)
+layout = _declared('pdbmerge_layout', *_bytes, c.POINTER(Container), *_words, _fault)
+blocks = _declared('pdbmerge_blocks', *_bytes, *_words, _size, _fault)
 check = _declared('pdbmerge_check', *_bytes, c.POINTER(Counts), _fault)
 merge = _declared(
     'pdbmerge_merge', c.POINTER(Slice), c.c_size_t, c.POINTER(Settings), *_bytes, c.POINTER(Report), _fault
 )
 stream = _declared('pdbmerge_stream', *_bytes, c.c_uint32, *_bytes, _size, _fault)
+named_streams = _declared('pdbmerge_named_streams', *_bytes, *_words, _size, _fault)
+stream_names = _declared('pdbmerge_stream_names', *_bytes, *_bytes, _size, _fault)
+features = _declared('pdbmerge_features', *_bytes, *_words, _size, _fault)
 records = _declared('pdbmerge_records', *_bytes, _size, c.c_size_t, _size, _fault)
+record = _declared('pdbmerge_record', *_bytes, c.c_uint32, _size, _fault)
 references = _declared(
     'pdbmerge_references', *_bytes, c.c_uint32, c.POINTER(Reference), c.c_size_t, _size, _fault
 )

@@ -14,6 +14,7 @@ STRUCTS = [
     ('pdbmerge_slice', _library.Slice),
     ('pdbmerge_seed', _library.Seed),
     ('pdbmerge_identity', _library.Identity),
+    ('pdbmerge_container', _library.Container),
     ('pdbmerge_counts', _library.Counts),
     ('pdbmerge_settings', _library.Settings),
     ('pdbmerge_report', _library.Report),

@@ -26,6 +26,7 @@ fn main() {
     show!(pdbmerge_slice: bytes length);
     show!(pdbmerge_seed: bytes);
     show!(pdbmerge_identity: guid age block_size);
+    show!(pdbmerge_container: block_size blocks free_blocks directory_bytes streams);
     show!(pdbmerge_counts: records bytes levels);
     show!(pdbmerge_settings: guid age limit block_size seed);
     show!(pdbmerge_report: length types bytes);

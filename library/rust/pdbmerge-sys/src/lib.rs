@@ -67,6 +67,22 @@ pub struct pdbmerge_identity {
     pub block_size: u32,
 }
 
+/// What the container of a file has.
+#[repr(C)]
+#[derive(Clone, Copy, Debug, Default)]
+pub struct pdbmerge_container {
+    /// How many bytes a block has.
+    pub block_size: u32,
+    /// How many blocks the superblock counts.
+    pub blocks: u32,
+    /// How many of them are free.
+    pub free_blocks: u32,
+    /// How many bytes the stream directory has.
+    pub directory_bytes: u32,
+    /// How many streams it lists.
+    pub streams: u32,
+}
+
 /// What an accepted file has.
 #[repr(C)]
 #[derive(Clone, Copy, Debug, Default)]
@@ -135,6 +151,7 @@ const _: () = {
     assert!(size_of::<pdbmerge_slice>() == 2 * size_of::<usize>());
     assert!(size_of::<pdbmerge_seed>() == 16);
     assert!(size_of::<pdbmerge_identity>() == 24);
+    assert!(size_of::<pdbmerge_container>() == 20);
     assert!(size_of::<pdbmerge_counts>() == 12);
     assert!(size_of::<pdbmerge_settings>() == 44);
     assert!(size_of::<pdbmerge_report>() == 16);
@@ -151,6 +168,26 @@ extern "C" {
         file: *const u8,
         length: usize,
         identity: *mut pdbmerge_identity,
+        fault: *mut pdbmerge_fault,
+    ) -> u32;
+
+    /// Reads the container of a file, and lists the sizes of its streams.
+    pub fn pdbmerge_layout(
+        file: *const u8,
+        length: usize,
+        container: *mut pdbmerge_container,
+        sizes: *mut u32,
+        room: usize,
+        fault: *mut pdbmerge_fault,
+    ) -> u32;
+
+    /// Lists the numbers of the blocks of all streams.
+    pub fn pdbmerge_blocks(
+        file: *const u8,
+        length: usize,
+        blocks: *mut u32,
+        room: usize,
+        count: *mut u64,
         fault: *mut pdbmerge_fault,
     ) -> u32;
 
@@ -184,6 +221,36 @@ extern "C" {
         fault: *mut pdbmerge_fault,
     ) -> u32;
 
+    /// Lists the numbers of the streams that have a name.
+    pub fn pdbmerge_named_streams(
+        stream: *const u8,
+        length: usize,
+        numbers: *mut u32,
+        room: usize,
+        count: *mut u64,
+        fault: *mut pdbmerge_fault,
+    ) -> u32;
+
+    /// Copies the names of these streams, each with a NUL behind it.
+    pub fn pdbmerge_stream_names(
+        stream: *const u8,
+        length: usize,
+        out: *mut u8,
+        room: usize,
+        size: *mut u64,
+        fault: *mut pdbmerge_fault,
+    ) -> u32;
+
+    /// Lists the feature codes that end stream 1.
+    pub fn pdbmerge_features(
+        stream: *const u8,
+        length: usize,
+        features: *mut u32,
+        room: usize,
+        count: *mut u64,
+        fault: *mut pdbmerge_fault,
+    ) -> u32;
+
     /// Lists where each type record begins.
     pub fn pdbmerge_records(
         stream: *const u8,
@@ -191,6 +258,15 @@ extern "C" {
         offsets: *mut u64,
         room: usize,
         count: *mut u64,
+        fault: *mut pdbmerge_fault,
+    ) -> u32;
+
+    /// Finds where the record with a type index begins.
+    pub fn pdbmerge_record(
+        stream: *const u8,
+        length: usize,
+        index: u32,
+        offset: *mut u64,
         fault: *mut pdbmerge_fault,
     ) -> u32;
 

@@ -25,6 +25,22 @@ pub(crate) fn done(status: u32, fault: &sys::pdbmerge_fault) -> Result<bool, Err
     }
 }
 
+/// A list without items, with room for so many.
+pub(crate) fn room_for<T>(count: usize) -> Result<Vec<T>, Error> {
+    let mut items = Vec::new();
+    items
+        .try_reserve_exact(count)
+        .map_err(|_| Error::memory())?;
+    Ok(items)
+}
+
+/// A copy of some items.
+pub(crate) fn copied<T: Copy>(items: &[T]) -> Result<Vec<T>, Error> {
+    let mut copy = room_for(items.len())?;
+    copy.extend_from_slice(items);
+    Ok(copy)
+}
+
 /// The items that a call writes. If there was too little room, it is called once more.
 ///
 /// # Safety
@@ -37,8 +53,7 @@ pub(crate) unsafe fn written<T>(
 ) -> Result<Vec<T>, Error> {
     let mut room = room;
     loop {
-        let mut items = Vec::new();
-        items.try_reserve_exact(room).map_err(|_| Error::memory())?;
+        let mut items = room_for(room)?;
         let (mut count, mut fault) = (0, no_fault());
         let status = call(items.as_mut_ptr(), room, &mut count, &mut fault);
         let enough = done(status, &fault)?;
@@ -49,5 +64,29 @@ pub(crate) unsafe fn written<T>(
             return Ok(items);
         }
         room = count;
+    }
+}
+
+/// A call that lists items of some bytes.
+pub(crate) type Lists<T> = unsafe extern "C" fn(
+    *const u8,
+    usize,
+    *mut T,
+    usize,
+    *mut u64,
+    *mut sys::pdbmerge_fault,
+) -> u32;
+
+/// The items that a call lists of some bytes, with room for so many at first.
+///
+/// # Safety
+///
+/// `call` is a call of the library.
+pub(crate) unsafe fn listed<T>(call: Lists<T>, bytes: &[u8], room: usize) -> Result<Vec<T>, Error> {
+    // SAFETY: the bytes are as long as said, and are lent for the call alone.
+    unsafe {
+        written(room, |out, room, count, fault| {
+            call(bytes.as_ptr(), bytes.len(), out, room, count, fault)
+        })
     }
 }

@@ -30,6 +30,8 @@ extern crate std;
 
 mod call;
 mod error;
+mod info;
+mod layout;
 mod record;
 mod settings;
 
@@ -39,6 +41,8 @@ use pdbmerge_sys as sys;
 
 use call::{done, no_fault, written};
 pub use error::{Error, ErrorKind};
+pub use info::{features, named_streams, NamedStream};
+pub use layout::{layout, Layout, Stream};
 pub use record::{records, types, Iter, Record, Records, Reference};
 pub use settings::{Seed, Settings};
 

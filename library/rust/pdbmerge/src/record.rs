@@ -4,7 +4,7 @@ use core::ops::Range;
 
 use pdbmerge_sys as sys;
 
-use crate::call::written;
+use crate::call::{done, listed, no_fault, written};
 use crate::{check, stream, Error};
 
 /// The stream that holds the type records.
@@ -22,12 +22,8 @@ pub struct Records {
 /// The type records of a file, which are not checked as types.
 pub fn records(file: &[u8]) -> Result<Records, Error> {
     let stream = stream(file, TYPES)?;
-    // SAFETY: the stream is as long as said, and is lent for the call alone.
-    let offsets = unsafe {
-        written(0, |out, room, count, fault| {
-            sys::pdbmerge_records(stream.as_ptr(), stream.len(), out, room, count, fault)
-        })?
-    };
+    // SAFETY: this is a call of the library.
+    let offsets = unsafe { listed(sys::pdbmerge_records, &stream, 0)? };
     Ok(Records { stream, offsets })
 }
 
@@ -51,6 +47,23 @@ impl Records {
     /// The record of a type index.
     pub fn get(&self, index: u32) -> Option<Record<'_>> {
         let offset = *self.offsets.get(index.checked_sub(FIRST)? as usize)?;
+        self.at(index, offset)
+    }
+
+    /// The record of a type index; the error 39 where there is none. It is looked for from the front of
+    /// the records on: [`get`](Self::get) is faster.
+    pub fn find(&self, index: u32) -> Result<Record<'_>, Error> {
+        let (mut offset, mut fault) = (0, no_fault());
+        let (bytes, length) = (self.stream.as_ptr(), self.stream.len());
+        // SAFETY: the stream is as long as said, and is lent for the call alone.
+        let status = unsafe { sys::pdbmerge_record(bytes, length, index, &mut offset, &mut fault) };
+        done(status, &fault)?;
+        // There is a record at each offset that the call gives.
+        self.at(index, offset).ok_or_else(|| Error::of(&fault))
+    }
+
+    /// The record that begins at this offset.
+    fn at(&self, index: u32, offset: u64) -> Option<Record<'_>> {
         Record::new(index, self.stream.get(offset as usize..)?)
     }
 

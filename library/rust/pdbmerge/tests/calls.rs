@@ -1,14 +1,17 @@
 //! Holds the crate to what it promises beside the tables.
 
 mod common;
+mod container;
 
 use std::fs;
 use std::thread;
 
 use common::{content, root, settings};
+use container::{container, words, BLOCK};
 use pdbmerge::{
-    check, diff, identify, merge, merge_with_seed, records, stream, types, version, Error,
-    ErrorKind, Record, Reference, Seed, Settings,
+    check, diff, features, identify, layout, merge, merge_with_seed, named_streams, records,
+    stream, types, version, Error, ErrorKind, Layout, NamedStream, Record, Reference, Seed,
+    Settings,
 };
 
 /// The number, the file and the kind of a refusal.
@@ -30,8 +33,11 @@ fn no_bytes_are_refused() {
     let sound = content("sample.pdb");
     let short = (1, None, ErrorKind::Refused);
     assert_eq!(refusal(identify(b"")), short);
+    assert_eq!(refusal(layout(b"")), short);
     assert_eq!(refusal(check(b"")), short);
     assert_eq!(refusal(stream(b"", 2)), short);
+    assert_eq!(refusal(named_streams(b"")), short);
+    assert_eq!(refusal(features(b"")), short);
     assert_eq!(refusal(records(b"")), short);
     assert_eq!(refusal(types(b"")), short);
     let second = (1, Some(1), ErrorKind::Refused);
@@ -132,6 +138,57 @@ fn streams_have_numbers() {
     assert_eq!(refusal(stream(&sample, 5)), (11, None, ErrorKind::Refused));
 }
 
+/// The bytes of each stream, by the numbers of its blocks.
+fn contents(file: &[u8], layout: &Layout) -> Vec<Vec<u8>> {
+    let blocks: Vec<&[u8]> = file.chunks(layout.block_size as usize).collect();
+    let content = |stream: &pdbmerge::Stream| {
+        let own = stream.blocks.iter().map(|number| blocks[*number as usize]);
+        own.collect::<Vec<_>>().concat()[..stream.size as usize].to_vec()
+    };
+    layout.streams.iter().map(content).collect()
+}
+
+#[test]
+fn many_streams_fit() {
+    let streams: Vec<Vec<u8>> = (0..400).map(|n| vec![n as u8; 7 * n % 1200]).collect();
+    let file = container(&streams);
+    let layout = layout(&file).expect("a layout");
+    assert_eq!(contents(&file, &layout), streams);
+    let blocks: usize = layout.streams.iter().map(|each| each.blocks.len()).sum();
+    assert_eq!(layout.block_size as usize, BLOCK);
+    assert_eq!(layout.blocks as usize, file.len() / BLOCK);
+    assert_eq!(layout.directory_bytes as usize, 4 * (1 + 400 + blocks));
+    assert_eq!(layout.free_blocks, 0);
+}
+
+/// An info stream with feature codes, and with names that share their bytes: of 31 letters the name of
+/// stream n lacks the first n.
+fn info_of_names(codes: &[u32]) -> Vec<u8> {
+    let pairs: Vec<u32> = (0..32).flat_map(|n| [n, n]).collect();
+    let fields = [
+        vec![0; 28],
+        words(&[32]),
+        vec![b'x'; 31],
+        vec![0],
+        words(&[32, 32, 1, u32::MAX, 0]),
+        words(&pairs),
+        words(&[0]),
+        words(codes),
+    ];
+    fields.concat()
+}
+
+#[test]
+fn names_may_share_bytes() {
+    let file = container(&[vec![], info_of_names(&[0, 1, 2])]);
+    let named = |number| NamedStream {
+        name: vec![b'x'; 31 - number as usize],
+        number,
+    };
+    assert_eq!(named_streams(&file), Ok((0..32).map(named).collect()));
+    assert_eq!(features(&file), Ok(vec![0, 1, 2]));
+}
+
 #[test]
 fn records_are_found_by_index() {
     let file = content("plain.pdb");
@@ -145,8 +202,13 @@ fn records_are_found_by_index() {
     for (number, record) in forwards.iter().enumerate() {
         let index = 0x1000 + number as u32;
         assert_eq!((record.index(), records.get(index)), (index, Some(*record)));
+        assert_eq!(records.find(index), Ok(*record));
     }
-    assert_eq!((records.get(0xfff), records.get(0x102d)), (None, None));
+    for index in [0, 0xfff, 0x102d, u32::MAX] {
+        assert_eq!(records.get(index), None);
+        let refused = refusal(records.find(index));
+        assert_eq!(refused, (39, None, ErrorKind::Refused), "{index:#x}");
+    }
     // The records fill the stream behind its header.
     let together: Vec<u8> = records
         .iter()
