@@ -40,8 +40,6 @@ mod references;
 mod seed;
 mod stream;
 mod text;
-#[cfg(test)]
-mod texts;
 mod version;
 
 pub use check::Counts;

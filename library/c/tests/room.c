@@ -117,13 +117,21 @@ static int is_untouched(const uint8_t *memory, size_t from, size_t to) {
     return 1;
 }
 
+/* Whether the text of a fault has only NULs from an offset on. */
+static int ends_in_nuls(const char *text, size_t from) {
+    for (size_t at = from; at <= KEPT; at++)
+        if (text[at] != 0)
+            return 0;
+    return 1;
+}
+
 /* A fault that belongs to no input. */
 static void hold_fault(const char *what, const pdbmerge_fault *fault, uint32_t number, const char *text) {
     hold(what, fault->number, number);
     hold(what, fault->length, strlen(text));
     hold(what, fault->input, PDBMERGE_NO_INPUT);
     hold_text(what, fault->text, text);
-    hold(what, fault->text[KEPT], 0);
+    hold(what, ends_in_nuls(fault->text, strlen(text)), 1);
 }
 
 /* A call with room for so many items of memory that has the pattern. */
