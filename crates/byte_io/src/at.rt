@@ -1,6 +1,6 @@
 //! Bytes that are read by position.
 
-ghost use Rattle.std.specs.Prelude.{◌≡◌, ◌⊎◌, ◌+◌, ◌<◌, ◌≤◌, ◌^◌, ◌++◌, ℕ, List, Option, Some, None, Bool, true, false, length, take, drop, get_or, OnOk, IfErr, IfSome, IfNone};
+ghost use Rattle.std.specs.Prelude.{◌≡◌, ◌⊎◌, ◌+◌, ◌<◌, ◌≤◌, ◌^◌, ◌++◌, ◌↔◌, ℕ, List, Option, Some, None, Bool, true, false, IsTrue, length, take, drop, get_or, OnOk, IfErr, IfSome, IfNone};
 ghost use Rattle.byte_io.specs.At.{AreGiven, Breaks, Bytes, GivesBehind, IfKnown, StandsAt, stable, unknown};
 ghost use Rattle.byte_io.specs.declared.at.AtFault.TheVariants as at;
 
@@ -41,6 +41,14 @@ pub trait ReadAt {
         ensures told { result ≡ (bytes self.now).told }
         ensures value { IfKnown (bytes self.now) (λ file. result ≡ length file) }
         ensures small { IfKnown (bytes self.now) (λ file. (i : ℕ) → get_or file i 0 < 256) };
+
+    /// Whether there are no bytes. If the bytes are not known, this is whether there are said to be
+    /// none.
+    fn is_empty(&self) -> bool
+        ensures { IsTrue result ↔ ((bytes self.now).told ≡ 0) }
+    {
+        self.len() == 0
+    }
 
     /// Fills a slice with the bytes from this offset on. `None` means that the reader is broken.
     fn read_at(&mut self, offset: u64, into: &mut [u8]) -> Option<()>
