@@ -32,7 +32,7 @@ impl fmt::Display for WrongWord {
 }
 
 /// Why the arguments are no command.
-#[derive(Drop)]
+#[derive(Debug, Drop)]
 pub enum LineFault {
     /// The arguments are refused, or they ask for help. The error has the text to print.
     Refused(clap::Error),

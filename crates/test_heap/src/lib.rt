@@ -12,7 +12,7 @@ use std::cell::Cell;
 
 /// Passes each call on to another allocator. One call of `allocate` is refused, if a test asks for
 /// it.
-#[derive(Drop)]
+#[derive(Debug, Drop)]
 pub struct FailsOnce<A> {
     inner: A,
     // the number of calls of `allocate` since the last one of `fail_at`

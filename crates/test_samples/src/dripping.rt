@@ -8,7 +8,7 @@ use byte_io::Source;
 /// where `fails` is true.
 ///
 /// Clauses do not see its bytes.
-#[derive(Drop)]
+#[derive(Debug, Drop)]
 pub struct Dripping<'a> {
     pub bytes: &'a [u8],
     pub step: usize,

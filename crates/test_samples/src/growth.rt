@@ -9,7 +9,7 @@ use test_heap::FailsOnce;
 pub type TestHeap = FailsOnce<LocalHeap>;
 
 /// How memory is refused while a call is tried.
-#[derive(Clone, Copy)]
+#[derive(Clone, Copy, Debug)]
 pub enum Refusal {
     /// So many bytes of the heap are taken, until the filler is dropped.
     Taken(usize),

@@ -8,7 +8,7 @@ pub fn folding() -> BuildHasherDefault<FoldHasher> {
 }
 
 /// A hasher that returns the same number for every text.
-#[derive(Clone, Copy)]
+#[derive(Clone, Copy, Debug)]
 pub struct Constant {
     pub number: u64,
 }

@@ -9,7 +9,7 @@ use std::alloc::Global;
 /// From then on it takes bytes again, so a test sees if anything is put into a broken sink.
 ///
 /// A test sees the bytes that it took. Clauses do not.
-#[derive(Drop)]
+#[derive(Debug, Drop)]
 pub struct Narrow {
     pub taken: Vec<u8>,
     pub step: usize,

@@ -6,7 +6,7 @@ ghost use Rattle.byte_io.specs.At.{unknown};
 use byte_io::ReadAt;
 
 /// A file of which one read fails, and all others give its bytes. Clauses do not see them.
-#[derive(Drop)]
+#[derive(Debug, Drop)]
 pub struct Positions<'a> {
     pub bytes: &'a [u8],
     // the number of the read that fails, counted from 0, and how many reads there were
