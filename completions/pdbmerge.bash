@@ -39,12 +39,7 @@ _pdbmerge() {
         diff) options='--origins --max-bytes -v --verbose -h --help' ;;
         records | record | types | check | streams | info) options='--max-bytes -v --verbose -h --help' ;;
         explain) options='-v --verbose -h --help' ;;
-        help)
-            if ((COMP_CWORD == 2)); then
-                _pdbmerge_words "$word" "$commands"
-            fi
-            return
-            ;;
+        help) options='-v --verbose' ;;
         *) return ;;
     esac
     # Bash takes = for a word of its own.
@@ -79,11 +74,12 @@ _pdbmerge() {
             given=$((given + 1))
         fi
     done
-    # merge reads any number of files, diff two, explain none, and each other command one.
+    # merge reads any number of files, diff two, explain and help none, and each other command one.
     case $command in
         merge) _pdbmerge_files "$word" ;;
         diff) ((given < 2)) && _pdbmerge_files "$word" ;;
         explain) ((given < 1)) && _pdbmerge_words "$word" "$(echo {1..41})" ;;
+        help) ((given < 1)) && _pdbmerge_words "$word" "$commands" ;;
         *) ((given < 1)) && _pdbmerge_files "$word" ;;
     esac
 }

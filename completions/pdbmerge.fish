@@ -54,7 +54,7 @@ complete -c pdbmerge -n '__pdbmerge_command_is merge' -x -l block-size -a '512 1
 complete -c pdbmerge -n '__pdbmerge_command_is merge' -r -F -l files-from -d 'A file with the paths of more inputs'
 complete -c pdbmerge -n '__pdbmerge_command_is merge' -s 0 -l null -d 'The paths of the list end with a NUL'
 complete -c pdbmerge -n '__pdbmerge_command_is merge' -l progress -d 'Tells how many of the inputs were read'
-complete -c pdbmerge -n '__pdbmerge_command_is merge diff records record types check streams info explain' -s v -l verbose -d 'Says more after a refusal'
+complete -c pdbmerge -n '__pdbmerge_command_is merge diff records record types check streams info explain help' -s v -l verbose -d 'Says more after a refusal'
 complete -c pdbmerge -n '__pdbmerge_command_is diff' -l origins -d 'Only the types where the difference begins'
 
 complete -c pdbmerge -n '__pdbmerge_command_is merge' -a '(__pdbmerge_files)'

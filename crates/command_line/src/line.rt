@@ -9,7 +9,7 @@ use clap::ArgMatches;
 use fault_pages::{Page, page_of};
 use pdb_commands::{Scope, Shown};
 use pdb_info::Settings;
-use std::alloc::Global;
+use std::alloc::{AllocError, Global};
 use uuid::Uuid;
 
 /// What is printed where there are no arguments.
@@ -293,6 +293,27 @@ fn task_of(alloc: Global, name: &str, arguments: &ArgMatches<'_>) -> Result<Task
     }
 }
 
+/// The words of a line that asks for help, without the option that every command has. It adds
+/// nothing there, and the parser's own command `help` takes no options.
+fn without_verbose(alloc: Global, arguments: &[String]) -> Result<Vec<&str>, AllocError> {
+    let mut words = Vec::new(alloc);
+    for argument in arguments {
+        let word = argument.as_str();
+        if word != "-v" && word != "--verbose" {
+            words.push(word)?;
+        }
+    }
+    Ok(words)
+}
+
+/// Refuses a line that asks for help: the error has the text to print.
+#[inline(never)]
+fn help(alloc: Global, arguments: &[String]) -> Result<Line, LineFault> {
+    let words = without_verbose(alloc, arguments)?;
+    program(alloc)?.try_get_matches_from(&words)?;
+    Err(LineFault::Word(None))
+}
+
 /// Reads the arguments of a command line, which come without the program's name.
 pub fn read_line(alloc: Global, arguments: &[String]) -> Result<Line, LineFault>
     ensures usage { arguments.now ≡ [] →
@@ -303,6 +324,9 @@ pub fn read_line(alloc: Global, arguments: &[String]) -> Result<Line, LineFault>
             task: Task::Usage,
             is_verbose: false,
         });
+    }
+    if arguments[0].as_str() == "help" {
+        return help(alloc, arguments);
     }
     let matches = program(alloc)?.try_get_matches_from(arguments)?;
     match matches.subcommand() {
