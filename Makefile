@@ -26,7 +26,7 @@ try:
 # Merges two shipped files in both orders, and compares what comes out.
 MERGE := $(PROGRAM) merge --guid $(GUID) --age 1
 demo:
-	@echo 'The whole program is proved before it is built. The first time this takes half an hour on four cores.'
+	@echo 'The whole program is proved before it is built. The first time this takes forty minutes on four cores.'
 	@$(MAKE) --no-print-directory $(PROGRAM)
 	$(MERGE) build/one.pdb examples/memptr.pdb examples/sample.pdb
 	$(MERGE) build/other.pdb examples/sample.pdb examples/memptr.pdb
