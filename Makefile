@@ -53,6 +53,7 @@ test:
 	tests/help
 	tools/unreached
 	tools/columns
+	tools/surface
 	tests/program
 	tests/examples
 	tests/examples examples/differences
