@@ -4,7 +4,7 @@ PREFIX ?= /usr/local
 PROGRAM := build/pdbmerge
 SOURCES := $(shell find crates -name '*.rt' -o -name '*.antt') crates.txt
 
-.PHONY: all try demo test bench install library dist clean
+.PHONY: all try announce demo test bench install library dist clean
 
 all: $(PROGRAM)
 
@@ -25,9 +25,11 @@ try:
 
 # Merges two shipped files in both orders, and compares what comes out.
 MERGE := $(PROGRAM) merge --guid $(GUID) --age 1
-demo:
+announce:
 	@echo 'The whole program is proved before it is built. The first time this takes forty minutes on four cores.'
-	@$(MAKE) --no-print-directory $(PROGRAM)
+
+demo: announce $(PROGRAM)
+	@mkdir -p build
 	$(MERGE) build/one.pdb examples/memptr.pdb examples/sample.pdb
 	$(MERGE) build/other.pdb examples/sample.pdb examples/memptr.pdb
 	cmp build/one.pdb build/other.pdb
@@ -54,6 +56,7 @@ test:
 	tools/unreached
 	tools/columns
 	tools/surface
+	tests/start
 	tests/program
 	tests/examples
 	tests/examples examples/differences
