@@ -98,10 +98,8 @@ class Checks:
         self.wrong += wrong
 
     def end(self, noun='checks'):
-        """Prints what was counted, and ends the script: with 1 where something was not as wanted, or nothing was
-        checked."""
-        print(f'{usage.name()}: {self.count} {noun}, {self.wrong} not as wanted')
-        sys.exit(1 if self.wrong or not self.count else 0)
+        """Prints what was counted, and ends the script."""
+        usage.end(self.count, noun, self.wrong)
 
 
 class Runs(Checks):

@@ -1,4 +1,4 @@
-"""The command line of a script, as the docstring of the script tells it."""
+"""The command line of a script, as the docstring of the script tells it, and its end."""
 import argparse, pathlib, sys
 
 ROOT = pathlib.Path(__file__).resolve().parent.parent
@@ -16,3 +16,9 @@ def parser(doc, end=None):
     return argparse.ArgumentParser(
         prog=name(), usage=usage.removeprefix('usage: '), description='\n\n'.join([what, *rest]), epilog=end,
         formatter_class=argparse.RawDescriptionHelpFormatter, allow_abbrev=False)
+
+
+def end(count, noun, wrong):
+    """Prints what a script counted, and ends it: with 1 where something was not as wanted, or nothing was looked at."""
+    print(f'{name()}: {count} {noun}, {wrong} not as wanted')
+    sys.exit(1 if wrong or not count else 0)
