@@ -37,11 +37,16 @@ pub record StandsAt (file : List ℕ) (offset : ℕ) (bytes : List ℕ) : Type 0
   pub inside : offset + length bytes ≤ length file
   pub is : bytes ≡ take (length bytes) (drop offset file)
 
--- a read failed: the bytes of the reader are not known, and it is broken
+-- a read failed: the reader is broken, whether its bytes are known or not
 abbrev pub Breaks : Bytes → Bool → Type 0
-Breaks bytes broken = (bytes.known ≡ None) × (broken ≡ true)
+Breaks bytes broken = broken ≡ true
 
 -- if the fault is one of what was read, P holds of it
 abbrev pub IfOf : {F : Type 0} → (F → Type 0) → AtFault F → Type 0
 IfOf P at.Read = Unit {0}
 IfOf P (at.Of fault) = P fault
+
+-- the fault of what was read, as another fault
+abbrev pub map_of : {F G : Type 0} → (F → G) → AtFault F → AtFault G
+map_of other at.Read = at.Read
+map_of other (at.Of fault) = at.Of (other fault)

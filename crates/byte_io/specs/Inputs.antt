@@ -21,3 +21,8 @@ IsFirstUnread each input fault = CanRead each input × (slice_get each input ≡
 abbrev pub HasBytes : {F : Type 0} → (F → Bytes) → Opened F → List ℕ → Type 0
 HasBytes bytes (Whole file) given = file.now ≡ given
 HasBytes bytes (At input) given = bytes input ≡ stable given
+
+-- the input was opened to be read by position
+abbrev pub IsAt : {F : Type 0} → Opened F → Type 0
+IsAt (Whole file) = ⊥
+IsAt (At input) = Unit {0}

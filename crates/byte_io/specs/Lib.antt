@@ -2,3 +2,4 @@ pub mod Fault
 pub mod At
 pub mod Input
 pub mod Inputs
+pub mod Paged

@@ -27,14 +27,19 @@ impl<F> From<F> for AtFault<F> {
 
 /// Gives bytes from any position.
 ///
-/// A slice has its bytes in memory. The contracts don't know the bytes of a file. They only say
-/// which bytes reads gave. Only a reader whose bytes are not known can fail.
+/// A slice has its bytes in memory, and its reads never fail. The contracts don't know the bytes of
+/// a file of the system: they only say which bytes reads gave. A reader may fail whether its bytes
+/// are known or not. It is broken from then on.
 pub trait ReadAt {
     /// What is known of its bytes.
     ghost bytes: { Self → Bytes };
 
     /// Whether a read failed.
     ghost is_broken: { Self → Bool };
+
+    /// The ghost name of the reference through which it reads, and 0 if it has none. So a caller
+    /// that lent the reference knows that it gets the same one back.
+    ghost lent: { Self → ℕ } = { λ _. 0 };
 
     /// How many bytes there are. If the bytes are not known, this is how many there are said to be.
     fn len(&self) -> u64
@@ -55,6 +60,7 @@ pub trait ReadAt {
         requires inside { IfKnown (bytes self.old) (λ file.
             offset + length into.old ≤ length file) }
         ensures keeps { bytes self.new ≡ bytes self.old }
+        ensures lent { lent self.new ≡ lent self.old }
         ensures same { length into.new ≡ length into.old }
         ensures value { IfSome result (λ _.
             IfKnown (bytes self.old) (λ file. StandsAt file offset into.new)) }

@@ -1,22 +1,43 @@
 -- A layout that is read by position.
-use Rattle.std.proofs.Common.{◌≡◌, Bool, Some, None, ap, refl, inl, inr}
+use Rattle.std.proofs.Common.{◌≡◌, ◌<◌, ◌≤◌, ℕ, List, Bool, Some, None, ap, arith, refl, inl, inr}
 use Rattle.std.specs.Prelude.{Result, Ok, Err, IfErr}
 use Rattle.byte_fields.specs.Bytes.{AreBytes}
 use Rattle.byte_fields.specs.Check.{first_failing, Refuses}
-use Rattle.byte_io.specs.At.{Breaks, Bytes, IfKnown, IfOf}
+use Rattle.msf_blocks.proofs.FoundLaws.{superblock_holds}
+use Rattle.msf_blocks.proofs.LayoutLaws.{superblock_fault}
+use Rattle.msf_blocks.specs.Superblock.{Fields, IsSuperblock, superblock_checks}
+use Rattle.msf_blocks.specs.declared.fault.WithinFault.{WithinFault}
+use Rattle.msf_blocks.specs.declared.fault.WithinFault.TheVariants as within
+use Rattle.byte_io.specs.At.{map_of, Breaks, Bytes, IfKnown, IfOf}
 use Rattle.byte_io.specs.declared.at.AtFault.{AtFault}
 use Rattle.byte_io.specs.declared.at.AtFault.TheVariants as at
-use Rattle.msf_blocks.specs.Layout.{LayoutView, HasLayout, layout_checks}
+use Rattle.msf_blocks.specs.Layout.{LayoutView, HasLayout, HasLongDirectory, HasWithinFault, layout_checks}
 use Rattle.msf_blocks.specs.declared.fault.MsfFault.{MsfFault}
 use Rattle.msf_blocks.specs.declared.fault.MsfFault.TheVariants.{Memory}
 use Rattle.msf_blocks.proofs.FoundLaws.{layout_holds}
 
 -- a file that has a layout is refused by position only when out of memory
 pub layout_wants : {T : Type 0} (bytes : Bytes) (broken : Bool) (result : Result T (AtFault MsfFault)) → IfKnown bytes AreBytes → IfErr result (IfOf (λ fault. IfKnown bytes (λ file. Refuses Memory (first_failing (layout_checks file)) fault)))
-    → IfErr result (λ fault. fault ≡ at.Read → Breaks bytes broken) → IfErr result (λ fault. IfKnown bytes (λ file. (layout : LayoutView) → HasLayout file layout → fault ≡ at.Of Memory))
+    → IfErr result (λ fault. fault ≡ at.Read → Breaks bytes broken) → IfErr result (IfOf (λ fault. IfKnown bytes (λ file. (layout : LayoutView) → HasLayout file layout → fault ≡ Memory)))
 layout_wants bytes broken (Ok value) small first read = tt
-layout_wants bytes broken (Err at.Read) small first read = λ file is layout has. let none : bytes.known ≡ None = (read refl).0 in let some : bytes.known ≡ Some file = ap (λ (b : Bytes). b.known) is in absurd cc
+layout_wants bytes broken (Err at.Read) small first read = tt
 layout_wants bytes broken (Err (at.Of fault)) small first read = λ file is layout has. elim (first file is) [
   | inl some ↦ let none = layout_holds file layout (small file is) has in absurd cc
-  | inr want ↦ ap (λ (f : MsfFault). at.Of f) want.0
+  | inr want ↦ want.0
 ]
+
+-- ---- with a limit on the directory
+
+-- what holds of each fault of a container holds of it as a fault within a limit
+pub of_within : (P : MsfFault → Type 0) (Q : WithinFault → Type 0) (fault : AtFault MsfFault) → ((inner : MsfFault) → P inner → Q (within.Of inner)) → IfOf P fault → IfOf Q (map_of within.Of fault)
+of_within P Q at.Read each is = tt
+of_within P Q (at.Of inner) each is = each inner is
+
+-- a superblock with a fault says nothing of the directory
+pub within_superblock : (limit : ℕ) (file : List ℕ) (fault : MsfFault) → first_failing (superblock_checks file) ≡ Some fault → HasWithinFault limit file (within.Of fault)
+within_superblock limit file fault first =
+    ((λ long. let none = superblock_holds file long.superblock long.is_superblock in absurd cc), inl (superblock_fault file fault first))
+
+-- a file has one superblock, so one length of its directory
+pub short_directory : (limit : ℕ) (file : List ℕ) (fields : Fields) → IsSuperblock file fields → fields.directory_bytes ≤ limit → HasLongDirectory limit file → ⊥
+short_directory limit file fields is short long = omega (arith, short, long.long, is.directory_bytes_is, long.is_superblock.directory_bytes_is)

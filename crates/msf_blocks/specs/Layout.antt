@@ -1,12 +1,15 @@
 -- The layout of a container: its superblock, and its streams as the directory lists them.
-use Rattle.std.specs.Prelude.{ℕ, ◌⊎◌, ◌<◌, ◌^◌, ◌++◌, List, Option, Some, None, length, slice_get, All}
+use Rattle.std.specs.Prelude.{ℕ, ◌-◌, ◌⊎◌, ◌<◌, ◌^◌, ◌++◌, List, Option, Some, None, length, slice_get, All}
 use Rattle.byte_fields.specs.Number.{nth_u32}
-use Rattle.byte_fields.specs.Check.{Check, checks_below}
+use Rattle.byte_fields.specs.Check.{Check, Refuses, checks_below, first_failing}
 use Rattle.byte_io.specs.At.{Bytes}
 use Rattle.msf_blocks.specs.BlockNumber.{IsBlockSize}
 use Rattle.msf_blocks.specs.Superblock.{Fields, IsSuperblock, HasFront, FrontRefuses, fields_of, superblock_checks}
 use Rattle.msf_blocks.specs.Directory.{Listed, IsListed, IsDirectory, ListsStreams, HasContents, DirectoryRefuses, directory_contents, directory_block_checks, length_checks, stream_checks}
 use Rattle.msf_blocks.specs.declared.fault.MsfFault.{MsfFault}
+use Rattle.msf_blocks.specs.declared.fault.MsfFault.TheVariants.{Memory}
+use Rattle.msf_blocks.specs.declared.fault.WithinFault.{WithinFault}
+use Rattle.msf_blocks.specs.declared.fault.WithinFault.TheVariants as within
 
 -- contracts see a layout as the values of the superblock and the list of streams
 pub record LayoutView : Type 0 where
@@ -52,3 +55,29 @@ layout_checks file =
     let fields = fields_of file in
     let contents = directory_contents file fields in
     superblock_checks file ++ (directory_block_checks file fields ++ (length_checks fields.block_size contents ++ checks_below (nth_u32 contents 0) (stream_checks fields contents)))
+
+-- ---- with a limit on the directory
+
+-- the superblock is sound, and says that the directory has more bytes than the limit; the greatest
+-- number of four bytes is no limit
+pub record HasLongDirectory (limit : ℕ) (file : List ℕ) : Type 0 where
+  pub limited : limit < 2 ^ 32 - 1
+  pub superblock : Fields
+  pub is_superblock : IsSuperblock file superblock
+  pub long : limit < superblock.directory_bytes
+
+-- reads gave a sound front that says so
+abbrev pub GivesLongDirectory : ℕ → Bytes → Type 0
+GivesLongDirectory limit bytes =
+    (fields : Fields) × HasFront bytes fields × (limit < fields.directory_bytes)
+
+-- this is the first fault of the file: after the superblock comes the length of the directory
+abbrev pub HasWithinFault : ℕ → List ℕ → WithinFault → Type 0
+HasWithinFault limit file within.TooLong = HasLongDirectory limit file
+HasWithinFault limit file (within.Of fault) =
+    (HasLongDirectory limit file → ⊥) × Refuses Memory (first_failing (layout_checks file)) fault
+
+-- what reads gave has this fault
+abbrev pub TextsRefuseWithin : ℕ → Bytes → WithinFault → Type 0
+TextsRefuseWithin limit bytes within.TooLong = GivesLongDirectory limit bytes
+TextsRefuseWithin limit bytes (within.Of fault) = TextsRefuse bytes fault

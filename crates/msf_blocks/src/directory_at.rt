@@ -1,5 +1,5 @@
 //! A stream directory that is read by position. If memory is refused for it, its checks are made
-//! all the same, one number at a time, which needs no memory.
+//! all the same, through a few pages on the stack.
 
 ghost use Rattle.std.specs.Prelude.{ℕ, None, Some, ◌≡◌, ◌⊎◌, ◌+◌, ◌*◌, ◌<◌, ◌≤◌, ◌^◌, length, map, OnOk, IfOk, IfErr, IfSome, IfNone};
 ghost use Rattle.std.specs.List.{range_with_len};
@@ -15,7 +15,7 @@ use crate::directory::bytes_of;
 use crate::fault::MsfFault;
 use crate::superblock::Superblock;
 use byte_fields::u32_at;
-use byte_io::{AtFault, ReadAt, ReadFault, read_more};
+use byte_io::{AtFault, Paged, ReadAt, ReadFault, read_more};
 use std::alloc::{AllocError, Allocator};
 
 /// The number in four bytes.
@@ -31,6 +31,7 @@ fn number_of(bytes: &[u8]) -> u32
 fn read_number<R: ReadAt>(input: &mut R, offset: u64) -> Option<u32>
     requires inside { IfKnown (R.bytes input.old) (λ file. offset + 4 ≤ length file) }
     ensures keeps { R.bytes input.new ≡ R.bytes input.old }
+    ensures lent { R.lent input.new ≡ R.lent input.old }
     ensures value { IfSome result (λ n.
         IfKnown (R.bytes input.old) (λ file. n ≡ number_at 4 file offset)) }
     ensures given { IfSome result (IsNumberGiven (R.bytes input.old) offset) }
@@ -49,6 +50,7 @@ fn read_map_number<R: ReadAt>(input: &mut R, superblock: &Superblock, position: 
     requires whole { IfKnown (R.bytes input.old) (λ file. HoldsBlocks file superblock.now) }
     requires below { position < directory_blocks superblock.now }
     ensures keeps { R.bytes input.new ≡ R.bytes input.old }
+    ensures lent { R.lent input.new ≡ R.lent input.old }
     ensures value { IfSome result (λ n.
         IfKnown (R.bytes input.old) (λ file. n ≡ map_number file superblock.now position)) }
     ensures given { IfSome result
@@ -63,6 +65,7 @@ fn read_map_number<R: ReadAt>(input: &mut R, superblock: &Superblock, position: 
 fn check_map<R: ReadAt>(input: &mut R, superblock: &Superblock) -> Result<(), AtFault<MsfFault>>
     requires whole { IfKnown (R.bytes input.old) (λ file. HoldsBlocks file superblock.now) }
     ensures keeps { R.bytes input.new ≡ R.bytes input.old }
+    ensures lent { R.lent input.new ≡ R.lent input.old }
     ensures held { OnOk result (IfKnown (R.bytes input.old) (λ file.
         first_failing (directory_block_checks file superblock.now) ≡ None)) }
     ensures first { IfErr result (IfOf (λ fault. IfKnown (R.bytes input.old) (λ file.
@@ -94,6 +97,7 @@ fn read_directory_number<R: ReadAt>(
     requires readable { IfKnown (R.bytes input.old) (λ file. IsReadable file superblock.now) }
     requires there { 4 * position + 4 ≤ superblock.now.directory_bytes }
     ensures keeps { R.bytes input.new ≡ R.bytes input.old }
+    ensures lent { R.lent input.new ≡ R.lent input.old }
     ensures value { IfSome result (λ n. IfKnown (R.bytes input.old) (λ file.
         n ≡ nth_u32 (directory_contents file superblock.now) position)) }
     ensures given { IfSome result (IsDirectoryNumber (R.bytes input.old) superblock.now position) }
@@ -112,6 +116,7 @@ fn read_stream_blocks<R: ReadAt>(input: &mut R, superblock: &Superblock, stream:
     requires readable { IfKnown (R.bytes input.old) (λ file. IsReadable file superblock.now) }
     requires there { 4 * (1 + stream) + 4 ≤ superblock.now.directory_bytes }
     ensures keeps { R.bytes input.new ≡ R.bytes input.old }
+    ensures lent { R.lent input.new ≡ R.lent input.old }
     ensures value { IfSome result (λ n. IfKnown (R.bytes input.old) (λ file.
         n
         ≡ stream_blocks superblock.now.block_size (directory_contents file superblock.now)
@@ -142,6 +147,7 @@ fn read_lists_end<R: ReadAt>(
     requires upto { from ≤ streams }
     requires short { start ≤ 2 ^ 33 }
     ensures keeps { R.bytes input.new ≡ R.bytes input.old }
+    ensures lent { R.lent input.new ≡ R.lent input.old }
     ensures value { IfSome result (λ n. IfKnown (R.bytes input.old) (λ file.
         n
         ≡ list_start superblock.now.block_size (directory_contents file superblock.now) streams)) }
@@ -173,6 +179,7 @@ fn check_end<R: ReadAt>(
     requires upto { from ≤ streams }
     requires short { start ≤ 2 ^ 33 }
     ensures keeps { R.bytes input.new ≡ R.bytes input.old }
+    ensures lent { R.lent input.new ≡ R.lent input.old }
     ensures held { OnOk result (IfKnown (R.bytes input.old) (λ file.
         4 * list_start superblock.now.block_size (directory_contents file superblock.now) streams
         ≤ superblock.now.directory_bytes)) }
@@ -204,6 +211,7 @@ fn check_end<R: ReadAt>(
 fn check_length<R: ReadAt>(input: &mut R, superblock: &Superblock) -> Result<u32, AtFault<MsfFault>>
     requires readable { IfKnown (R.bytes input.old) (λ file. IsReadable file superblock.now) }
     ensures keeps { R.bytes input.new ≡ R.bytes input.old }
+    ensures lent { R.lent input.new ≡ R.lent input.old }
     ensures few { IfOk result (λ n. 4 * (1 + n) ≤ superblock.now.directory_bytes) }
     ensures short { IfOk result (λ n. 4 * (1 + n) < 2 ^ 32) }
     ensures given { IfOk result (IsDirectoryNumber (R.bytes input.old) superblock.now 0) }
@@ -258,6 +266,7 @@ fn check_stream<R: ReadAt>(
         count
         ≡ stream_blocks superblock.now.block_size (directory_contents file superblock.now) stream) }
     ensures keeps { R.bytes input.new ≡ R.bytes input.old }
+    ensures lent { R.lent input.new ≡ R.lent input.old }
     ensures room { OnOk result (4 * (start + count) ≤ superblock.now.directory_bytes) }
     ensures short { OnOk result (4 * (start + count) < 2 ^ 32) }
     ensures held { OnOk result (IfKnown (R.bytes input.old) (λ file.
@@ -312,6 +321,7 @@ fn check_list<R: ReadAt>(
         ≤ superblock.now.directory_bytes) }
     requires lists { HasLists (R.bytes input.old) superblock.now streams stream start }
     ensures keeps { R.bytes input.new ≡ R.bytes input.old }
+    ensures lent { R.lent input.new ≡ R.lent input.old }
     ensures fits { IfOk result (λ end. 4 * end ≤ superblock.now.directory_bytes) }
     ensures end { IfOk result (λ end. IfKnown (R.bytes input.old) (λ file.
         end
@@ -358,6 +368,7 @@ fn check_streams<R: ReadAt>(
         4 * list_start superblock.now.block_size (directory_contents file superblock.now) streams
         ≤ superblock.now.directory_bytes) }
     ensures keeps { R.bytes input.new ≡ R.bytes input.old }
+    ensures lent { R.lent input.new ≡ R.lent input.old }
     ensures held { OnOk result (IfKnown (R.bytes input.old) (λ file.
         first_failing (checks_below streams
         (stream_checks superblock.now (directory_contents file superblock.now)))
@@ -388,6 +399,7 @@ fn check_directory<R: ReadAt>(
 ) -> Result<(), AtFault<MsfFault>>
     requires readable { IfKnown (R.bytes input.old) (λ file. IsReadable file superblock.now) }
     ensures keeps { R.bytes input.new ≡ R.bytes input.old }
+    ensures lent { R.lent input.new ≡ R.lent input.old }
     ensures held { OnOk result (IfKnown (R.bytes input.old) (λ file.
         first_failing (directory_checks superblock.now (directory_contents file superblock.now))
         ≡ None)) }
@@ -405,8 +417,10 @@ fn check_directory<R: ReadAt>(
     Ok(())
 }
 
-/// The fault of a directory for which memory was refused. This does not allocate: it checks one
-/// number at a time. The fault is `Memory` if all checks hold.
+/// The fault of a directory for which memory was refused. This does not allocate: it reads through
+/// pages on the stack. The fault is `Memory` if all checks hold.
+// The pages are on its stack, so its callers do not take it in.
+#[inline(never)]
 fn fault_without_memory<R: ReadAt>(input: &mut R, superblock: &Superblock) -> AtFault<MsfFault>
     requires { IfKnown (R.bytes input.old) (λ file. HoldsBlocks file superblock.now) }
     ensures keeps { R.bytes input.new ≡ R.bytes input.old }
@@ -417,10 +431,11 @@ fn fault_without_memory<R: ReadAt>(input: &mut R, superblock: &Superblock) -> At
     ensures refused { IfOf (DirectoryRefuses (R.bytes input.old) superblock.now) result }
     ensures read { result ≡ AtFault.Read → Breaks (R.bytes input.old) (R.is_broken input.new) }
 {
-    if let Err(fault) = check_map(input, superblock) {
+    let mut pages = Paged::new(input);
+    if let Err(fault) = check_map(&mut pages, superblock) {
         return fault;
     }
-    match check_directory(input, superblock) {
+    match check_directory(&mut pages, superblock) {
         Ok(()) => AtFault::Of(MsfFault::Memory),
         Err(fault) => fault,
     }
@@ -513,7 +528,7 @@ fn read_numbers<R: ReadAt, A: Allocator + Copy>(
 /// read at once, and so are directory blocks that are consecutive.
 ///
 /// All checks of the directory come before out of memory: where memory is refused, they are made
-/// one number at a time.
+/// through pages on the stack.
 pub fn read_contents<R: ReadAt, A: Allocator + Copy>(
     alloc: A,
     input: &mut R,

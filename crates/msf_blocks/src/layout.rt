@@ -4,16 +4,16 @@ ghost use Rattle.std.specs.Prelude.{None, ◌≡◌, ◌≤◌, ◌<◌, ◌*◌
 ghost use Rattle.byte_fields.specs.Bytes.{AreBytes};
 ghost use Rattle.byte_fields.specs.Number.{nth_u32};
 ghost use Rattle.byte_fields.specs.Check.{Makes, Refuses, first_failing};
-ghost use Rattle.byte_io.specs.At.{Breaks, IfKnown, IfOf};
-ghost use Rattle.msf_blocks.specs.Superblock.{IsSuperblock, fields_of};
+ghost use Rattle.byte_io.specs.At.{Breaks, IfKnown, IfOf, map_of};
+ghost use Rattle.msf_blocks.specs.Superblock.{HasFront, IsFit, IsSuperblock, fields_of, superblock_checks};
 ghost use Rattle.msf_blocks.specs.Directory.{directory_contents, list_start, listed_below, bytes_of};
-ghost use Rattle.msf_blocks.specs.Layout.{LayoutView, HasLayout, HasTexts, TextsRefuse, IsLayout, block_of, layout_checks};
+ghost use Rattle.msf_blocks.specs.Layout.{LayoutView, HasLayout, HasTexts, HasWithinFault, TextsRefuse, TextsRefuseWithin, IsLayout, block_of, layout_checks};
 ghost use Rattle.msf_blocks.specs.Stream.{listed_of};
 
 use crate::block_file::BlockFile;
 use crate::directory::{Directory, bytes_of};
 use crate::directory_at::read_contents;
-use crate::fault::MsfFault;
+use crate::fault::{MsfFault, WithinFault};
 use crate::superblock::Superblock;
 use byte_io::{AtFault, ReadAt};
 use std::alloc::{Allocator, Global};
@@ -135,6 +135,51 @@ impl<A: Allocator + Copy> Layout<A> {
     }
 }
 
+/// A fault of a container whose directory is not too long.
+fn within(fault: AtFault<MsfFault>) -> AtFault<WithinFault>
+    ensures { result ≡ map_of WithinFault.Of fault }
+{
+    match fault {
+        AtFault::Read => AtFault::Read,
+        AtFault::Of(fault) => AtFault::Of(WithinFault::Of(fault)),
+    }
+}
+
+/// Reads the layout of a container by position, whose superblock was read.
+fn layout_behind<R: ReadAt, A: Allocator + Copy>(
+    alloc: A,
+    input: &mut R,
+    superblock: Superblock,
+) -> Result<Layout<A>, AtFault<MsfFault>>
+    requires small { IfKnown (R.bytes input.old) AreBytes }
+    requires value { IfKnown (R.bytes input.old) (λ file. IsSuperblock file superblock) }
+    requires fields { IfKnown (R.bytes input.old) (λ file. superblock ≡ fields_of file) }
+    requires held { IfKnown (R.bytes input.old) (λ file.
+        first_failing (superblock_checks file) ≡ None) }
+    requires fit { IsFit superblock }
+    requires front { HasFront (R.bytes input.old) superblock }
+    ensures keeps { R.bytes input.new ≡ R.bytes input.old }
+    ensures value { IfOk result (λ layout.
+        IfKnown (R.bytes input.old) (λ file. HasLayout file layout)) }
+    ensures superblock { IfOk result (λ layout. layout.superblock ≡ superblock) }
+    ensures texts { IfOk result (HasTexts (R.bytes input.old)) }
+    ensures first { IfErr result (IfOf (λ fault. IfKnown (R.bytes input.old) (λ file.
+        Refuses MsfFault.Memory (first_failing (layout_checks file)) fault))) }
+    ensures refused { IfErr result (IfOf (TextsRefuse (R.bytes input.old))) }
+    ensures read { IfErr result (λ fault.
+        fault ≡ AtFault.Read → Breaks (R.bytes input.old) (R.is_broken input.new)) }
+{
+    let contents = read_contents(alloc, input, &superblock)?;
+    let directory = Directory::gathered(superblock, &contents);
+    let streams = directory.check_length()?;
+    directory.check_streams(streams)?;
+    let streams = list_streams(alloc, &directory, streams)?;
+    Ok(Layout {
+        superblock,
+        streams,
+    })
+}
+
 /// Reads the layout of a container by position.
 fn layout_at<R: ReadAt, A: Allocator + Copy>(
     alloc: A,
@@ -152,15 +197,7 @@ fn layout_at<R: ReadAt, A: Allocator + Copy>(
         fault ≡ AtFault.Read → Breaks (R.bytes input.old) (R.is_broken input.new)) }
 {
     let superblock = Superblock::read_at(input)?;
-    let contents = read_contents(alloc, input, &superblock)?;
-    let directory = Directory::gathered(superblock, &contents);
-    let streams = directory.check_length()?;
-    directory.check_streams(streams)?;
-    let streams = list_streams(alloc, &directory, streams)?;
-    Ok(Layout {
-        superblock,
-        streams,
-    })
+    layout_behind(alloc, input, superblock)
 }
 
 impl<A: Allocator + Copy> Layout<A> {
@@ -177,8 +214,8 @@ impl<A: Allocator + Copy> Layout<A> {
             IfKnown (R.bytes input.old) (λ file. HasLayout file layout)) }
         // Even if the file's bytes are not known, the layout is that of bytes that reads gave.
         ensures texts { IfOk result (HasTexts (R.bytes input.old)) }
-        ensures found { IfErr result (λ fault. IfKnown (R.bytes input.old) (λ file.
-            (layout : LayoutView) → HasLayout file layout → fault ≡ AtFault.Of MsfFault.Memory)) }
+        ensures found { IfErr result (IfOf (λ fault. IfKnown (R.bytes input.old) (λ file.
+            (layout : LayoutView) → HasLayout file layout → fault ≡ MsfFault.Memory))) }
         ensures first { IfErr result (IfOf (λ fault. IfKnown (R.bytes input.old) (λ file.
             Refuses MsfFault.Memory (first_failing (layout_checks file)) fault))) }
         // Even if the file's bytes are not known, the fault is that of bytes that reads gave.
@@ -187,6 +224,42 @@ impl<A: Allocator + Copy> Layout<A> {
             fault ≡ AtFault.Read → Breaks (R.bytes input.old) (R.is_broken input.new)) }
     {
         layout_at(alloc, input)
+    }
+
+    /// Reads the layout of a container by position, as [`Layout::read_at`] does, unless its
+    /// directory has more than `limit` bytes. A directory may list a block many times, so it may be
+    /// far longer than its file.
+    ///
+    /// `TooLong` comes after the faults of the superblock and before all others. Nothing is
+    /// allocated then, and nothing but the superblock is read.
+    pub fn read_within<R: ReadAt>(
+        alloc: A,
+        input: &mut R,
+        limit: u32,
+    ) -> Result<Layout<A>, AtFault<WithinFault>>
+        ensures keeps { R.bytes input.new ≡ R.bytes input.old }
+        ensures small { IfKnown (R.bytes input.old) AreBytes }
+        ensures value { IfOk result (λ layout.
+            IfKnown (R.bytes input.old) (λ file. HasLayout file layout)) }
+        ensures texts { IfOk result (HasTexts (R.bytes input.old)) }
+        ensures short { IfOk result (λ layout. layout.superblock.directory_bytes ≤ limit) }
+        ensures first { IfErr result (IfOf (λ fault.
+            IfKnown (R.bytes input.old) (λ file. HasWithinFault limit file fault))) }
+        ensures refused { IfErr result (IfOf (TextsRefuseWithin limit (R.bytes input.old))) }
+        ensures read { IfErr result (λ fault.
+            fault ≡ AtFault.Read → Breaks (R.bytes input.old) (R.is_broken input.new)) }
+    {
+        let superblock = match Superblock::read_at(input) {
+            Ok(superblock) => superblock,
+            Err(fault) => return Err(within(fault)),
+        };
+        if limit < superblock.directory_bytes() {
+            return Err(AtFault::Of(WithinFault::TooLong));
+        }
+        match layout_behind(alloc, input, superblock) {
+            Ok(layout) => Ok(layout),
+            Err(fault) => Err(within(fault)),
+        }
     }
 }
 

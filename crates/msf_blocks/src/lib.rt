@@ -9,6 +9,7 @@
 //!   is the number of a block of the file, so the crates above need no check of their own.
 //! - [`Superblock::read_at`] and [`Layout::read_at`] do the same by position, and [`read_blocks`]
 //!   reads the bytes in a list of blocks. Of a file they read no more than they need.
+//!   [`Layout::read_within`] refuses a directory that is too long before it reads it.
 //! - [`BlockSize`] is a size that a block may have. [`is_block_size`] says which sizes these are,
 //!   and [`blocks_for`] how many blocks hold a number of bytes.
 //! - [`superblock_bytes`], [`block_map_bytes`], [`directory_bytes`] and [`fill_map_block`] write the
@@ -55,7 +56,7 @@ pub use block_size::{BlockSize, is_block_size};
 pub use blocks::read_blocks;
 pub use byte_io::{In, NotTaken, Out, Sink, Source, put_all};
 pub use directory::{block_map_bytes, directory_bytes};
-pub use fault::MsfFault;
+pub use fault::{MsfFault, WithinFault};
 pub use free_map::{fill_map_block, free_bit, free_blocks};
 pub use layout::Layout;
 pub use superblock::{MAGIC, Superblock, superblock_bytes};

@@ -30,8 +30,7 @@ pub fn gather_at<R: ReadAt, A: Allocator, L: Allocator>(
     // Even if the file's bytes are not known, these are bytes that reads gave.
     ensures text { OnOk result (WasRead (R.bytes input.old) layout.now s buffer.new.items) }
     ensures found { s < length layout.now.streams →
-        IfErr result (λ fault.
-        IfKnown (R.bytes input.old) (λ _. fault ≡ AtFault.Of StreamFault.Memory)) }
+        IfErr result (IfOf (λ fault. fault ≡ StreamFault.Memory)) }
     ensures first { IfErr result (IfOf (λ fault.
         ((fault ≡ StreamFault.NoStream s) × (length layout.now.streams ≤ s))
         ⊎ ((fault ≡ StreamFault.Memory) × (s < length layout.now.streams)))) }

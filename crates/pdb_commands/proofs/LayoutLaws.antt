@@ -13,7 +13,7 @@ use Rattle.pdb_merge.specs.declared.fault.PdbFault.{PdbFault}
 use Rattle.pdb_merge.specs.declared.fault.PdbFault.TheVariants as pdb
 use Rattle.pdb_commands.specs.Check.{RefusesCheck}
 use Rattle.pdb_commands.specs.Fault.{run_from_pdb}
-use Rattle.pdb_commands.specs.Info.{RefusesInfo}
+use Rattle.pdb_commands.specs.Info.{RefusesInfoWithin}
 use Rattle.pdb_commands.specs.Record.{RefusesRecord}
 use Rattle.pdb_commands.specs.Records.{RefusesRecords}
 use Rattle.pdb_commands.specs.Streams.{HasLayoutFault, RefusesStreams, RefusesLayout}
@@ -63,8 +63,8 @@ no_types file fault inner outer is made = refused (RefusesTypes file) file fault
 pub no_accepted : {A : Type 0} (file : List ℕ) (fault : MsfFault) (inner : PdbFault A) (outer : RunFault A) → inner ≡ pdb_from_msf fault → outer ≡ run_from_pdb inner → Refuses msf.Memory (first_failing (layout_checks file)) fault → RefusesCheck file outer ⊎ (outer ≡ Memory)
 no_accepted file fault inner outer is made = refused (RefusesCheck file) file fault inner outer is made (λ f first. first)
 
-pub no_info : {A : Type 0} (file : List ℕ) (fault : MsfFault) (inner : PdbFault A) (outer : RunFault A) → inner ≡ pdb_from_msf fault → outer ≡ run_from_pdb inner → Refuses msf.Memory (first_failing (layout_checks file)) fault → RefusesInfo file outer ⊎ (outer ≡ Memory)
-no_info file fault inner outer is made = refused (RefusesInfo file) file fault inner outer is made (λ f first. first)
+pub no_info : {A : Type 0} (limit : ℕ) (file : List ℕ) (fault : MsfFault) (inner : PdbFault A) (outer : RunFault A) → inner ≡ pdb_from_msf fault → outer ≡ run_from_pdb inner → Refuses msf.Memory (first_failing (layout_checks file)) fault → RefusesInfoWithin limit file outer ⊎ (outer ≡ Memory)
+no_info limit file fault inner outer is made = refused (RefusesInfoWithin limit file) file fault inner outer is made (λ f first. first)
 
 -- ---- with a limit on the stream that the command reads
 
@@ -72,18 +72,18 @@ no_info file fault inner outer is made = refused (RefusesInfo file) file fault i
 short_without_layout : (command : Shown) (limit : ℕ) (file : List ℕ) (fault : MsfFault) → AreBytes file → first_failing (layout_checks file) ≡ Some fault → ReadsTooLong command limit file → ⊥
 short_without_layout command limit file fault bytes first (s, reads, long) = let none = layout_holds file long.layout bytes long.has_layout in absurd cc
 
-of_command : (A : Type 0) (command : Shown) (file : List ℕ) (fault : MsfFault) → first_failing (layout_checks file) ≡ Some fault → RefusesIt {A = A} command file (Pdb (pdb.Msf fault))
-of_command A shown.Records file fault first = first
-of_command A (shown.Record index) file fault first = first
-of_command A shown.Types file fault first = first
-of_command A shown.Check file fault first = first
-of_command A shown.Info file fault first = first
-of_command A shown.Streams file fault first = first
+of_command : (A : Type 0) (command : Shown) (limit : ℕ) (file : List ℕ) (fault : MsfFault) → first_failing (layout_checks file) ≡ Some fault → RefusesIt {A = A} command limit file (Pdb (pdb.Msf fault))
+of_command A shown.Records limit file fault first = first
+of_command A (shown.Record index) limit file fault first = first
+of_command A shown.Types limit file fault first = first
+of_command A shown.Check limit file fault first = first
+of_command A shown.Info limit file fault first = first
+of_command A shown.Streams limit file fault first = first
 
 pub none_within : {A : Type 0} (command : Shown) (limit : ℕ) (file : List ℕ) (fault : MsfFault) (inner : PdbFault A) (outer : RunFault A) → AreBytes file → inner ≡ pdb_from_msf fault → outer ≡ run_from_pdb inner
     → Refuses msf.Memory (first_failing (layout_checks file)) fault → RefusesWithin command limit file outer ⊎ (outer ≡ Memory)
 none_within {A = A} command limit file fault inner outer bytes is made =
-    refused (RefusesWithin command limit file) file fault inner outer is made (λ f first. inr (short_without_layout command limit file f bytes first, of_command A command file f first))
+    refused (RefusesWithin command limit file) file fault inner outer is made (λ f first. inr (short_without_layout command limit file f bytes first, of_command A command limit file f first))
 
 -- ---- of what reads gave
 

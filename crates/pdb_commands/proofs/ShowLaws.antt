@@ -1,13 +1,18 @@
 -- A command whose read by position failed.
-use Rattle.std.proofs.Common.{◌≡◌, ℕ, ◌≤◌, Bool, List, Option, ap, inl, inr}
+use Rattle.std.proofs.Common.{◌≡◌, ◌⊎◌, ℕ, ◌≤◌, Bool, List, Option, ap, inl, inr}
 use Rattle.std.specs.Prelude.{Result, Ok, Err, IfErr}
 use Rattle.std.proofs.lemmas.Bool.{cases_lt}
-use Rattle.byte_io.specs.At.{Breaks, Bytes}
+use Rattle.byte_io.specs.At.{Breaks, Bytes, IfKnown, IfOf}
+use Rattle.byte_io.specs.declared.at.AtFault.{AtFault}
+use Rattle.byte_io.specs.declared.at.AtFault.TheVariants as at
 use Rattle.byte_io.specs.declared.input.ReadFault.TheVariants as reads
-use Rattle.msf_blocks.specs.Layout.{LayoutView}
-use Rattle.pdb_commands.specs.Show.{AnswersAt}
+use Rattle.msf_blocks.specs.Layout.{LayoutView, HasLongDirectory, TextsRefuse, TextsRefuseWithin}
+use Rattle.msf_blocks.specs.declared.fault.MsfFault.{MsfFault}
+use Rattle.msf_blocks.specs.declared.fault.WithinFault.{WithinFault}
+use Rattle.msf_blocks.specs.declared.fault.WithinFault.TheVariants as within
+use Rattle.pdb_commands.specs.Show.{Answers, AnswersAt, GivesRefused, IfOfFile, PrintsPart, RefusesBounded}
 use Rattle.pdb_commands.specs.declared.fault.RunFault.{RunFault}
-use Rattle.pdb_commands.specs.declared.fault.RunFault.TheVariants.{Read}
+use Rattle.pdb_commands.specs.declared.fault.RunFault.TheVariants.{Read, Memory, Write}
 
 -- what holds after it: the reader is broken, its length is within the limit, and nothing was written
 pub record Failed {W : Type 0} (limit : ℕ) (bytes : Bytes) (broken : Bool) (before after : W) : Type 0 where
@@ -32,3 +37,51 @@ failed {T = T} Shows Refuses ShowsRead RefusesRead limit bytes broken taken is_b
 pub not_read : {A T : Type 0} (answer : Result T (RunFault A)) → (answer ≡ Err (Read reads.Read) → ⊥) → IfErr answer (λ fault. fault ≡ Read reads.Read → ⊥)
 not_read (Ok done) never = tt
 not_read (Err fault) never = λ is. never (ap (λ f. Err f) is)
+
+-- ---- a limit on the directory
+
+-- the fault of a command whose directory is within the limit
+pub refuses_bounded : {T A : Type 0} (limit : ℕ) (Refuses : List ℕ → RunFault A → Type 0) (bytes : Bytes) (answer : Result T (AtFault (RunFault A))) → IfKnown bytes (λ file. HasLongDirectory limit file → ⊥)
+    → IfErr answer (IfOf (λ fault. IfKnown bytes (λ file. Refuses file fault ⊎ (fault ≡ Memory)))) → IfErr answer (IfOf (λ fault. IfKnown bytes (λ file. RefusesBounded limit Refuses file fault ⊎ (fault ≡ Memory))))
+refuses_bounded limit Refuses bytes (Ok text) short refused = tt
+refuses_bounded limit Refuses bytes (Err at.Read) short refused = tt
+refuses_bounded limit Refuses bytes (Err (at.Of fault)) short refused = λ file known. elim (refused file known) [
+  | inl own ↦ inl (inr (short file known, own))
+  | inr want ↦ inr want
+]
+
+-- and the fault of a layout whose directory is within the limit
+pub refused_of : (limit : ℕ) (bytes : Bytes) (fault : WithinFault) (inner : MsfFault) → fault ≡ within.Of inner → TextsRefuseWithin limit bytes fault → TextsRefuse bytes inner
+refused_of limit bytes fault inner is refused = rw is at refused
+
+-- ---- an answer in weaker words
+
+of_file_more : {A : Type 0} (P Q : RunFault A → Type 0) (fault : RunFault A) → (P fault → Q fault) → IfOfFile P fault → IfOfFile Q fault
+of_file_more P Q (Read fault) more is = tt
+of_file_more P Q Memory more is = tt
+of_file_more P Q Write more is = tt
+of_file_more P Q fault more is = more is
+
+part_more : (Shows Shows' : List ℕ → List ℕ → Type 0) (limit : ℕ) (left_before left_after taken_before taken_after : Option (List ℕ)) → ((file text : List ℕ) → Shows file text → Shows' file text) → PrintsPart Shows limit left_before left_after taken_before taken_after → PrintsPart Shows' limit left_before left_after taken_before taken_after
+part_more Shows Shows' limit left_before left_after taken_before taken_after shows (file, text, count, gives, is, short, appends) = (file, text, count, gives, shows file text is, short, appends)
+
+-- what each text and each refusal of a command says, its answer says
+pub answers_more : {A W T : Type 0} (Shows Shows' : List ℕ → List ℕ → Type 0) (Refuses Refuses' : List ℕ → RunFault A → Type 0) (limit : ℕ) (left_before left_after : Option (List ℕ)) (broken : Bool) (taken : W → Option (List ℕ)) (is_broken : W → Bool) (before after : W) (result : Result T (RunFault A))
+    → ((file text : List ℕ) → Shows file text → Shows' file text) → ((file : List ℕ) (fault : RunFault A) → Refuses file fault → Refuses' file fault)
+    → Answers Shows Refuses limit left_before left_after broken taken is_broken before after result → Answers Shows' Refuses' limit left_before left_after broken taken is_broken before after result
+answers_more Shows Shows' Refuses Refuses' limit left_before left_after broken taken is_broken before after (Ok done) shows refuses a = record {
+  value = (let v = a.value in (v.0, v.1, v.2, shows v.0 v.1 v.3, v.4));
+  read = tt;
+  first = tt;
+  memory = tt;
+  write = tt;
+  untouched = tt;
+}
+answers_more Shows Shows' Refuses Refuses' limit left_before left_after broken taken is_broken before after (Err fault) shows refuses a = record {
+  value = tt;
+  read = a.read;
+  first = of_file_more (GivesRefused Refuses limit left_before left_after) (GivesRefused Refuses' limit left_before left_after) fault (λ refused. (refused.0, refused.1, refuses refused.0 fault refused.2)) a.first;
+  memory = a.memory;
+  write = λ is. (let w = a.write is in (w.0, part_more Shows Shows' limit left_before left_after (taken before) (taken after) shows w.1));
+  untouched = a.untouched;
+}

@@ -28,13 +28,13 @@ reads_long (Ok done) command limit s file is long = tt
 reads_long (Err fault) command limit s file is long = (s, is, long)
 
 -- the text of a command whose stream is within the limit, of a file that is read by position
-pub shows_within : {T F : Type 0} (bytes_of : T → List ℕ) (Shows : List ℕ → List ℕ → Type 0) (command : Shown) (limit : ℕ) (bytes : Bytes) (answer : Result T F) → ((file text : List ℕ) → Shows file text → ShowsIt command file text)
+pub shows_within : {T F : Type 0} (bytes_of : T → List ℕ) (Shows : List ℕ → List ℕ → Type 0) (command : Shown) (limit : ℕ) (bytes : Bytes) (answer : Result T F) → ((file text : List ℕ) → Shows file text → ShowsIt command limit file text)
     → IfKnown bytes (λ file. ReadsTooLong command limit file → ⊥) → IfOk answer (λ text. IfKnown bytes (λ file. Shows file (bytes_of text))) → IfOk answer (λ text. IfKnown bytes (λ file. ShowsWithin command limit file (bytes_of text)))
 shows_within bytes_of Shows command limit bytes (Ok text) each short shows = λ file is. (short file is, each file (bytes_of text) (shows file is))
 shows_within bytes_of Shows command limit bytes (Err fault) each short shows = tt
 
 -- and the fault of such a command
-pub refuses_within : {T A : Type 0} (Refuses : List ℕ → RunFault A → Type 0) (command : Shown) (limit : ℕ) (bytes : Bytes) (answer : Result T (AtFault (RunFault A))) → ((file : List ℕ) (fault : RunFault A) → Refuses file fault → RefusesIt command file fault)
+pub refuses_within : {T A : Type 0} (Refuses : List ℕ → RunFault A → Type 0) (command : Shown) (limit : ℕ) (bytes : Bytes) (answer : Result T (AtFault (RunFault A))) → ((file : List ℕ) (fault : RunFault A) → Refuses file fault → RefusesIt command limit file fault)
     → IfKnown bytes (λ file. ReadsTooLong command limit file → ⊥) → IfErr answer (IfOf (λ fault. IfKnown bytes (λ file. Refuses file fault ⊎ (fault ≡ Memory))))
     → IfErr answer (IfOf (λ fault. IfKnown bytes (λ file. RefusesWithin command limit file fault ⊎ (fault ≡ Memory))))
 refuses_within Refuses command limit bytes (Ok text) each short refused = tt
@@ -56,13 +56,13 @@ lists_long (Ok done) command limit s layout is long = tt
 lists_long (Err fault) command limit s layout is long = (s, is, long)
 
 -- the text of a command whose stream is within the limit
-pub read_within : {T F : Type 0} (bytes_of : T → List ℕ) (ShowsRead : Bytes → LayoutView → List ℕ → Type 0) (command : Shown) (limit : ℕ) (bytes : Bytes) (layout : LayoutView) (answer : Result T F) → ((text : List ℕ) → ShowsRead bytes layout text → ShowsItRead command bytes layout text)
+pub read_within : {T F : Type 0} (bytes_of : T → List ℕ) (ShowsRead : Bytes → LayoutView → List ℕ → Type 0) (command : Shown) (limit : ℕ) (bytes : Bytes) (layout : LayoutView) (answer : Result T F) → ((text : List ℕ) → ShowsRead bytes layout text → ShowsItRead command limit bytes layout text)
     → (ListsTooLong command limit layout → ⊥) → IfOk answer (λ text. ShowsRead bytes layout (bytes_of text)) → IfOk answer (λ text. ShowsWithinRead command limit bytes layout (bytes_of text))
 read_within bytes_of ShowsRead command limit bytes layout (Ok text) each short shows = (short, each (bytes_of text) shows)
 read_within bytes_of ShowsRead command limit bytes layout (Err fault) each short shows = tt
 
 -- and the fault of such a command
-pub refused_within : {T A : Type 0} (RefusesRead : Bytes → LayoutView → RunFault A → Type 0) (command : Shown) (limit : ℕ) (bytes : Bytes) (layout : LayoutView) (answer : Result T (AtFault (RunFault A))) → ((fault : RunFault A) → RefusesRead bytes layout fault → RefusesItRead command bytes layout fault)
+pub refused_within : {T A : Type 0} (RefusesRead : Bytes → LayoutView → RunFault A → Type 0) (command : Shown) (limit : ℕ) (bytes : Bytes) (layout : LayoutView) (answer : Result T (AtFault (RunFault A))) → ((fault : RunFault A) → RefusesRead bytes layout fault → RefusesItRead command limit bytes layout fault)
     → (ListsTooLong command limit layout → ⊥) → IfErr answer (IfOf (λ fault. RefusesRead bytes layout fault ⊎ (fault ≡ Memory))) → IfErr answer (IfOf (λ fault. RefusesWithinRead command limit bytes layout fault ⊎ (fault ≡ Memory)))
 refused_within RefusesRead command limit bytes layout (Ok text) each short refused = tt
 refused_within RefusesRead command limit bytes layout (Err at.Read) each short refused = tt

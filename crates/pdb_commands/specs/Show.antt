@@ -5,10 +5,10 @@ use Rattle.byte_io.specs.At.{Breaks, Bytes, IfKnown}
 use Rattle.byte_io.specs.Input.{GivesAll, IsNotRead, HasGiven}
 use Rattle.byte_io.specs.declared.input.ReadFault.{ReadFault}
 use Rattle.byte_io.specs.declared.input.ReadFault.TheVariants as reads
-use Rattle.msf_blocks.specs.Layout.{LayoutView, HasTexts}
+use Rattle.msf_blocks.specs.Layout.{LayoutView, GivesLongDirectory, HasLongDirectory, HasTexts}
 use Rattle.pdb_commands.specs.Streams.{RefusesLayout}
 use Rattle.pdb_commands.specs.declared.fault.RunFault.{RunFault}
-use Rattle.pdb_commands.specs.declared.fault.RunFault.TheVariants.{Read, Memory, Write}
+use Rattle.pdb_commands.specs.declared.fault.RunFault.TheVariants.{Read, TooLong, Memory, Write}
 
 -- the source gave a file, and the sink took the text that shows it
 abbrev pub Prints : (List ℕ → List ℕ → Type 0) → ℕ → Option (List ℕ) → Option (List ℕ) → Option (List ℕ) → Option (List ℕ) → Type 0
@@ -53,6 +53,19 @@ pub record Answers {A W T : Type 0} (Shows : List ℕ → List ℕ → Type 0) (
   pub write : IfErr result (λ fault. fault ≡ Write → (is_broken after ≡ true) × PrintsPart Shows limit left_before left_after (taken before) (taken after))
   pub untouched : IfErr result (λ fault. (fault ≡ Write) ⊎ (after ≡ before))
 
+-- ---- a file whose directory is held against a limit
+
+-- the directory is within the limit, and `Shows` holds
+abbrev pub ShowsBounded : ℕ → (List ℕ → List ℕ → Type 0) → List ℕ → List ℕ → Type 0
+ShowsBounded limit Shows file text = (HasLongDirectory limit file → ⊥) × Shows file text
+
+-- the directory is longer than the limit, else `Refuses` holds
+abbrev pub RefusesBounded : {A : Type 0} → ℕ → (List ℕ → RunFault A → Type 0) → List ℕ → RunFault A
+    → Type 0
+RefusesBounded limit Refuses file fault =
+    ((fault ≡ TooLong) × HasLongDirectory limit file)
+    ⊎ ((HasLongDirectory limit file → ⊥) × Refuses file fault)
+
 -- ---- a file that is read by position
 
 -- the sink took the text that shows the file, which is at most `limit` bytes long
@@ -70,21 +83,33 @@ IsNotReadAt bytes broken limit reads.Read = Breaks bytes broken
 IsNotReadAt bytes broken limit reads.TooLong = (limit < bytes.told) × IfKnown bytes (λ file. limit < length file)
 IsNotReadAt bytes broken limit reads.Memory = ⊥
 
--- reads gave the front, the block map and the directory of a layout, and this is the text of what they gave of it
-abbrev pub IsOfTexts : (Bytes → LayoutView → List ℕ → Type 0) → Bytes → List ℕ → Type 0
-IsOfTexts ShowsRead bytes text = (layout : LayoutView) × HasTexts bytes layout × ShowsRead bytes layout text
+-- reads gave a layout whose directory is within the limit, and this is the text of what they gave
+abbrev pub IsOfTexts : ℕ → (Bytes → LayoutView → List ℕ → Type 0) → Bytes → List ℕ → Type 0
+IsOfTexts limit ShowsRead bytes text =
+    (layout : LayoutView) × HasTexts bytes layout
+    × (layout.superblock.directory_bytes ≤ limit) × ShowsRead bytes layout text
 
--- what reads gave has this fault: the layout has it, or reads gave a layout without a fault and what the command reads of it has it
-abbrev pub IsFaultOfTexts : {A : Type 0} → (Bytes → LayoutView → RunFault A → Type 0) → Bytes → RunFault A → Type 0
-IsFaultOfTexts RefusesRead bytes fault = RefusesLayout bytes fault ⊎ ((layout : LayoutView) × HasTexts bytes layout × RefusesRead bytes layout fault)
+-- what reads gave has this fault: the directory is longer than the limit; or the layout has it; or
+-- reads gave a layout without a fault, and what the command reads of it has it
+abbrev pub IsFaultOfTexts : {A : Type 0} → ℕ → (Bytes → LayoutView → RunFault A → Type 0) → Bytes
+    → RunFault A → Type 0
+IsFaultOfTexts limit RefusesRead bytes fault =
+    ((fault ≡ TooLong) × GivesLongDirectory limit bytes)
+    ⊎ (RefusesLayout bytes fault
+    ⊎ ((layout : LayoutView) × HasTexts bytes layout × RefusesRead bytes layout fault))
 
 -- the sink took such a text
-abbrev pub PrintsRead : (Bytes → LayoutView → List ℕ → Type 0) → Bytes → Option (List ℕ) → Option (List ℕ) → Type 0
-PrintsRead ShowsRead bytes taken_before taken_after = (text : List ℕ) × IsOfTexts ShowsRead bytes text × Appends taken_before taken_after text
+abbrev pub PrintsRead : ℕ → (Bytes → LayoutView → List ℕ → Type 0) → Bytes → Option (List ℕ)
+    → Option (List ℕ) → Type 0
+PrintsRead limit ShowsRead bytes taken_before taken_after =
+    (text : List ℕ) × IsOfTexts limit ShowsRead bytes text × Appends taken_before taken_after text
 
 -- the sink took the first bytes of such a text, but not all of them
-abbrev pub PrintsPartRead : (Bytes → LayoutView → List ℕ → Type 0) → Bytes → Option (List ℕ) → Option (List ℕ) → Type 0
-PrintsPartRead ShowsRead bytes taken_before taken_after = (text : List ℕ) × (count : ℕ) × IsOfTexts ShowsRead bytes text × (count < length text) × Appends taken_before taken_after (take count text)
+abbrev pub PrintsPartRead : ℕ → (Bytes → LayoutView → List ℕ → Type 0) → Bytes → Option (List ℕ)
+    → Option (List ℕ) → Type 0
+PrintsPartRead limit ShowsRead bytes taken_before taken_after =
+    (text : List ℕ) × (count : ℕ) × IsOfTexts limit ShowsRead bytes text × (count < length text)
+    × Appends taken_before taken_after (take count text)
 
 -- how a command that reads by position answers. If the bytes of the file are known, it prints the text that shows the file, or it is refused by the file's length or by its first fault.
 -- Memory runs out only if the length of such a file is within the limit. A sink that breaks took the first bytes of the text. After any other refusal the sink is as it was.
@@ -92,14 +117,14 @@ PrintsPartRead ShowsRead bytes taken_before taken_after = (text : List ℕ) × (
 pub record AnswersAt {A W T : Type 0} (Shows : List ℕ → List ℕ → Type 0) (Refuses : List ℕ → RunFault A → Type 0) (ShowsRead : Bytes → LayoutView → List ℕ → Type 0) (RefusesRead : Bytes → LayoutView → RunFault A → Type 0) (limit : ℕ) (bytes : Bytes) (broken : Bool)
     (taken : W → Option (List ℕ)) (is_broken : W → Bool) (before after : W) (result : Result T (RunFault A)) : Type 0 where
   pub value : OnOk result (IfKnown bytes (λ file. PrintsAt Shows limit file (taken before) (taken after)))
-  pub texts : OnOk result (PrintsRead ShowsRead bytes (taken before) (taken after))
+  pub texts : OnOk result (PrintsRead limit ShowsRead bytes (taken before) (taken after))
   pub long : limit < bytes.told → IfErr result (λ fault. fault ≡ Read reads.TooLong)
   pub within : OnOk result (bytes.told ≤ limit)
   pub read : IfErr result (IfRead (IsNotReadAt bytes broken limit))
   pub first : IfErr result (IfOfFile (λ fault. IfKnown bytes (λ file. Refuses file fault)))
-  pub refused : IfErr result (IfOfFile (IsFaultOfTexts RefusesRead bytes))
+  pub refused : IfErr result (IfOfFile (IsFaultOfTexts limit RefusesRead bytes))
   pub memory : IfErr result (λ fault. fault ≡ Memory → IfKnown bytes (λ file. length file ≤ limit))
-  pub write : IfErr result (λ fault. fault ≡ Write → (is_broken after ≡ true) × PrintsPartRead ShowsRead bytes (taken before) (taken after) × IfKnown bytes (λ file. PrintsPartAt Shows limit file (taken before) (taken after)))
+  pub write : IfErr result (λ fault. fault ≡ Write → (is_broken after ≡ true) × PrintsPartRead limit ShowsRead bytes (taken before) (taken after) × IfKnown bytes (λ file. PrintsPartAt Shows limit file (taken before) (taken after)))
   pub untouched : IfErr result (λ fault. (fault ≡ Write) ⊎ (after ≡ before))
 
 -- ---- a file that is read by position, and whole where a read by position fails

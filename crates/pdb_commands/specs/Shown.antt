@@ -3,9 +3,9 @@ use Rattle.std.specs.Prelude.{ℕ, ◌≡◌, ◌<◌, ◌-◌, ◌^◌, ◌⊎�
 use Rattle.byte_fields.specs.Check.{first_failing}
 use Rattle.byte_io.specs.At.{Bytes}
 use Rattle.msf_blocks.specs.Directory.{Listed, bytes_of}
-use Rattle.msf_blocks.specs.Layout.{LayoutView, HasLayout, layout_checks}
+use Rattle.msf_blocks.specs.Layout.{LayoutView, HasLayout, HasLongDirectory, layout_checks}
 use Rattle.pdb_commands.specs.Check.{ShowsChecked, ShowsCheckedRead, RefusesCheck, RefusesCheckRead}
-use Rattle.pdb_commands.specs.Info.{ShowsInfo, ShowsInfoRead, RefusesInfo, RefusesInfoRead}
+use Rattle.pdb_commands.specs.Info.{ShowsInfoWithin, ShowsInfoRead, RefusesInfoWithin, RefusesInfoRead}
 use Rattle.pdb_commands.specs.Record.{ShowsRecord, ShowsRecordRead, RefusesRecord, RefusesRecordRead}
 use Rattle.pdb_commands.specs.Records.{ShowsRecords, ShowsRecordsRead, RefusesRecords, RefusesRecordsRead}
 use Rattle.pdb_commands.specs.Streams.{ShowsStreams, ShowsStreamsRead, RefusesStreams, RefusesStreamsRead}
@@ -15,41 +15,41 @@ use Rattle.pdb_commands.specs.declared.fault.RunFault.TheVariants.{TooLong}
 use Rattle.pdb_commands.specs.declared.shown.Shown.{Shown}
 use Rattle.pdb_commands.specs.declared.shown.Shown.TheVariants as shown
 
--- the command prints this text for this file
-abbrev pub ShowsIt : Shown → List ℕ → List ℕ → Type 0
-ShowsIt shown.Records = ShowsRecords
-ShowsIt (shown.Record index) = ShowsRecord index
-ShowsIt shown.Types = ShowsTypes
-ShowsIt shown.Check = ShowsChecked
-ShowsIt shown.Info = ShowsInfo
-ShowsIt shown.Streams = ShowsStreams
+-- the command prints this text for this file; the limit is on the names that `info` prints
+abbrev pub ShowsIt : Shown → ℕ → List ℕ → List ℕ → Type 0
+ShowsIt shown.Records limit = ShowsRecords
+ShowsIt (shown.Record index) limit = ShowsRecord index
+ShowsIt shown.Types limit = ShowsTypes
+ShowsIt shown.Check limit = ShowsChecked
+ShowsIt shown.Info limit = ShowsInfoWithin limit
+ShowsIt shown.Streams limit = ShowsStreams
 
 -- the command refuses this file with this fault
-abbrev pub RefusesIt : {A : Type 0} → Shown → List ℕ → RunFault A → Type 0
-RefusesIt shown.Records = RefusesRecords
-RefusesIt (shown.Record index) = RefusesRecord index
-RefusesIt shown.Types = RefusesTypes
-RefusesIt shown.Check = RefusesCheck
-RefusesIt shown.Info = RefusesInfo
-RefusesIt shown.Streams = RefusesStreams
+abbrev pub RefusesIt : {A : Type 0} → Shown → ℕ → List ℕ → RunFault A → Type 0
+RefusesIt shown.Records limit = RefusesRecords
+RefusesIt (shown.Record index) limit = RefusesRecord index
+RefusesIt shown.Types limit = RefusesTypes
+RefusesIt shown.Check limit = RefusesCheck
+RefusesIt shown.Info limit = RefusesInfoWithin limit
+RefusesIt shown.Streams limit = RefusesStreams
 
 -- the command prints this text of what reads gave of this layout
-abbrev pub ShowsItRead : Shown → Bytes → LayoutView → List ℕ → Type 0
-ShowsItRead shown.Records = ShowsRecordsRead
-ShowsItRead (shown.Record index) = ShowsRecordRead index
-ShowsItRead shown.Types = ShowsTypesRead
-ShowsItRead shown.Check = ShowsCheckedRead
-ShowsItRead shown.Info = ShowsInfoRead
-ShowsItRead shown.Streams = ShowsStreamsRead
+abbrev pub ShowsItRead : Shown → ℕ → Bytes → LayoutView → List ℕ → Type 0
+ShowsItRead shown.Records limit = ShowsRecordsRead
+ShowsItRead (shown.Record index) limit = ShowsRecordRead index
+ShowsItRead shown.Types limit = ShowsTypesRead
+ShowsItRead shown.Check limit = ShowsCheckedRead
+ShowsItRead shown.Info limit = ShowsInfoRead limit
+ShowsItRead shown.Streams limit = ShowsStreamsRead
 
 -- the command refuses what reads gave of this layout with this fault
-abbrev pub RefusesItRead : {A : Type 0} → Shown → Bytes → LayoutView → RunFault A → Type 0
-RefusesItRead shown.Records = RefusesRecordsRead
-RefusesItRead (shown.Record index) = RefusesRecordRead index
-RefusesItRead shown.Types = RefusesTypesRead
-RefusesItRead shown.Check = RefusesCheckRead
-RefusesItRead shown.Info = RefusesInfoRead
-RefusesItRead shown.Streams = RefusesStreamsRead
+abbrev pub RefusesItRead : {A : Type 0} → Shown → ℕ → Bytes → LayoutView → RunFault A → Type 0
+RefusesItRead shown.Records limit = RefusesRecordsRead
+RefusesItRead (shown.Record index) limit = RefusesRecordRead index
+RefusesItRead shown.Types limit = RefusesTypesRead
+RefusesItRead shown.Check limit = RefusesCheckRead
+RefusesItRead shown.Info limit = RefusesInfoRead limit
+RefusesItRead shown.Streams limit = RefusesStreamsRead
 
 -- the stream that the command reads whole, if it reads one
 abbrev pub stream_of : Shown → Option ℕ
@@ -66,6 +66,10 @@ pub record HasLongStream (limit s : ℕ) (file : List ℕ) : Type 0 where
   pub is_stream : slice_get layout.streams s ≡ Some stream
   pub long : limit < bytes_of stream.size
 
+-- the directory, or the stream at this position, has more bytes than the limit
+abbrev pub HasLongPart : ℕ → ℕ → List ℕ → Type 0
+HasLongPart limit s file = HasLongDirectory limit file ⊎ HasLongStream limit s file
+
 -- memory may run out while a stream of this file is compared with the limit: there is a limit, and the container has no fault
 pub record MayRunOut (limit : ℕ) (file : List ℕ) : Type 0 where
   pub limited : limit < 2 ^ 32 - 1
@@ -77,12 +81,12 @@ ReadsTooLong command limit file = (s : ℕ) × (stream_of command ≡ Some s) ×
 
 -- the command prints this text for this file, and the stream that it reads is within the limit
 abbrev pub ShowsWithin : Shown → ℕ → List ℕ → List ℕ → Type 0
-ShowsWithin command limit file text = (ReadsTooLong command limit file → ⊥) × ShowsIt command file text
+ShowsWithin command limit file text = (ReadsTooLong command limit file → ⊥) × ShowsIt command limit file text
 
 -- the command refuses this file with this fault: the stream that it reads is longer than the limit, else the command's own
 abbrev pub RefusesWithin : {A : Type 0} → Shown → ℕ → List ℕ → RunFault A → Type 0
 RefusesWithin command limit file fault =
-    ((fault ≡ TooLong) × ReadsTooLong command limit file) ⊎ ((ReadsTooLong command limit file → ⊥) × RefusesIt command file fault)
+    ((fault ≡ TooLong) × ReadsTooLong command limit file) ⊎ ((ReadsTooLong command limit file → ⊥) × RefusesIt command limit file fault)
 
 -- ---- the same of what reads gave
 
@@ -99,9 +103,9 @@ ListsTooLong command limit layout = (s : ℕ) × (stream_of command ≡ Some s) 
 
 -- the command prints this text of what reads gave of this layout, and the stream that it reads is within the limit
 abbrev pub ShowsWithinRead : Shown → ℕ → Bytes → LayoutView → List ℕ → Type 0
-ShowsWithinRead command limit bytes layout text = (ListsTooLong command limit layout → ⊥) × ShowsItRead command bytes layout text
+ShowsWithinRead command limit bytes layout text = (ListsTooLong command limit layout → ⊥) × ShowsItRead command limit bytes layout text
 
 -- the command refuses what reads gave of this layout with this fault: the stream that it reads is longer than the limit, else the command's own
 abbrev pub RefusesWithinRead : {A : Type 0} → Shown → ℕ → Bytes → LayoutView → RunFault A → Type 0
 RefusesWithinRead command limit bytes layout fault =
-    ((fault ≡ TooLong) × ListsTooLong command limit layout) ⊎ ((ListsTooLong command limit layout → ⊥) × RefusesItRead command bytes layout fault)
+    ((fault ≡ TooLong) × ListsTooLong command limit layout) ⊎ ((ListsTooLong command limit layout → ⊥) × RefusesItRead command limit bytes layout fault)

@@ -1,18 +1,34 @@
-//! A limit on a stream of a file.
+//! A limit on the directory and on a stream of a file.
 
 ghost use Rattle.std.specs.Prelude.{◌≡◌, ◌⊎◌, ℕ, List, OnOk, IfErr};
 ghost use Rattle.byte_fields.specs.Bytes.{AreBytes};
 ghost use Rattle.byte_io.specs.At.{Breaks, IfKnown, IfOf};
-ghost use Rattle.msf_blocks.specs.Layout.{HasLayout};
-ghost use Rattle.pdb_commands.specs.Shown.{HasLongStream, ListsLongStream, MayRunOut};
+ghost use Rattle.msf_blocks.specs.Layout.{HasLayout, HasLongDirectory};
+ghost use Rattle.pdb_commands.specs.Shown.{HasLongPart, HasLongStream, ListsLongStream, MayRunOut};
 
 use crate::fault::RunFault;
 use byte_io::{AtFault, ReadAt};
-use msf_blocks::{Layout, MsfFault};
+use msf_blocks::{Layout, MsfFault, Superblock, WithinFault};
 use std::alloc::Allocator;
 
 /// The stream that holds the type records.
 pub(crate) const TPI_STREAM: u32 = 2;
+
+/// Checks that the directory of a file has at most `limit` bytes. A superblock that is not sound is
+/// left to the reader that comes next.
+///
+/// `TooLong` where the superblock is sound and says that the directory has more bytes. Nothing but
+/// the superblock is read.
+pub(crate) fn check_directory<A: Allocator>(file: &[u8], limit: u32) -> Result<(), RunFault<A>>
+    ensures value { OnOk result (HasLongDirectory limit file.now → ⊥) }
+    ensures first { IfErr result (λ fault.
+        (fault ≡ RunFault.TooLong) × HasLongDirectory limit file.now) }
+{
+    match Superblock::read(file) {
+        Ok(superblock) if limit < superblock.directory_bytes() => Err(RunFault::TooLong),
+        _ => Ok(()),
+    }
+}
 
 /// Checks that a stream of a file with this layout has at most `limit` bytes. A stream that is not
 /// there is left to the reader that comes next.
@@ -66,9 +82,10 @@ pub(crate) fn check_stream<A: Allocator + Copy>(
     }
 }
 
-/// Checks that the stream of type records has at most `limit` bytes, as [`run_shown`] does for each
-/// command that reads it. `TooLong` where it has more. `Memory` when out of memory, and only
-/// where there is a limit and the container is sound.
+/// Checks that the directory and the stream of type records have at most `limit` bytes each, as
+/// [`run_shown`] does for each command that reads this stream. `TooLong` where one has more, first
+/// of the directory. `Memory` when out of memory, and only where there is a limit and the container
+/// is sound.
 ///
 /// [`run_shown`]: crate::run_shown
 pub fn check_type_stream<A: Allocator + Copy>(
@@ -76,17 +93,19 @@ pub fn check_type_stream<A: Allocator + Copy>(
     file: &[u8],
     limit: u32,
 ) -> Result<(), RunFault<A>>
-    ensures value { OnOk result (HasLongStream limit 2 file.now → ⊥) }
+    ensures value { OnOk result (HasLongPart limit 2 file.now → ⊥) }
     ensures first { IfErr result (λ fault.
-        ((fault ≡ RunFault.TooLong) × HasLongStream limit 2 file.now) ⊎ (fault ≡ RunFault.Memory)) }
+        ((fault ≡ RunFault.TooLong) × HasLongPart limit 2 file.now) ⊎ (fault ≡ RunFault.Memory)) }
     ensures memory { IfErr result (λ fault. fault ≡ RunFault.Memory → MayRunOut limit file.now) }
 {
+    check_directory(file, limit)?;
     check_stream(alloc, file, TPI_STREAM, limit)
 }
 
-/// Checks that the stream of type records has at most `limit` bytes, by position, as
-/// [`check_type_stream`] does for a whole file. Of the file only the superblock, the block map and
-/// the directory are read, and nothing where `limit` is `u32::MAX`.
+/// Checks that the directory and the stream of type records have at most `limit` bytes each, by
+/// position, as [`check_type_stream`] does for a whole file. Of the file only the superblock, the
+/// block map and the directory are read, and nothing where `limit` is `u32::MAX`. A directory that
+/// is too long is not read.
 ///
 /// The faults are `AtFault::Read` where a read failed, `TooLong` and `Memory`.
 pub fn check_type_stream_at<R: ReadAt, A: Allocator + Copy>(
@@ -96,9 +115,9 @@ pub fn check_type_stream_at<R: ReadAt, A: Allocator + Copy>(
 ) -> Result<(), AtFault<RunFault<A>>>
     ensures keeps { R.bytes input.new ≡ R.bytes input.old }
     ensures value { OnOk result
-        (IfKnown (R.bytes input.old) (λ file. HasLongStream limit 2 file → ⊥)) }
+        (IfKnown (R.bytes input.old) (λ file. HasLongPart limit 2 file → ⊥)) }
     ensures first { IfErr result (IfOf (λ fault.
-        ((fault ≡ RunFault.TooLong) × IfKnown (R.bytes input.old) (HasLongStream limit 2))
+        ((fault ≡ RunFault.TooLong) × IfKnown (R.bytes input.old) (HasLongPart limit 2))
         ⊎ (fault ≡ RunFault.Memory))) }
     ensures memory { IfErr result
         (IfOf (λ fault. fault ≡ RunFault.Memory → IfKnown (R.bytes input.old) (MayRunOut limit))) }
@@ -108,12 +127,13 @@ pub fn check_type_stream_at<R: ReadAt, A: Allocator + Copy>(
     if limit == u32::MAX {
         return Ok(());
     }
-    match Layout::read_at(alloc, input) {
+    match Layout::read_within(alloc, input, limit) {
         Ok(layout) => match check_size(&layout, TPI_STREAM, limit) {
             Ok(()) => Ok(()),
             Err(fault) => Err(AtFault::Of(fault)),
         },
-        Err(AtFault::Of(fault)) => match fault {
+        Err(AtFault::Of(WithinFault::TooLong)) => Err(AtFault::Of(RunFault::TooLong)),
+        Err(AtFault::Of(WithinFault::Of(fault))) => match fault {
             MsfFault::Memory => Err(AtFault::Of(RunFault::Memory)),
             _ => Ok(()),
         },

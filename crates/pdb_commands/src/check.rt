@@ -4,10 +4,10 @@ ghost use Rattle.std.specs.Prelude.{◌≡◌, true, ℕ, List, IfOk, IfErr, str
 ghost use Rattle.byte_io.specs.At.{Bytes};
 ghost use Rattle.msf_blocks.specs.Layout.{LayoutView};
 ghost use Rattle.pdb_commands.specs.Check.{ShowsChecked, ShowsCheckedRead, RefusesCheck, RefusesCheckRead};
-ghost use Rattle.pdb_commands.specs.Show.{Answers, AnswersAt};
+ghost use Rattle.pdb_commands.specs.Show.{Answers};
 ghost use Rattle.pdb_merge.specs.Read.{IsAccepted, TypesWereRead};
 
-use crate::command::{Show, ShowAt, run, run_at};
+use crate::command::{Show, ShowAt, run};
 use crate::fault::RunFault;
 use byte_io::{AtFault, ReadAt, Sink, Source};
 use command_texts::push_checked;
@@ -94,21 +94,4 @@ pub fn run_check<R: Source, W: Sink, A: Allocator + Copy>(
         (R.is_broken input.new) W.taken W.is_broken out.old out.new result }
 {
     run(alloc, &Check, input, limit, out)
-}
-
-/// Runs the command `check` by position: of the file only the superblock, the block map, the
-/// directory and the blocks of stream 2 are read.
-///
-/// Its own faults are those of [`run_check`], in the same order. The [page](crate) of the crate
-/// says how reading by position differs.
-pub fn run_check_at<R: ReadAt, W: Sink, A: Allocator + Copy>(
-    alloc: A,
-    input: &mut R,
-    limit: u32,
-    out: &mut W,
-) -> Result<(), RunFault<A>>
-    ensures { AnswersAt ShowsChecked RefusesCheck ShowsCheckedRead RefusesCheckRead limit
-        (R.bytes input.old) (R.is_broken input.new) W.taken W.is_broken out.old out.new result }
-{
-    run_at(alloc, &Check, input, limit, out)
 }

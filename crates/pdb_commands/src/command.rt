@@ -5,13 +5,13 @@ ghost use Rattle.byte_fields.specs.Bytes.{AreBytes};
 ghost use Rattle.byte_fields.specs.Check.{Refuses, first_failing};
 ghost use Rattle.byte_io.specs.At.{Breaks, Bytes, IfKnown, IfOf};
 ghost use Rattle.msf_blocks.specs.Layout.{HasLayout, TextsRefuse, layout_checks};
-ghost use Rattle.pdb_commands.specs.Show.{Answers, AnswersAt, IsOfText, IsOfTexts, IsFaultOfTexts};
+ghost use Rattle.pdb_commands.specs.Show.{Answers, AnswersAt, IsOfText, IsOfTexts, IsFaultOfTexts, RefusesBounded, ShowsBounded};
 ghost use Rattle.pdb_commands.specs.Streams.{RefusesLayout};
 ghost use Rattle.pdb_commands.specs.declared.fault.RunFault.{RunFault};
 
 use crate::fault::RunFault;
 use byte_io::{AtFault, ReadAt, ReadFault, Sink, Source, put_all, read_all};
-use msf_blocks::{Layout, MsfFault};
+use msf_blocks::{Layout, MsfFault, WithinFault};
 use std::alloc::Allocator;
 
 /// A command that shows a file: it makes a text from the file's bytes.
@@ -73,28 +73,33 @@ pub trait ShowAt<A: Allocator + Copy>: Show<A> {
             fault ≡ AtFault.Read → Breaks (R.bytes input.old) (R.is_broken input.new)) };
 }
 
-/// Makes the whole text of a file that is read by position. Its layout is read once.
+/// Makes the whole text of a file that is read by position. Its layout is read once, and its
+/// directory may have at most `limit` bytes.
 fn text_at<C: ShowAt<A>, R: ReadAt, A: Allocator + Copy>(
     alloc: A,
     command: &C,
     input: &mut R,
+    limit: u32,
 ) -> Result<String<A>, AtFault<RunFault<A>>>
-    ensures value { IfOk result (λ text.
-        IfKnown (R.bytes input.old) (λ file. C.shows command.now file (string_bytes text))) }
+    ensures value { IfOk result (λ text. IfKnown (R.bytes input.old) (λ file.
+        ShowsBounded limit (C.shows command.now) file (string_bytes text))) }
     ensures texts { IfOk result (λ text.
-        IsOfTexts (C.shows_read command.now) (R.bytes input.old) (string_bytes text)) }
+        IsOfTexts limit (C.shows_read command.now) (R.bytes input.old) (string_bytes text)) }
     ensures first { IfErr result (IfOf (λ fault. IfKnown (R.bytes input.old) (λ file.
-        C.refuses command.now file fault ⊎ (fault ≡ RunFault.Memory)))) }
+        RefusesBounded limit (C.refuses command.now) file fault ⊎ (fault ≡ RunFault.Memory)))) }
     ensures refused { IfErr result (IfOf (λ fault.
-        IsFaultOfTexts (C.refuses_read command.now) (R.bytes input.old) fault
+        IsFaultOfTexts limit (C.refuses_read command.now) (R.bytes input.old) fault
         ⊎ (fault ≡ RunFault.Memory))) }
     ensures pure { IfErr result (IfOf IsOfText) }
     ensures read { IfErr result (λ fault.
         fault ≡ AtFault.Read → Breaks (R.bytes input.old) (R.is_broken input.new)) }
 {
-    let layout = match Layout::read_at(alloc, input) {
+    let layout = match Layout::read_within(alloc, input, limit) {
         Ok(layout) => layout,
-        Err(AtFault::Of(fault)) => return Err(AtFault::Of(command.refuse_layout(fault))),
+        Err(AtFault::Of(WithinFault::TooLong)) => return Err(AtFault::Of(RunFault::TooLong)),
+        Err(AtFault::Of(WithinFault::Of(fault))) => {
+            return Err(AtFault::Of(command.refuse_layout(fault)));
+        }
         Err(AtFault::Read) => return Err(AtFault::Read),
     };
     command.text_of(alloc, input, &layout)
@@ -103,8 +108,9 @@ fn text_at<C: ShowAt<A>, R: ReadAt, A: Allocator + Copy>(
 /// Runs a command by position: reads what it needs of the input, makes the whole text, then writes
 /// the text.
 ///
-/// `limit` is the greatest number of bytes that the input may have. The faults come in this order:
-/// `TooLong`, if the input says that it has more bytes; those of the command for this file, and
+/// `limit` is the greatest number of bytes that the input may have, and its directory. The faults
+/// come in this order: `TooLong`, if the input says that it has more bytes; those of the superblock;
+/// `TooLong`, if it says that the directory has more bytes; those of the command for this file, and
 /// `Read` where a read failed; and `Write`, where the sink did not take the whole text. After
 /// `Write` the sink is broken and took the first bytes of the text. After any other fault it took
 /// nothing.
@@ -115,14 +121,15 @@ pub fn run_at<C: ShowAt<A>, R: ReadAt, W: Sink, A: Allocator + Copy>(
     limit: u32,
     out: &mut W,
 ) -> Result<(), RunFault<A>>
-    ensures { AnswersAt (C.shows command.now) (C.refuses command.now) (C.shows_read command.now)
+    ensures { AnswersAt (ShowsBounded limit (C.shows command.now))
+        (RefusesBounded limit (C.refuses command.now)) (C.shows_read command.now)
         (C.refuses_read command.now) limit (R.bytes input.old) (R.is_broken input.new) W.taken
         W.is_broken out.old out.new result }
 {
     if u64::from(limit) < input.len() {
         return Err(RunFault::Read(ReadFault::TooLong));
     }
-    let text = match text_at(alloc, command, input) {
+    let text = match text_at(alloc, command, input, limit) {
         Ok(text) => text,
         Err(AtFault::Of(fault)) => return Err(fault),
         Err(AtFault::Read) => return Err(RunFault::Read(ReadFault::Read)),

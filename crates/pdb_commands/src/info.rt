@@ -4,10 +4,10 @@ ghost use Rattle.std.specs.Prelude.{◌≡◌, ◌⊎◌, Some, true, OnOk, IfOk
 ghost use Rattle.byte_io.specs.At.{Breaks, IfKnown, IfOf};
 ghost use Rattle.msf_blocks.specs.Layout.{LayoutView, HasLayout};
 ghost use Rattle.msf_streams.specs.Streams.{WasRead, stream_contents};
-ghost use Rattle.pdb_commands.specs.Show.{Answers, AnswersAt};
-ghost use Rattle.pdb_commands.specs.Info.{ShowsInfo, ShowsInfoRead, RefusesInfo, RefusesInfoRead, HasNoInfoStream, HasNoInfoStreamRead, IsInfoFault, IsInfoText};
+ghost use Rattle.pdb_commands.specs.Show.{Answers};
+ghost use Rattle.pdb_commands.specs.Info.{ShowsInfo, ShowsInfoRead, ShowsInfoWithin, RefusesInfo, RefusesInfoRead, RefusesInfoWithin, HasLongNames, HasNoInfoStream, HasNoInfoStreamRead, HasShortNames, IsInfoFault, IsInfoText};
 
-use crate::command::{Show, ShowAt, run, run_at};
+use crate::command::{Show, ShowAt, run};
 use crate::fault::RunFault;
 use crate::streams::read_layout;
 use byte_io::{AtFault, ReadAt, Sink, Source};
@@ -65,44 +65,68 @@ fn stream_bytes_of<R: ReadAt, L: Allocator, A: Allocator>(
     }
 }
 
-/// The text of the bytes of an info stream.
-fn stream_text<A: Allocator + Copy>(alloc: A, stream: &[u8]) -> Result<String<A>, RunFault<A>>
-    ensures value { IfOk result (λ text. IsInfoText stream.now (string_bytes text)) }
+/// Checks that the names of an info stream have at most `limit` bytes together, and returns how many
+/// they have. `u32::MAX` is no limit.
+fn check_names<A: Allocator, F: Allocator>(
+    info: &pdb_info::Info<'_, A>,
+    limit: u32,
+) -> Result<usize, RunFault<F>>
+    ensures short { OnOk result (HasShortNames limit info.now) }
+    ensures long { IfErr result (λ _. HasLongNames limit info.now) }
+    ensures own { IfErr result (λ fault. fault ≡ RunFault.TooLong) }
+{
+    let length = names_length(info.names());
+    if limit != u32::MAX && length > limit as usize {
+        return Err(RunFault::TooLong);
+    }
+    Ok(length)
+}
+
+/// The text of the bytes of an info stream, whose names may have at most `limit` bytes together.
+fn stream_text<A: Allocator + Copy>(
+    alloc: A,
+    stream: &[u8],
+    limit: u32,
+) -> Result<String<A>, RunFault<A>>
+    ensures value { IfOk result (λ text. IsInfoText limit stream.now (string_bytes text)) }
     ensures first { IfErr result (λ fault.
-        IsInfoFault stream.now fault ⊎ (fault ≡ RunFault.Memory)) }
+        IsInfoFault limit stream.now fault ⊎ (fault ≡ RunFault.Memory)) }
 {
     let info = pdb_info::Info::read(alloc, stream)?;
+    // Names may share their bytes, and have far more together than the file. So they are held
+    // against the limit, and the space for them is asked for, before any of them is copied.
+    let length = check_names(&info, limit)?;
     let mut text = String::new(alloc);
-    // Names may share their bytes, and have far more together than the file. So the space for
-    // them is asked for before any of them is copied.
-    text.reserve(names_length(info.names()))?;
+    text.reserve(length)?;
     push_info_header(&mut text, info.header())?;
     push_names(&mut text, info.names())?;
     push_features(&mut text, info.features())?;
     Ok(text)
 }
 
-/// The command `info`.
+/// The command `info`, and how many bytes the names may have together.
 #[derive(Clone, Copy, Debug)]
-pub(crate) struct Info;
+pub(crate) struct Info {
+    pub(crate) limit: u32,
+}
 
 impl<A: Allocator + Copy> Show<A> for Info {
-    ghost shows = { λ _. ShowsInfo };
+    ghost shows = { λ s. ShowsInfoWithin s.limit };
 
-    ghost refuses = { λ _. RefusesInfo };
+    ghost refuses = { λ s. RefusesInfoWithin s.limit };
 
     fn text(&self, alloc: A, file: &[u8]) -> Result<String<A>, RunFault<A>> {
         let mut buffer = Vec::new(alloc);
         let stream = stream_bytes(alloc, file, &mut buffer)?;
-        let text = stream_text(alloc, stream)?;
+        let text = stream_text(alloc, stream, self.limit)?;
         Ok(text)
     }
 }
 
 impl<A: Allocator + Copy> ShowAt<A> for Info {
-    ghost shows_read = { λ _. ShowsInfoRead };
+    ghost shows_read = { λ s. ShowsInfoRead s.limit };
 
-    ghost refuses_read = { λ _. RefusesInfoRead };
+    ghost refuses_read = { λ s. RefusesInfoRead s.limit };
 
     fn refuse_layout(&self, fault: MsfFault) -> RunFault<A> {
         RunFault::from(PdbFault::from(fault))
@@ -120,7 +144,7 @@ impl<A: Allocator + Copy> ShowAt<A> for Info {
             Err(AtFault::Of(fault)) => return Err(AtFault::Of(RunFault::from(fault))),
             Err(AtFault::Read) => return Err(AtFault::Read),
         }
-        let text = stream_text(alloc, &buffer)?;
+        let text = stream_text(alloc, &buffer, self.limit)?;
         Ok(text)
     }
 }
@@ -141,22 +165,5 @@ pub fn run_info<R: Source, W: Sink, A: Allocator + Copy>(
     ensures { Answers ShowsInfo RefusesInfo limit (R.left input.old) (R.left input.new)
         (R.is_broken input.new) W.taken W.is_broken out.old out.new result }
 {
-    run(alloc, &Info, input, limit, out)
-}
-
-/// Runs the command `info` by position: of the file only the superblock, the block map, the
-/// directory and the blocks of stream 1 are read.
-///
-/// Its own faults are those of [`run_info`], in the same order. The [page](crate) of the crate says
-/// how reading by position differs.
-pub fn run_info_at<R: ReadAt, W: Sink, A: Allocator + Copy>(
-    alloc: A,
-    input: &mut R,
-    limit: u32,
-    out: &mut W,
-) -> Result<(), RunFault<A>>
-    ensures { AnswersAt ShowsInfo RefusesInfo ShowsInfoRead RefusesInfoRead limit
-        (R.bytes input.old) (R.is_broken input.new) W.taken W.is_broken out.old out.new result }
-{
-    run_at(alloc, &Info, input, limit, out)
+    run(alloc, &Info { limit: u32::MAX }, input, limit, out)
 }

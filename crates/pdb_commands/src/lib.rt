@@ -5,12 +5,11 @@
 //! end, makes its whole text, and then writes it into a [`Sink`](msf_blocks::Sink). [`run_merge`]
 //! writes one file with the types of several files, and a report on it. [`run_diff`] shows the
 //! types that only one of two files has. Each refusal is a [`RunFault`]. [`run_shown`] runs any
-//! command that shows a file, with a limit on the stream that it reads, and [`check_type_stream`]
-//! is that limit.
+//! command that shows a file, with a limit on what it reads: the directory, the stream and the names
+//! of streams. [`check_type_stream`] is that limit on inputs of a merge.
 //!
-//! [`run_records_at`], [`run_record_at`], [`run_types_at`], [`run_check_at`], [`run_info_at`],
-//! [`run_streams_at`] and [`run_shown_at`] read by position, and only what they need.
-//! [`run_shown_file`] does so too, and reads the whole file where a read by position fails.
+//! [`run_shown_at`] reads by position, and only what the command needs. [`run_shown_file`] does so
+//! too, and reads the whole file where a read by position fails.
 //!
 //! All commands that show a file have this in common. The input may have at most `limit` bytes. It
 //! is read to its end, and the whole text is made, before any of the text is written. The faults of
@@ -67,14 +66,14 @@ mod streams;
 mod types;
 
 pub use bound::{check_type_stream, check_type_stream_at};
-pub use check::{run_check, run_check_at};
+pub use check::run_check;
 pub use command_texts::Scope;
 pub use difference::run_diff;
 pub use fault::RunFault;
-pub use info::{run_info, run_info_at};
+pub use info::run_info;
 pub use merge::{run_merge, run_merge_by_types};
-pub use record::{run_record, run_record_at};
-pub use records::{run_records, run_records_at};
+pub use record::run_record;
+pub use records::run_records;
 pub use shown::{Shown, run_shown, run_shown_at, run_shown_file};
-pub use streams::{run_streams, run_streams_at};
-pub use types::{run_types, run_types_at};
+pub use streams::run_streams;
+pub use types::run_types;

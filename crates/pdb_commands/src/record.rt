@@ -7,7 +7,7 @@ ghost use Rattle.pdb_commands.specs.Record.{ShowsRecord, ShowsRecordRead, Refuse
 ghost use Rattle.pdb_commands.specs.Show.{Answers, AnswersAt, IsOfText};
 ghost use Rattle.pdb_merge.specs.Read.{HasTypeRecords, RecordsWereRead};
 
-use crate::command::{Show, ShowAt, run, run_at};
+use crate::command::{Show, ShowAt, run};
 use crate::fault::RunFault;
 use byte_io::{AtFault, ReadAt, Sink, Source};
 use command_texts::record_text;
@@ -120,23 +120,4 @@ pub fn run_record<R: Source, W: Sink, A: Allocator + Copy>(
         (R.left input.new) (R.is_broken input.new) W.taken W.is_broken out.old out.new result }
 {
     run(alloc, &Record { index }, input, limit, out)
-}
-
-/// Runs the command `record` by position: of the file only the superblock, the block map, the
-/// directory and the blocks of stream 2 are read.
-///
-/// Its own faults are those of [`run_record`], in the same order. The [page](crate) of the crate
-/// says how reading by position differs.
-pub fn run_record_at<R: ReadAt, W: Sink, A: Allocator + Copy>(
-    alloc: A,
-    input: &mut R,
-    limit: u32,
-    index: u32,
-    out: &mut W,
-) -> Result<(), RunFault<A>>
-    ensures { AnswersAt (ShowsRecord index) (RefusesRecord index) (ShowsRecordRead index)
-        (RefusesRecordRead index) limit (R.bytes input.old) (R.is_broken input.new) W.taken
-        W.is_broken out.old out.new result }
-{
-    run_at(alloc, &Record { index }, input, limit, out)
 }

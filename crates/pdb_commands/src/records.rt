@@ -2,9 +2,9 @@
 
 ghost use Rattle.std.specs.Prelude.{true};
 ghost use Rattle.pdb_commands.specs.Records.{ShowsRecords, ShowsRecordsRead, RefusesRecords, RefusesRecordsRead};
-ghost use Rattle.pdb_commands.specs.Show.{Answers, AnswersAt};
+ghost use Rattle.pdb_commands.specs.Show.{Answers};
 
-use crate::command::{Show, ShowAt, run, run_at};
+use crate::command::{Show, ShowAt, run};
 use crate::fault::RunFault;
 use byte_io::{AtFault, ReadAt, Sink, Source};
 use command_texts::record_lines;
@@ -72,21 +72,4 @@ pub fn run_records<R: Source, W: Sink, A: Allocator + Copy>(
         (R.is_broken input.new) W.taken W.is_broken out.old out.new result }
 {
     run(alloc, &Records, input, limit, out)
-}
-
-/// Runs the command `records` by position: of the file only the superblock, the block map, the
-/// directory and the blocks of stream 2 are read.
-///
-/// Its own faults are those of [`run_records`], in the same order. The [page](crate) of the crate
-/// says how reading by position differs.
-pub fn run_records_at<R: ReadAt, W: Sink, A: Allocator + Copy>(
-    alloc: A,
-    input: &mut R,
-    limit: u32,
-    out: &mut W,
-) -> Result<(), RunFault<A>>
-    ensures { AnswersAt ShowsRecords RefusesRecords ShowsRecordsRead RefusesRecordsRead limit
-        (R.bytes input.old) (R.is_broken input.new) W.taken W.is_broken out.old out.new result }
-{
-    run_at(alloc, &Records, input, limit, out)
 }

@@ -4,10 +4,10 @@ ghost use Rattle.std.specs.Prelude.{◌≡◌, ◌⊎◌, ℕ, List, true, false
 ghost use Rattle.byte_fields.specs.Bytes.{AreBytes};
 ghost use Rattle.byte_io.specs.At.{Bytes};
 ghost use Rattle.msf_blocks.specs.Layout.{HasLayout};
-ghost use Rattle.pdb_commands.specs.Show.{Answers, AnswersAt, IsByPosition, IsByWhole};
+ghost use Rattle.pdb_commands.specs.Show.{Answers, AnswersAt, IsByPosition, IsByWhole, RefusesBounded, ShowsBounded};
 ghost use Rattle.pdb_commands.specs.Shown.{ShowsWithin, ShowsWithinRead, RefusesWithin, RefusesWithinRead, stream_of, ReadsTooLong, ListsTooLong};
 
-use crate::bound::{TPI_STREAM, check_size, check_stream};
+use crate::bound::{TPI_STREAM, check_directory, check_size, check_stream};
 use crate::check::Check;
 use crate::command::{Show, ShowAt, run, run_at};
 use crate::fault::RunFault;
@@ -52,7 +52,8 @@ impl Shown {
     }
 }
 
-/// A command, and how many bytes the stream that it reads may have at most.
+/// A command, and how many bytes the stream that it reads may have at most, and the names that it
+/// prints.
 #[derive(Clone, Copy, Debug)]
 struct Within {
     command: Shown,
@@ -107,7 +108,7 @@ impl<A: Allocator + Copy> Show<A> for Within {
             Shown::Record(index) => Record { index }.text(alloc, file),
             Shown::Types => Types.text(alloc, file),
             Shown::Check => Check.text(alloc, file),
-            Shown::Info => Info.text(alloc, file),
+            Shown::Info => Info { limit: self.limit }.text(alloc, file),
             Shown::Streams => Streams.text(alloc, file),
         }
     }
@@ -134,19 +135,40 @@ impl<A: Allocator + Copy> ShowAt<A> for Within {
             Shown::Record(index) => Record { index }.text_of(alloc, input, layout),
             Shown::Types => Types.text_of(alloc, input, layout),
             Shown::Check => Check.text_of(alloc, input, layout),
-            Shown::Info => Info.text_of(alloc, input, layout),
+            Shown::Info => Info { limit: self.limit }.text_of(alloc, input, layout),
             Shown::Streams => Streams.text_of(alloc, input, layout),
         }
     }
 }
 
-/// Runs a command that shows a file, as the command's own call does, with one more limit.
+/// A command whose directory may have no more bytes than its stream.
+#[derive(Clone, Copy, Debug)]
+struct Bounded {
+    within: Within,
+}
+
+impl<A: Allocator + Copy> Show<A> for Bounded {
+    ghost shows = { λ s. ShowsBounded s.within.limit
+        (ShowsWithin s.within.command s.within.limit) };
+
+    ghost refuses = { λ s. RefusesBounded s.within.limit
+        (RefusesWithin s.within.command s.within.limit) };
+
+    fn text(&self, alloc: A, file: &[u8]) -> Result<String<A>, RunFault<A>> {
+        check_directory(file, self.within.limit)?;
+        self.within.text(alloc, file)
+    }
+}
+
+/// Runs a command that shows a file, as the command's own call does, with more limits.
 ///
-/// The input may have at most `limit` bytes, and so may the stream that the command reads whole.
-/// This is stream 1 for `Info`, none for `Streams`, and stream 2 for all others. If the container
-/// is sound and this stream has more bytes, the fault is `TooLong`. It comes before anything is
-/// reserved for the stream, and before any fault of the streams. `u32::MAX` is no limit: everything
-/// is then as in the command's own call.
+/// The input may have at most `limit` bytes, and so may its directory, the stream that the command
+/// reads whole, and the names that `Info` prints together. This stream is stream 1 for `Info`, none
+/// for `Streams`, and stream 2 for all others. Past the limit the fault is `TooLong`: of the
+/// directory after the faults of the superblock and before all others; of the stream where the
+/// container is sound, before any fault of the streams; of the names where the info stream is sound.
+/// Each comes before anything is reserved for it. `u32::MAX` is no limit: everything is then as in
+/// the command's own call.
 pub fn run_shown<R: Source, W: Sink, A: Allocator + Copy>(
     alloc: A,
     command: Shown,
@@ -154,11 +176,12 @@ pub fn run_shown<R: Source, W: Sink, A: Allocator + Copy>(
     limit: u32,
     out: &mut W,
 ) -> Result<(), RunFault<A>>
-    ensures { Answers (ShowsWithin command limit) (RefusesWithin command limit) limit
-        (R.left input.old) (R.left input.new) (R.is_broken input.new) W.taken W.is_broken
-        out.old out.new result }
+    ensures { Answers (ShowsBounded limit (ShowsWithin command limit))
+        (RefusesBounded limit (RefusesWithin command limit)) limit (R.left input.old)
+        (R.left input.new) (R.is_broken input.new) W.taken W.is_broken out.old out.new result }
 {
-    run(alloc, &Within { command, limit }, input, limit, out)
+    let within = Within { command, limit };
+    run(alloc, &Bounded { within }, input, limit, out)
 }
 
 /// Runs a command that shows a file by position, as [`run_shown`] does for a whole file, with the
@@ -171,7 +194,8 @@ pub fn run_shown_at<R: ReadAt, W: Sink, A: Allocator + Copy>(
     limit: u32,
     out: &mut W,
 ) -> Result<(), RunFault<A>>
-    ensures { AnswersAt (ShowsWithin command limit) (RefusesWithin command limit)
+    ensures { AnswersAt (ShowsBounded limit (ShowsWithin command limit))
+        (RefusesBounded limit (RefusesWithin command limit))
         (ShowsWithinRead command limit) (RefusesWithinRead command limit) limit
         (R.bytes input.old) (R.is_broken input.new) W.taken W.is_broken out.old out.new result }
 {
@@ -199,11 +223,13 @@ pub fn run_shown_file<R: ReadAt, S: Source, W: Sink, A: Allocator + Copy>(
     limit: u32,
     out: &mut W,
 ) -> Result<(), RunFault<A>>
-    ensures { IsByPosition (ShowsWithin command limit) (RefusesWithin command limit)
-        (ShowsWithinRead command limit) (RefusesWithinRead command limit) limit
+    ensures { IsByPosition (ShowsBounded limit (ShowsWithin command limit))
+        (RefusesBounded limit (RefusesWithin command limit)) (ShowsWithinRead command limit)
+        (RefusesWithinRead command limit) limit
         (R.bytes input.old) (R.is_broken input.new) whole.old whole.new W.taken W.is_broken
         out.old out.new result
-        ⊎ IsByWhole (ShowsWithin command limit) (RefusesWithin command limit) limit
+        ⊎ IsByWhole (ShowsBounded limit (ShowsWithin command limit))
+        (RefusesBounded limit (RefusesWithin command limit)) limit
         (R.bytes input.old) (R.is_broken input.new) S.left S.is_broken whole.old whole.new
         W.taken W.is_broken out.old out.new result }
 {

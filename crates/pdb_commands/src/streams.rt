@@ -6,10 +6,10 @@ ghost use Rattle.msf_blocks.specs.BlockNumber.{IsBlockSize};
 ghost use Rattle.msf_blocks.specs.FreeMap.{free_blocks, is_free, map_block_of, blocks_per_map_block};
 ghost use Rattle.msf_blocks.specs.Layout.{HasLayout};
 ghost use Rattle.msf_blocks.specs.Superblock.{HoldsBlocks};
-ghost use Rattle.pdb_commands.specs.Show.{Answers, AnswersAt};
+ghost use Rattle.pdb_commands.specs.Show.{Answers};
 ghost use Rattle.pdb_commands.specs.Streams.{HasLayoutFault, HasMap, IsFreeCount, IsMapGiven, IsMark, RefusesStreams, RefusesStreamsRead, ShowsStreams, ShowsStreamsRead, bit_of, is_free_by};
 
-use crate::command::{Show, ShowAt, run, run_at};
+use crate::command::{Show, ShowAt, run};
 use crate::fault::RunFault;
 use byte_io::{AtFault, ReadAt, Sink, Source};
 use command_texts::layout_text;
@@ -223,21 +223,4 @@ pub fn run_streams<R: Source, W: Sink, A: Allocator + Copy>(
         (R.is_broken input.new) W.taken W.is_broken out.old out.new result }
 {
     run(alloc, &Streams, input, limit, out)
-}
-
-/// Runs the command `streams` by position: of the file only the superblock, the block map, the
-/// directory and the free block map in force are read.
-///
-/// Its own faults are those of [`run_streams`], in the same order. The [page](crate) of the crate
-/// says how reading by position differs.
-pub fn run_streams_at<R: ReadAt, W: Sink, A: Allocator + Copy>(
-    alloc: A,
-    input: &mut R,
-    limit: u32,
-    out: &mut W,
-) -> Result<(), RunFault<A>>
-    ensures { AnswersAt ShowsStreams RefusesStreams ShowsStreamsRead RefusesStreamsRead limit
-        (R.bytes input.old) (R.is_broken input.new) W.taken W.is_broken out.old out.new result }
-{
-    run_at(alloc, &Streams, input, limit, out)
 }

@@ -6,11 +6,11 @@ ghost use Rattle.tpi_records.specs.Records.{IsRecord};
 ghost use Rattle.cv_leaves.specs.Checks.{record_checks};
 ghost use Rattle.cv_leaves.specs.Place.{HasPlaces};
 ghost use Rattle.cv_leaves.specs.declared.fault.LeafFault.{LeafFault};
-ghost use Rattle.pdb_commands.specs.Show.{Answers, AnswersAt};
+ghost use Rattle.pdb_commands.specs.Show.{Answers};
 ghost use Rattle.pdb_commands.specs.Types.{ShowsTypes, ShowsTypesRead, RefusesTypes, RefusesTypesRead, AreTypeLines, HasLeafFault};
 ghost use Rattle.command_texts.specs.Types.{type_line};
 
-use crate::command::{Show, ShowAt, run, run_at};
+use crate::command::{Show, ShowAt, run};
 use crate::fault::RunFault;
 use byte_io::{AtFault, ReadAt, Sink, Source};
 use command_texts::push_type_line;
@@ -123,21 +123,4 @@ pub fn run_types<R: Source, W: Sink, A: Allocator + Copy>(
         (R.is_broken input.new) W.taken W.is_broken out.old out.new result }
 {
     run(alloc, &Types, input, limit, out)
-}
-
-/// Runs the command `types` by position: of the file only the superblock, the block map, the
-/// directory and the blocks of stream 2 are read.
-///
-/// Its own faults are those of [`run_types`], in the same order. The [page](crate) of the crate
-/// says how reading by position differs.
-pub fn run_types_at<R: ReadAt, W: Sink, A: Allocator + Copy>(
-    alloc: A,
-    input: &mut R,
-    limit: u32,
-    out: &mut W,
-) -> Result<(), RunFault<A>>
-    ensures { AnswersAt ShowsTypes RefusesTypes ShowsTypesRead RefusesTypesRead limit
-        (R.bytes input.old) (R.is_broken input.new) W.taken W.is_broken out.old out.new result }
-{
-    run_at(alloc, &Types, input, limit, out)
 }

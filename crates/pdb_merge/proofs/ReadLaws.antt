@@ -1,7 +1,6 @@
 -- An accepted file has one list of records and no fault.
 use Rattle.std.proofs.Common.{◌≡◌, ◌⊎◌, ℕ, ◌<◌, ◌≤◌, List, Some, None, Bool, length, ap, ◌∙◌, refl, arith, inl, inr}
 use Rattle.std.specs.Prelude.{Result, Ok, Err, IfOk, IfErr}
-use Rattle.byte_io.proofs.AtLaws.{unbroken}
 use Rattle.byte_io.specs.At.{Breaks, Bytes, IfKnown, IfOf}
 use Rattle.byte_io.specs.declared.at.AtFault.{AtFault}
 use Rattle.byte_io.specs.declared.at.AtFault.TheVariants as at
@@ -190,20 +189,20 @@ stream_types file layout inner has info (inr want) = inr want
 
 -- a file that has type records is refused only when out of memory
 pub records_want_at : {T A : Type 0} (bytes : Bytes) (broken : Bool) (answer : Result T (AtFault (PdbFault A))) → IfKnown bytes AreBytes → IfErr answer (IfOf (λ e. IfKnown bytes (λ file. HasRecordsFault file e ⊎ (e ≡ fault.Memory))))
-    → IfErr answer (λ e. e ≡ at.Read → Breaks bytes broken) → IfErr answer (λ e. IfKnown bytes (λ file. (records : List (List ℕ)) → HasTypeRecords file records → e ≡ at.Of fault.Memory))
+    → IfErr answer (λ e. e ≡ at.Read → Breaks bytes broken) → IfErr answer (IfOf (λ e. IfKnown bytes (λ file. (records : List (List ℕ)) → HasTypeRecords file records → e ≡ fault.Memory)))
 records_want_at bytes broken (Ok value) small first read = tt
-records_want_at bytes broken (Err at.Read) small first read = λ file is records has. absurd (unbroken bytes broken file (read refl) is)
+records_want_at bytes broken (Err at.Read) small first read = tt
 records_want_at bytes broken (Err (at.Of e)) small first read = λ file is records has. elim (first file is) [
   | inl refused ↦ absurd (records_unrefused file records e (small file is) has refused)
-  | inr want ↦ ap (λ f. at.Of f) want
+  | inr want ↦ want
 ]
 
 -- an accepted file is refused only when out of memory
 pub wants_memory_at : {T A : Type 0} (bytes : Bytes) (broken : Bool) (answer : Result T (AtFault (PdbFault A))) → IfErr answer (IfOf (λ e. IfKnown bytes (λ file. HasPdbFault file e ⊎ (e ≡ fault.Memory))))
-    → IfErr answer (λ e. e ≡ at.Read → Breaks bytes broken) → IfErr answer (λ e. IfKnown bytes (λ file. (records : List (List ℕ)) → IsAccepted file records → e ≡ at.Of fault.Memory))
+    → IfErr answer (λ e. e ≡ at.Read → Breaks bytes broken) → IfErr answer (IfOf (λ e. IfKnown bytes (λ file. (records : List (List ℕ)) → IsAccepted file records → e ≡ fault.Memory)))
 wants_memory_at bytes broken (Ok value) first read = tt
-wants_memory_at bytes broken (Err at.Read) first read = λ file is records has. absurd (unbroken bytes broken file (read refl) is)
+wants_memory_at bytes broken (Err at.Read) first read = tt
 wants_memory_at bytes broken (Err (at.Of e)) first read = λ file is records has. elim (first file is) [
   | inl refused ↦ absurd (accepted_unrefused file records e has refused)
-  | inr want ↦ ap (λ f. at.Of f) want
+  | inr want ↦ want
 ]

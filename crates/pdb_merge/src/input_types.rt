@@ -2,7 +2,7 @@
 
 ghost use Rattle.std.specs.Prelude.{◌≡◌, ◌⊎◌, ◌<◌, ◌+◌, ◌^◌, [], ℕ, List, length, get_or, OnOk, IfOk, IfErr, IfSome};
 ghost use Rattle.byte_io.specs.At.{IfOf};
-ghost use Rattle.byte_io.specs.Inputs.{Give, CanRead, HasBytes};
+ghost use Rattle.byte_io.specs.Inputs.{CanRead, Give, HasBytes, IsAt};
 ghost use Rattle.pdb_merge.specs.Answer.{RefusesReading};
 ghost use Rattle.pdb_merge.specs.Read.{IsAccepted, HasPdbFault};
 ghost use Rattle.pdb_merge.specs.Union.{AcceptedBelow, IsReadingFaultAt};
@@ -65,6 +65,8 @@ fn opened_types<'a, F: ReadAt + Drop, A: Allocator + Copy>(
     ensures first { IfErr result (IfOf (λ fault.
         (file : List ℕ) → HasBytes F.bytes opened.entry file →
         HasPdbFault file fault ⊎ (fault ≡ PdbFault.Memory))) }
+    // Only an input that is read by position can fail to be read here.
+    ensures read { IfErr result (λ fault. fault ≡ AtFault.Read → IsAt opened.entry) }
 {
     match opened {
         Opened::Whole(file) => match read_types(alloc, file, buffer) {

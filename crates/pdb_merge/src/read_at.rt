@@ -97,9 +97,8 @@ pub fn read_records_at<'a, R: ReadAt, A: Allocator + Copy>(
     ensures texts { IfOk result (λ records.
         (layout : LayoutView) × HasTexts (R.bytes input.old) layout
         × RecordsWereRead (R.bytes input.old) layout records) }
-    ensures found { IfErr result (λ fault. IfKnown (R.bytes input.old) (λ file.
-        (records : List (List ℕ)) → HasTypeRecords file records →
-        fault ≡ AtFault.Of PdbFault.Memory)) }
+    ensures found { IfErr result (IfOf (λ fault. IfKnown (R.bytes input.old) (λ file.
+        (records : List (List ℕ)) → HasTypeRecords file records → fault ≡ PdbFault.Memory))) }
     ensures first { IfErr result (IfOf (λ fault. IfKnown (R.bytes input.old) (λ file.
         HasRecordsFault file fault ⊎ (fault ≡ PdbFault.Memory)))) }
     // Even if the file's bytes are not known, the fault is that of bytes that reads gave.
@@ -163,8 +162,8 @@ pub fn read_types_at<'a, R: ReadAt, A: Allocator + Copy>(
         (layout : LayoutView) × HasTexts (R.bytes input.old) layout
         × TypesWereRead (R.bytes input.old) layout types) }
     // A file that is accepted is refused only when out of memory.
-    ensures found { IfErr result (λ fault. IfKnown (R.bytes input.old) (λ file.
-        (records : List (List ℕ)) → IsAccepted file records → fault ≡ AtFault.Of PdbFault.Memory)) }
+    ensures found { IfErr result (IfOf (λ fault. IfKnown (R.bytes input.old) (λ file.
+        (records : List (List ℕ)) → IsAccepted file records → fault ≡ PdbFault.Memory))) }
     ensures first { IfErr result (IfOf (λ fault.
         IfKnown (R.bytes input.old) (λ file. HasPdbFault file fault ⊎ (fault ≡ PdbFault.Memory)))) }
     // Even if the file's bytes are not known, the fault is that of bytes that reads gave.

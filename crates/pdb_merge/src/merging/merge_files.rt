@@ -3,7 +3,7 @@
 ghost use Rattle.std.specs.Prelude.{◌≡◌, ◌<◌, ◌≤◌, ◌+◌, ◌^◌, ◌++◌, ◌∷◌, [], ℕ, List, length, take, OnOk, IfOk, IfErr, IfSome};
 ghost use Rattle.std.specs.List.{concat};
 ghost use Rattle.byte_io.specs.At.{IfOf};
-ghost use Rattle.byte_io.specs.Inputs.{Give, CanRead, HasBytes};
+ghost use Rattle.byte_io.specs.Inputs.{CanRead, Give, HasBytes, IsAt};
 ghost use Rattle.closed_trees.specs.Tree.{IsType};
 ghost use Rattle.canonical_list.specs.Finish.{IsCanonOf};
 ghost use Rattle.pdb_info.specs.Settings.{record_limit};
@@ -84,6 +84,8 @@ fn add_opened<F: ReadAt + Drop, S: BuildHasher, A: Allocator + Copy>(
         HasTaken merge.old files → CanMerge ((files ++ file ∷ []) ++ more) merge.old.limit →
         fault ≡ AddFault.Memory)) }
     ensures named { IfErr result (IfOf AddNamesFault) }
+    // Only a file that is read by position can fail to be read here.
+    ensures read { IfErr result (λ fault. fault ≡ AtFault.Read → IsAt opened.entry) }
 {
     match opened {
         Opened::Whole(file) => match merge.add(alloc, file, buffer) {

@@ -8,6 +8,7 @@ use Rattle.msf_blocks.proofs.directory_at.check_map.Given as goal
 abbrev pub invariant-loop-at : goal.invariant-loop-at
 invariant-loop-at g l = record {
   keeps : g.R.ReadAt.bytes l.input ≡ g.R.ReadAt.bytes l.initial.input;
+  lent : g.R.ReadAt.lent l.input ≡ g.R.ReadAt.lent l.initial.input;
   held : IfKnown (g.R.ReadAt.bytes l.initial.input) (λ file. first_failing (checks_below l.at (directory_block_check file l.superblock)) ≡ None);
   map : HasMapBelow (g.R.ReadAt.bytes l.initial.input) l.superblock l.at;
 }

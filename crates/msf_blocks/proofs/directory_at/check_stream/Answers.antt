@@ -25,6 +25,7 @@ loop-at-preserved g c =
     let i = c.loop-at.invariant in
     record {
       keeps = c.in-Some.ensures.keeps ∙ i.keeps;
+      lent = c.in-Some.ensures.lent ∙ i.lent;
       held = λ file known.
           let fields = c.args.superblock.now in
           let contents = directory_contents file fields in

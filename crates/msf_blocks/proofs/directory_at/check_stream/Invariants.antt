@@ -7,6 +7,7 @@ use Rattle.msf_blocks.proofs.directory_at.check_stream.Given as goal
 abbrev pub invariant-loop-at : goal.invariant-loop-at
 invariant-loop-at g l = record {
   keeps : g.R.ReadAt.bytes l.input ≡ g.R.ReadAt.bytes l.initial.input;
+  lent : g.R.ReadAt.lent l.input ≡ g.R.ReadAt.lent l.initial.input;
   held : IfKnown (g.R.ReadAt.bytes l.initial.input) (λ file. first_failing (checks_below l.at (stream_block_check l.superblock (directory_contents file l.superblock) l.fn.stream)) ≡ None);
   blocks : HasBlocks (g.R.ReadAt.bytes l.initial.input) l.superblock l.fn.start (l.fn.start + l.at);
 }

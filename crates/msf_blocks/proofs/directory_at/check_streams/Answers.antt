@@ -10,6 +10,7 @@ use Rattle.msf_blocks.proofs.directory_at.check_streams.Goals as goal
 pub loop-stream-init : goal.loop-stream-init
 loop-stream-init g c = record {
   keeps = refl;
+  lent = refl;
   fits = omega (arith, c.requires.few);
   start = λ file known. omega (arith, c.requires.streams file known, list_start_zero c.args.superblock.now.block_size (directory_contents file c.args.superblock.now));
   held = λ file known. refl;
@@ -31,6 +32,7 @@ loop-stream-preserved g c =
     let e = c.in_ok-start.ensures in
     record {
       keeps = e.keeps ∙ i.keeps;
+      lent = e.lent ∙ i.lent;
       fits = e.fits;
       start = λ file known. e.end file (i.keeps ∙ known);
       held = λ file known. checks_below-more (stream_checks fields (directory_contents file fields)) c.loop-stream.stream (i.held file known) (e.held file (i.keeps ∙ known));

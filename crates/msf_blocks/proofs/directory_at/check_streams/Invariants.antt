@@ -7,6 +7,7 @@ use Rattle.msf_blocks.proofs.directory_at.check_streams.Given as goal
 abbrev pub invariant-loop-stream : goal.invariant-loop-stream
 invariant-loop-stream g l = record {
   keeps : g.R.ReadAt.bytes l.input ≡ g.R.ReadAt.bytes l.initial.input;
+  lent : g.R.ReadAt.lent l.input ≡ g.R.ReadAt.lent l.initial.input;
   fits : 4 * l.start ≤ l.superblock.directory_bytes;
   start : IfKnown (g.R.ReadAt.bytes l.initial.input) (λ file. l.start ≡ list_start l.superblock.block_size (directory_contents file l.superblock) l.stream);
   held : IfKnown (g.R.ReadAt.bytes l.initial.input) (λ file. first_failing (checks_below l.stream (stream_checks l.superblock (directory_contents file l.superblock))) ≡ None);

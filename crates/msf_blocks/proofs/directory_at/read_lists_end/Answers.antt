@@ -7,6 +7,7 @@ use Rattle.msf_blocks.proofs.directory_at.read_lists_end.Goals as goal
 pub loop-stream-init : goal.loop-stream-init
 loop-stream-init g c = record {
   keeps = refl;
+  lent = refl;
   few = omega (arith, c.requires.short);
   value = c.requires.start;
   sizes = no_sizes (g.R.ReadAt.bytes c.args.input.now) c.args.superblock.now c.args.from c.args.start;
@@ -18,6 +19,7 @@ loop-stream-preserved g c =
     let e = c.in_ok-read_stream_blocks.ensures in
     record {
       keeps = e.keeps ∙ i.keeps;
+      lent = e.lent ∙ i.lent;
       few = omega (arith, i.few, e.few, c.from.ensures);
       value = λ file known.
           let before = i.value file known in

@@ -6,6 +6,7 @@ use Rattle.msf_blocks.proofs.directory_at.read_lists_end.Given as goal
 abbrev pub invariant-loop-stream : goal.invariant-loop-stream
 invariant-loop-stream g l = record {
   keeps : g.R.ReadAt.bytes l.input ≡ g.R.ReadAt.bytes l.initial.input;
+  lent : g.R.ReadAt.lent l.input ≡ g.R.ReadAt.lent l.initial.input;
   few : l.end ≤ 2 ^ 33 + l.stream * 2 ^ 23;
   value : IfKnown (g.R.ReadAt.bytes l.initial.input) (λ file. l.end ≡ list_start l.superblock.block_size (directory_contents file l.superblock) l.stream);
   sizes : HasSizes (g.R.ReadAt.bytes l.initial.input) l.superblock l.fn.from l.stream l.fn.start l.end;

@@ -1,25 +1,28 @@
-use Rattle.std.proofs.Common.{arith}
-use Rattle.pdb_commands.proofs.BoundLaws.{sound_without_memory, never_of}
+use Rattle.std.proofs.Common.{arith, inl, inr}
+use Rattle.pdb_commands.proofs.BoundLaws.{no_long_part, sound_without_memory, unlaid}
 use Rattle.pdb_commands.proofs.bound.check_type_stream_at.Goals as goal
 
-pub returns-in-Ok-check_size-clause-value : goal.returns-in-Ok-check_size-clause-value
-returns-in-Ok-check_size-clause-value g c = λ file known.
-    let l = c.in-Ok.ensures in
-    c.in-Ok-check_size.ensures.value file (l.small file known) (l.value file known)
+pub returns-in-Ok-clause-first : goal.returns-in-Ok-clause-first
+returns-in-Ok-clause-first g c = inl (c.in-Err.ensures.own, λ file known. inr (c.in-Err.ensures.first file (c.in-Ok.ensures.value file known)))
 
-pub returns-in-Err-Of : goal.returns-in-Err-Of
-returns-in-Err-Of g c =
-    let found = rw c.in-Err-Of.field-0-is at c.in-Err-Of.ensures.found in
+pub returns-in-Memory-clause-memory : goal.returns-in-Memory-clause-memory
+returns-in-Memory-clause-memory g c = λ same file known.
+    let first = rw (c.in-Err-Of-Of.field-0-is, c.in-Err-Of-Of.field-0-0-is) at c.in-Err-Of-Of.ensures.first in
     record {
-      keeps = c.in-Err-Of.ensures.keeps;
-      value = λ file known long. c.in_default.not-Memory (never_of c.in-Err-Of.fault (found file known long.layout long.has_layout));
+      limited = omega (arith, c.if-limit-eq4294967295.false, c.ranges.limit.fits);
+      sound = sound_without_memory file c.in-Err-Of-Of.fault c.in-Memory.is (first file known).1;
+    }
+
+pub returns-in-Err-Of-Of : goal.returns-in-Err-Of-Of
+returns-in-Err-Of-Of g c =
+    let e = c.in-Err-Of-Of.ensures in
+    let first = rw (c.in-Err-Of-Of.field-0-is, c.in-Err-Of-Of.field-0-0-is) at e.first in
+    record {
+      keeps = e.keeps;
+      value = λ file known.
+          no_long_part c.args.limit 2 file (first file known).0 (λ long.
+          unlaid file c.in-Err-Of-Of.fault (e.small file known) c.in_default.not-Memory (first file known).1 long.layout long.has_layout);
       first = tt;
       memory = tt;
       read = tt;
     }
-
-pub returns-in-Memory-clause-memory : goal.returns-in-Memory-clause-memory
-returns-in-Memory-clause-memory g c = λ same file known. record {
-  limited = omega (arith, c.if-limit-eq4294967295.false, c.ranges.limit.fits);
-  sound = sound_without_memory file c.in-Err-Of.fault c.in-Memory.is ((rw c.in-Err-Of.field-0-is at c.in-Err-Of.ensures.first) file known);
-}

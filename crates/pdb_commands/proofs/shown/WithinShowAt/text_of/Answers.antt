@@ -2,7 +2,7 @@ use Rattle.std.proofs.Common.{inl}
 use Rattle.std.proofs.lemmas.Result.{err_from_is_err_and}
 use Rattle.std.specs.Prelude.{string_bytes}
 use Rattle.pdb_commands.specs.Check.{ShowsChecked, ShowsCheckedRead, RefusesCheck, RefusesCheckRead}
-use Rattle.pdb_commands.specs.Info.{ShowsInfo, ShowsInfoRead, RefusesInfo, RefusesInfoRead}
+use Rattle.pdb_commands.specs.Info.{ShowsInfoWithin, ShowsInfoRead, RefusesInfoWithin, RefusesInfoRead}
 use Rattle.pdb_commands.specs.Record.{ShowsRecord, ShowsRecordRead, RefusesRecord, RefusesRecordRead}
 use Rattle.pdb_commands.specs.Records.{ShowsRecords, ShowsRecordsRead, RefusesRecords, RefusesRecordsRead}
 use Rattle.pdb_commands.specs.Streams.{ShowsStreamsRead, RefusesStreamsRead}
@@ -64,12 +64,12 @@ returns-in-Check-clause-first g c =
 
 pub returns-in-Info-clause-value : goal.returns-in-Info-clause-value
 returns-in-Info-clause-value g c =
-    shows_within string_bytes ShowsInfo c.args.self.now.command c.args.self.now.limit (g.R.ReadAt.bytes c.args.input.now) c.text_of-in-Info.result (λ file text shows. rw c.in-Info.is shows)
+    shows_within string_bytes (ShowsInfoWithin c.args.self.now.limit) c.args.self.now.command c.args.self.now.limit (g.R.ReadAt.bytes c.args.input.now) c.text_of-in-Info.result (λ file text shows. rw c.in-Info.is shows)
     (λ file known. c.in_ok-check_layout.ensures.value file (c.requires.bytes file known) (c.requires.layout file known)) c.text_of-in-Info.ensures.value
 
 pub returns-in-Info-clause-first : goal.returns-in-Info-clause-first
 returns-in-Info-clause-first g c =
-    refuses_within RefusesInfo c.args.self.now.command c.args.self.now.limit (g.R.ReadAt.bytes c.args.input.now) c.text_of-in-Info.result (λ file fault refused. rw c.in-Info.is refused)
+    refuses_within (RefusesInfoWithin c.args.self.now.limit) c.args.self.now.command c.args.self.now.limit (g.R.ReadAt.bytes c.args.input.now) c.text_of-in-Info.result (λ file fault refused. rw c.in-Info.is refused)
     (λ file known. c.in_ok-check_layout.ensures.value file (c.requires.bytes file known) (c.requires.layout file known)) c.text_of-in-Info.ensures.first
 
 pub returns-in-Records-clause-texts : goal.returns-in-Records-clause-texts
@@ -106,11 +106,11 @@ returns-in-Check-clause-refused g c =
 
 pub returns-in-Info-clause-texts : goal.returns-in-Info-clause-texts
 returns-in-Info-clause-texts g c =
-    read_within string_bytes ShowsInfoRead c.args.self.now.command c.args.self.now.limit (g.R.ReadAt.bytes c.args.input.now) c.args.layout.now c.text_of-in-Info.result (λ text shows. rw c.in-Info.is shows) c.in_ok-check_layout.ensures.short c.text_of-in-Info.ensures.texts
+    read_within string_bytes (ShowsInfoRead c.args.self.now.limit) c.args.self.now.command c.args.self.now.limit (g.R.ReadAt.bytes c.args.input.now) c.args.layout.now c.text_of-in-Info.result (λ text shows. rw c.in-Info.is shows) c.in_ok-check_layout.ensures.short c.text_of-in-Info.ensures.texts
 
 pub returns-in-Info-clause-refused : goal.returns-in-Info-clause-refused
 returns-in-Info-clause-refused g c =
-    refused_within RefusesInfoRead c.args.self.now.command c.args.self.now.limit (g.R.ReadAt.bytes c.args.input.now) c.args.layout.now c.text_of-in-Info.result (λ fault refused. rw c.in-Info.is refused) c.in_ok-check_layout.ensures.short c.text_of-in-Info.ensures.refused
+    refused_within (RefusesInfoRead c.args.self.now.limit) c.args.self.now.command c.args.self.now.limit (g.R.ReadAt.bytes c.args.input.now) c.args.layout.now c.text_of-in-Info.result (λ fault refused. rw c.in-Info.is refused) c.in_ok-check_layout.ensures.short c.text_of-in-Info.ensures.refused
 
 pub returns-in-Streams-clause-texts : goal.returns-in-Streams-clause-texts
 returns-in-Streams-clause-texts g c =
