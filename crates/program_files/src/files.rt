@@ -1,6 +1,8 @@
 //! Files that are opened to be read.
 
-ghost use Rattle.std.specs.Prelude.{◌≡◌, None, false};
+ghost use Rattle.std.specs.Prelude.{◌≡◌, ◌↔◌, ◌<◌, ◌≤◌, IsTrue, IfSome, IfNone, length, take, None, true, false};
+ghost use Rattle.std.specs.Io.KnownBytes.{Consumes, IsAtEnd};
+ghost use Rattle.program_files.specs.Files.{GivesIfOpened, IsUnopened};
 
 use byte_io::{In, InputFault, ReadFault, Seeking, Source};
 use std::fs::OpenFile;
@@ -91,7 +93,9 @@ impl<'a, R: Files> WholeFile<'a, R> {
     }
 
     /// Whether the file could not be opened.
-    pub fn is_refused(&self) -> bool {
+    pub fn is_refused(&self) -> bool
+        ensures { IsTrue result ↔ IsUnopened self.now.state }
+    {
         matches!(&self.state, State::Refused)
     }
 
@@ -114,7 +118,16 @@ impl<R: Files> Source for WholeFile<'_, R> {
 
     ghost is_broken = { λ s. s.broken };
 
-    fn fetch(&mut self, into: &mut [u8]) -> Option<usize> {
+    fn fetch(&mut self, into: &mut [u8]) -> Option<usize>
+        ensures bound { IfSome result (λ n. n ≤ length into.new) }
+        ensures gives { IfSome result (λ n. Consumes None None (take n into.new)) }
+        ensures end { IfSome result (λ n. 0 < length into.new → n ≡ 0 → IsAtEnd None) }
+        ensures whole { IfSome result (λ _. self.new.broken ≡ self.old.broken) }
+        ensures refuses { IfNone result (0 < length into.new → self.new.broken ≡ true) }
+        ensures stays { self.old.broken ≡ true → self.new.broken ≡ true }
+        // Nothing is given, not even the end, unless the file was opened.
+        ensures opened { GivesIfOpened self.new.state result }
+    {
         self.open();
         let fetched = match &mut self.state {
             State::Opened(input) => input.fetch(into),

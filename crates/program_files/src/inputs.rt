@@ -1,6 +1,6 @@
 //! The files that a merge reads.
 
-ghost use Rattle.std.specs.Prelude.{◌≡◌, None, Some, length, slice_get, IfSome, IfNone};
+ghost use Rattle.std.specs.Prelude.{◌≡◌, None, Some, length, map, slice_get, string_bytes, IfSome, IfNone, IfOk};
 
 use crate::files::{Reading, open_told, open_within};
 use crate::progress::Progress;
@@ -60,7 +60,10 @@ impl<'a, R: Files + AllocGlobal> InputFiles<'a, R> {
     }
 
     /// The path of the file at a position, from 0. `Open` where there is none.
-    fn path(&self, input: usize) -> Result<&'a str, InputFault> {
+    fn path(&self, input: usize) -> Result<&'a str, InputFault>
+        ensures value { IfOk result (λ path.
+            slice_get (map string_bytes self.now.names.now) input ≡ Some path.now) }
+    {
         let name = self.name(input).ok_or(InputFault::Open)?;
         Ok(name.as_str())
     }

@@ -7,9 +7,10 @@
 //! - [`NewFile`] is a file that is created at its first write.
 //! - [`ProgramFault`] says why the program did not do what it was asked for.
 //!
-//! What is proved: a file is opened as the input at its position, and a file that breaks stays
-//! broken. The number of a fault is the one of its kind (`program_number`). No contract can say what
-//! a file of the system gives or takes; the tests of the program show it.
+//! What is proved: the input at a position has the name at that position. A file that was never
+//! created took nothing, one that could not be opened gives nothing, not even its end, and a file
+//! that breaks stays broken. The number of a fault is the one of its kind (`program_number`). No
+//! contract can say what a file of the system gives or takes; the tests of the program show it.
 //!
 //! # Example
 //!

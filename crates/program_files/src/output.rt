@@ -1,8 +1,8 @@
 //! The file that the program writes.
 
-ghost use Rattle.std.specs.Prelude.{◌≡◌, false};
-ghost use Rattle.std.specs.Io.KnownBytes.{Keeps};
-ghost use Rattle.program_files.specs.Output.{taken_of};
+ghost use Rattle.std.specs.Prelude.{◌≡◌, ◌↔◌, ◌<◌, ◌≤◌, IsTrue, length, take, true, false};
+ghost use Rattle.std.specs.Io.KnownBytes.{Appends, Keeps};
+ghost use Rattle.program_files.specs.Output.{IsUncreated, TakesIfCreated, taken_of};
 
 use byte_io::{NotTaken, Out, Sink};
 use std::fs::OpenFile;
@@ -59,7 +59,9 @@ impl<'a, R: Files> NewFile<'a, R> {
     }
 
     /// Whether the file could not be created.
-    pub fn is_refused(&self) -> bool {
+    pub fn is_refused(&self) -> bool
+        ensures { IsTrue result ↔ IsUncreated self.now.state }
+    {
         matches!(&self.state, State::Refused)
     }
 
@@ -93,7 +95,16 @@ impl<R: Files> Sink for NewFile<'_, R> {
 
     ghost is_broken = { λ s. s.broken };
 
-    fn put(&mut self, bytes: &[u8]) -> usize {
+    fn put(&mut self, bytes: &[u8]) -> usize
+        ensures bound { result ≤ length bytes.now }
+        ensures takes { Appends (taken_of ⟦<Out<R::File> as Sink>⟧.taken self.old.state)
+            (taken_of ⟦<Out<R::File> as Sink>⟧.taken self.new.state) (take result bytes.now) }
+        ensures refuses { 0 < length bytes.now → result ≡ 0 → self.new.broken ≡ true }
+        ensures whole { 0 < result → self.new.broken ≡ self.old.broken }
+        ensures stays { self.old.broken ≡ true → self.new.broken ≡ true }
+        // Nothing is taken unless the file was created.
+        ensures created { TakesIfCreated self.new.state result }
+    {
         self.create();
         let count = match &mut self.state {
             State::Created(out) => out.put(bytes),
