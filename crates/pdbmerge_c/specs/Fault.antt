@@ -1,5 +1,5 @@
 -- What a call says of its fault.
-use Rattle.std.specs.Prelude.{ℕ, ◌≡◌, Option, Some, None}
+use Rattle.std.specs.Prelude.{ℕ, ◌≡◌, Option, Some, None, slice_get}
 use Rattle.pdbmerge_c.specs.declared.fault.Fault.{Fault}
 
 -- the input of a fault that names none: the highest number of eight bytes
@@ -22,3 +22,7 @@ pub record IsSaid (fault : Fault) (result : ℕ) : Type 0 where
   pub none : result ≡ 0 → fault.input ≡ no_input
   pub room : result ≡ 100 → fault.input ≡ no_input
   pub settings : result ≡ 101 → fault.input ≡ no_input
+
+-- the last byte of the text is a NUL, so the text ends within its field
+abbrev pub IsEnded : Fault → Type 0
+IsEnded fault = slice_get fault.text 235 ≡ Some 0

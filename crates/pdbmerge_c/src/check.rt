@@ -4,7 +4,7 @@ ghost use Rattle.std.specs.Prelude.{◌≡◌, ◌≢◌, ◌⊎◌, None, ℕ, 
 ghost use Rattle.byte_fields.specs.Check.{first_failing};
 ghost use Rattle.msf_blocks.specs.Layout.{layout_checks};
 ghost use Rattle.pdb_merge.specs.Read.{IsAccepted, HasPdbFault};
-ghost use Rattle.pdbmerge_c.specs.Fault.{IsSaid};
+ghost use Rattle.pdbmerge_c.specs.Fault.{IsEnded, IsSaid};
 ghost use Rattle.pdbmerge_c.specs.Check.{Checks, RefusesCheck, IsFaultOfFile};
 
 use crate::fault::{Fault, clear, refuse};
@@ -52,6 +52,7 @@ pub extern "C" fn pdbmerge_check(
     fault: &mut Fault,
 ) -> u32
     ensures told { IsSaid fault.new result }
+    ensures ended { IsEnded fault.new }
     ensures value { result ≡ 0 → Checks file.now counts.new }
     // A file that is accepted is refused only when out of memory.
     ensures found { (records : List (List ℕ)) → IsAccepted file.now records →

@@ -4,7 +4,7 @@ ghost use Rattle.std.specs.Prelude.{◌≡◌, ◌≢◌, ◌⊎◌, ◌<◌, �
 ghost use Rattle.std.specs.declared.alloc.Global.{Global};
 ghost use Rattle.pdb_merge.specs.Read.{IsAccepted, HasPdbFault};
 ghost use Rattle.pdb_merge.specs.declared.fault.MergeFault.{MergeFault};
-ghost use Rattle.pdbmerge_c.specs.Fault.{IsSaid};
+ghost use Rattle.pdbmerge_c.specs.Fault.{IsEnded, IsSaid};
 ghost use Rattle.pdbmerge_c.specs.Given.{Fills};
 ghost use Rattle.pdbmerge_c.specs.Diff.{AreDifferences, IsFaultOfInput, RefusesDiff, TellApart, input_fault, row_of, rows_from};
 
@@ -158,6 +158,7 @@ pub extern "C" fn pdbmerge_diff(
     fault: &mut Fault,
 ) -> u32
     ensures told { IsSaid fault.new result }
+    ensures ended { IsEnded fault.new }
     ensures value { result ≡ 0 → (found : List OneSided) × AreDifferences first.now second.now found
         × (count.new ≡ length found) × Fills found rows.old rows.new }
     ensures room { result ≡ 100 → (found : List OneSided)

@@ -1,6 +1,7 @@
 //! What a call says of its fault.
 
 ghost use Rattle.std.specs.Prelude.{◌≡◌, ◌≢◌, ◌≤◌, ◌<◌};
+ghost use Rattle.pdbmerge_c.specs.Fault.{IsEnded};
 ghost use Rattle.pdbmerge_c.specs.Fault.{IsTold, input_code, no_input};
 
 use crate::text::Text;
@@ -52,6 +53,7 @@ fn input_code(input: Option<usize>) -> u64
 pub(crate) fn clear(fault: &mut Fault) -> u32
     ensures done { result ≡ 0 }
     ensures told { IsTold fault.new result no_input }
+    ensures ended { IsEnded fault.new }
 {
     fault.input = input_code(None);
     fault.length = 0;
@@ -64,6 +66,7 @@ pub(crate) fn clear(fault: &mut Fault) -> u32
 pub(crate) fn tell<D: Display>(fault: &mut Fault, number: u32, input: Option<usize>, why: &D) -> u32
     ensures number { result ≡ number }
     ensures told { IsTold fault.new number (input_code input) }
+    ensures ended { IsEnded fault.new }
 {
     fault.text = [0; 236];
     let mut text = Text::new(&mut fault.text[..MOST_TEXT]);
@@ -88,6 +91,7 @@ pub(crate) fn refuse<D: Display>(
     ensures room { result ≢ 100 }
     ensures settings { result ≢ 101 }
     ensures told { IsTold fault.new number (input_code input) }
+    ensures ended { IsEnded fault.new }
 {
     tell(fault, number, input, why)
 }

@@ -1,7 +1,7 @@
 //! What a call gives, in memory that the caller lends.
 
 ghost use Rattle.std.specs.Prelude.{◌≡◌, ◌≢◌, ◌⊎◌, ◌<◌, ◌≤◌, length};
-ghost use Rattle.pdbmerge_c.specs.Fault.{IsTold, no_input};
+ghost use Rattle.pdbmerge_c.specs.Fault.{IsEnded, IsTold, no_input};
 ghost use Rattle.pdbmerge_c.specs.Given.{Fills};
 
 use crate::fault::{Fault, ROOM, clear, tell};
@@ -14,6 +14,7 @@ pub(crate) fn give<T: Copy>(items: &[T], out: &mut [T], count: &mut u64, fault: 
     ensures done { result ≡ 0 → Fills items.now out.old out.new }
     ensures kept { result ≢ 0 → out.new ≡ out.old }
     ensures told { IsTold fault.new result no_input }
+    ensures ended { IsEnded fault.new }
 {
     *count = items.len() as u64;
     if out.len() < items.len() {

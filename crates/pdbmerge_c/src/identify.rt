@@ -6,7 +6,7 @@ ghost use Rattle.msf_blocks.specs.Layout.{LayoutView, HasLayout, layout_checks};
 ghost use Rattle.msf_streams.specs.Streams.{stream_contents};
 ghost use Rattle.pdb_info.specs.Header.{HeaderFields, HasInfoHeader};
 ghost use Rattle.pdb_merge.specs.Read.{HasInfoFault};
-ghost use Rattle.pdbmerge_c.specs.Fault.{IsSaid};
+ghost use Rattle.pdbmerge_c.specs.Fault.{IsEnded, IsSaid};
 ghost use Rattle.pdbmerge_c.specs.Identify.{Identifies, IsFaultOfIdentity, RefusesIdentity};
 
 use crate::fault::{Fault, clear, refuse};
@@ -73,6 +73,7 @@ pub extern "C" fn pdbmerge_identify(
     fault: &mut Fault,
 ) -> u32
     ensures told { IsSaid fault.new result }
+    ensures ended { IsEnded fault.new }
     ensures value { result ≡ 0 → Identifies file.now identity.new }
     ensures refuses { result ≢ 0 → RefusesIdentity file.now fault.new }
     ensures kept { result ≢ 0 → identity.new ≡ identity.old }

@@ -2,7 +2,7 @@
 
 ghost use Rattle.std.specs.Prelude.{◌≡◌, ◌≢◌, ◌<◌, ◌++◌, ◌∷◌, [], ℕ, List, length, map, OnOk, IfOk, IfErr};
 ghost use Rattle.std.specs.List.{flat_map};
-ghost use Rattle.pdbmerge_c.specs.Fault.{IsSaid};
+ghost use Rattle.pdbmerge_c.specs.Fault.{IsEnded, IsSaid};
 ghost use Rattle.pdbmerge_c.specs.Given.{Fills};
 ghost use Rattle.pdbmerge_c.specs.Info.{AreFeatures, AreNamedStreams, AreStreamNames, IsFaultOfInfoStream, RefusesInfoStream};
 
@@ -75,6 +75,7 @@ pub extern "C" fn pdbmerge_named_streams(
     fault: &mut Fault,
 ) -> u32
     ensures told { IsSaid fault.new result }
+    ensures ended { IsEnded fault.new }
     ensures value { result ≡ 0 → (found : List ℕ) × AreNamedStreams stream.now found
         × (count.new ≡ length found) × Fills found numbers.old numbers.new }
     ensures room { result ≡ 100 → (found : List ℕ) × AreNamedStreams stream.now found
@@ -103,6 +104,7 @@ pub extern "C" fn pdbmerge_stream_names(
     fault: &mut Fault,
 ) -> u32
     ensures told { IsSaid fault.new result }
+    ensures ended { IsEnded fault.new }
     ensures value { result ≡ 0 → (bytes : List ℕ) × AreStreamNames stream.now bytes
         × (size.new ≡ length bytes) × Fills bytes out.old out.new }
     ensures room { result ≡ 100 → (bytes : List ℕ) × AreStreamNames stream.now bytes
@@ -130,6 +132,7 @@ pub extern "C" fn pdbmerge_features(
     fault: &mut Fault,
 ) -> u32
     ensures told { IsSaid fault.new result }
+    ensures ended { IsEnded fault.new }
     ensures value { result ≡ 0 → (found : List ℕ) × AreFeatures stream.now found
         × (count.new ≡ length found) × Fills found features.old features.new }
     ensures room { result ≡ 100 → (found : List ℕ) × AreFeatures stream.now found

@@ -4,7 +4,7 @@ ghost use Rattle.std.specs.Prelude.{◌≡◌, ◌≢◌, ◌<◌, [], ℕ, List
 ghost use Rattle.std.specs.List.{flat_map};
 ghost use Rattle.msf_blocks.specs.Directory.{bytes_of};
 ghost use Rattle.pdbmerge_c.specs.Container.{AreStreamBlocks, HasContainer, IsFaultOfContainer, RefusesContainer};
-ghost use Rattle.pdbmerge_c.specs.Fault.{IsSaid};
+ghost use Rattle.pdbmerge_c.specs.Fault.{IsEnded, IsSaid};
 ghost use Rattle.pdbmerge_c.specs.Given.{Fills};
 
 use crate::fault::{Fault, refuse};
@@ -100,6 +100,7 @@ pub extern "C" fn pdbmerge_layout(
     fault: &mut Fault,
 ) -> u32
     ensures told { IsSaid fault.new result }
+    ensures ended { IsEnded fault.new }
     ensures value { result ≡ 0 → (found : List ℕ) × HasContainer file.now container.new found
         × Fills found sizes.old sizes.new }
     ensures room { result ≡ 100 → (found : List ℕ) × HasContainer file.now container.new found
@@ -132,6 +133,7 @@ pub extern "C" fn pdbmerge_blocks(
     fault: &mut Fault,
 ) -> u32
     ensures told { IsSaid fault.new result }
+    ensures ended { IsEnded fault.new }
     ensures value { result ≡ 0 → (found : List ℕ) × AreStreamBlocks file.now found
         × (count.new ≡ length found) × Fills found blocks.old blocks.new }
     ensures room { result ≡ 100 → (found : List ℕ) × AreStreamBlocks file.now found

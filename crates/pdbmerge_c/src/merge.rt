@@ -5,7 +5,7 @@ ghost use Rattle.std.specs.Borrow.{Bor};
 ghost use Rattle.pdb_info.specs.Settings.{SettingsView, record_limit};
 ghost use Rattle.pdb_merge.specs.Merged.{Wrote};
 ghost use Rattle.pdb_merge.specs.Union.{CanMerge};
-ghost use Rattle.pdbmerge_c.specs.Fault.{IsSaid};
+ghost use Rattle.pdbmerge_c.specs.Fault.{IsEnded, IsSaid};
 ghost use Rattle.pdbmerge_c.specs.Merge.{AreAllowed, IsRefusal, Merges, LacksRoom, RefusesMerge, bytes_of_files, inputs_of, settings_of};
 
 use crate::fault::{Fault, MEMORY, SETTINGS, refuse, tell};
@@ -85,6 +85,7 @@ fn merge_in_memory(
 #[tactic(auto, using(crate::proofs::NumberLaws::merge_known))]
 fn refuse_merge(fault: &mut Fault, why: &OutFault) -> u32
     ensures told { fault.new.number ≡ result }
+    ensures ended { IsEnded fault.new }
     ensures some { result ≢ 0 }
     ensures room { result ≢ 100 }
     ensures settings { result ≢ 101 }
@@ -115,6 +116,7 @@ pub extern "C" fn pdbmerge_merge(
     fault: &mut Fault,
 ) -> u32
     ensures told { IsSaid fault.new result }
+    ensures ended { IsEnded fault.new }
     // The file is at the front of `out`.
     ensures value { result ≡ 0 → Merges files.now choices.now report.new out.old out.new }
     // The file is longer than `out`.

@@ -3,7 +3,7 @@
 ghost use Rattle.std.specs.Prelude.{◌≡◌, ◌≢◌, ◌<◌, ℕ, List, Some, length, option_map, IfOk, IfErr};
 ghost use Rattle.cv_leaves.specs.Name.{name_of};
 ghost use Rattle.tpi_records.specs.Records.{BeginsWith, IsFlaw};
-ghost use Rattle.pdbmerge_c.specs.Fault.{IsSaid};
+ghost use Rattle.pdbmerge_c.specs.Fault.{IsEnded, IsSaid};
 ghost use Rattle.pdbmerge_c.specs.Name.{GivesName, IsNamed, RefusesName};
 
 use crate::fault::{Fault, clear, refuse};
@@ -40,6 +40,7 @@ pub extern "C" fn pdbmerge_name(
     fault: &mut Fault,
 ) -> u32
     ensures told { IsSaid fault.new result }
+    ensures ended { IsEnded fault.new }
     ensures value { result ≡ 0 → GivesName bytes.now size.new out.old out.new }
     ensures room { result ≡ 100 → (name : List ℕ) × IsNamed bytes.now (Some name)
         × (size.new ≡ length name) × (length out.old < length name) }

@@ -2,7 +2,7 @@
 
 ghost use Rattle.std.specs.Prelude.{◌≡◌, ◌≢◌, ◌⊎◌, ◌<◌, ◌+◌, [], ℕ, List, length, get_or, OnOk, IfOk, IfErr, IfSome, IfNone};
 ghost use Rattle.tpi_records.specs.Records.{HasRecords, start_of};
-ghost use Rattle.pdbmerge_c.specs.Fault.{IsSaid};
+ghost use Rattle.pdbmerge_c.specs.Fault.{IsEnded, IsSaid};
 ghost use Rattle.pdbmerge_c.specs.Given.{Fills};
 ghost use Rattle.pdbmerge_c.specs.Record.{BeginsAt, LacksRecord, RefusesIndex};
 ghost use Rattle.pdbmerge_c.specs.Records.{AreOffsets, IsFaultOfRecords, RefusesRecords};
@@ -77,6 +77,7 @@ pub extern "C" fn pdbmerge_records(
     fault: &mut Fault,
 ) -> u32
     ensures told { IsSaid fault.new result }
+    ensures ended { IsEnded fault.new }
     ensures value { result ≡ 0 → (found : List ℕ) × AreOffsets stream.now found
         × (count.new ≡ length found) × Fills found offsets.old offsets.new }
     ensures room { result ≡ 100 → (found : List ℕ) × AreOffsets stream.now found
@@ -105,6 +106,7 @@ pub extern "C" fn pdbmerge_record(
     fault: &mut Fault,
 ) -> u32
     ensures told { IsSaid fault.new result }
+    ensures ended { IsEnded fault.new }
     ensures value { result ≡ 0 → BeginsAt stream.now index offset.new }
     ensures refuses { result ≢ 0 → RefusesRecords stream.now fault.new
         ⊎ RefusesIndex stream.now index fault.new }

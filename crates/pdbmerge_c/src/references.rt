@@ -3,7 +3,7 @@
 ghost use Rattle.std.specs.Prelude.{◌≡◌, ◌≢◌, ◌≤◌, ◌<◌, ◌+◌, ◌^◌, ◌++◌, ◌∷◌, [], ℕ, List, length, map, OnOk, IfOk, IfErr};
 ghost use Rattle.cv_leaves.specs.Place.{HasPlaces, IsChecked};
 ghost use Rattle.tpi_records.specs.Records.{BeginsWith};
-ghost use Rattle.pdbmerge_c.specs.Fault.{IsSaid};
+ghost use Rattle.pdbmerge_c.specs.Fault.{IsEnded, IsSaid};
 ghost use Rattle.pdbmerge_c.specs.Given.{Fills};
 ghost use Rattle.pdbmerge_c.specs.References.{AreReferences, IsFaultOfRecord, RefusesRecord, reference_in};
 
@@ -85,6 +85,7 @@ pub extern "C" fn pdbmerge_references(
     fault: &mut Fault,
 ) -> u32
     ensures told { IsSaid fault.new result }
+    ensures ended { IsEnded fault.new }
     ensures value { result ≡ 0 → (found : List Reference) × AreReferences bytes.now found
         × (count.new ≡ length found) × Fills found references.old references.new }
     ensures room { result ≡ 100 → (found : List Reference) × AreReferences bytes.now found

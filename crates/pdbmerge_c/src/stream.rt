@@ -1,7 +1,7 @@
 //! The bytes of a stream.
 
 ghost use Rattle.std.specs.Prelude.{◌≡◌, ◌≢◌, ◌<◌, ℕ, List, length, IfOk, IfErr};
-ghost use Rattle.pdbmerge_c.specs.Fault.{IsSaid};
+ghost use Rattle.pdbmerge_c.specs.Fault.{IsEnded, IsSaid};
 ghost use Rattle.pdbmerge_c.specs.Given.{Fills};
 ghost use Rattle.pdbmerge_c.specs.Stream.{IsStreamOf, IsFaultOfStream, RefusesStream};
 
@@ -43,6 +43,7 @@ pub extern "C" fn pdbmerge_stream(
     fault: &mut Fault,
 ) -> u32
     ensures told { IsSaid fault.new result }
+    ensures ended { IsEnded fault.new }
     ensures value { result ≡ 0 → (bytes : List ℕ) × IsStreamOf file.now stream bytes
         × (size.new ≡ length bytes) × Fills bytes out.old out.new }
     ensures room { result ≡ 100 → (bytes : List ℕ) × IsStreamOf file.now stream bytes
