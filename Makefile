@@ -67,6 +67,7 @@ test:
 	tests/failures
 	tests/position
 	tests/surroundings
+	tests/streams
 	tests/faults
 	tests/cookbook
 	tests/manual

@@ -4,7 +4,7 @@
  * counted from 1 over the calls of this kind; that call fails, and all others are passed on. Where
  * FAILING is `reads`, all reads after it fail too. A write to standard error is not counted. If FAILING_ZERO is set, the write doesn't fail, but takes no bytes.
  * FAILING_TOLD names a file that is made when the call comes. FAILING_MOST is the most bytes that a
- * read or a write takes, where it is set. */
+ * read or a write takes, where it is set. FAILING_LEAST is the least size of an allocation that is counted. */
 #define _GNU_SOURCE
 #include <dlfcn.h>
 #include <errno.h>
@@ -21,19 +21,22 @@ static const char *const names[KINDS] = {"memory", "open", "stat", "seek", "read
 static unsigned long counts[KINDS], fails_at[KINDS];
 static int all_reads;
 static const char *told;
-static size_t most = -1;
+static size_t most = -1, least = 0;
 
 extern void *__libc_malloc(size_t);
 extern void *__libc_realloc(void *, size_t);
 
 __attribute__((constructor)) static void begin(void) {
     const char *name = getenv("FAILING"), *at = getenv("FAILING_AT"), *bytes = getenv("FAILING_MOST");
+    const char *size = getenv("FAILING_LEAST");
     all_reads = name && !strcmp(name, "reads");
     for (int kind = 0; name && at && kind < KINDS; kind++)
         if (!strcmp(all_reads ? "read" : name, names[kind]))
             fails_at[kind] = strtoul(at, NULL, 10);
     if (bytes)
         most = strtoul(bytes, NULL, 10);
+    if (size)
+        least = strtoul(size, NULL, 10);
     told = getenv("FAILING_TOLD");
     memset(counts, 0, sizeof counts);
 }
@@ -54,7 +57,7 @@ static int failed(int error) {
 }
 
 void *malloc(size_t size) {
-    if (fails(MEMORY)) {
+    if (size >= least && fails(MEMORY)) {
         errno = ENOMEM;
         return NULL;
     }
@@ -62,7 +65,7 @@ void *malloc(size_t size) {
 }
 
 void *realloc(void *block, size_t size) {
-    if (fails(MEMORY)) {
+    if (size >= least && fails(MEMORY)) {
         errno = ENOMEM;
         return NULL;
     }

@@ -58,6 +58,13 @@ def run_in_one(*words, **settings):
     return run(*words, stderr=subprocess.STDOUT, **settings)[:2]
 
 
+def failing_library(folder):
+    """Compiles tests/failing.c into a folder. Returns the library that lets a call of a process fail."""
+    library = pathlib.Path(folder) / 'failing.so'
+    subprocess.run(['cc', '-shared', '-fPIC', '-O1', '-o', library, ROOT / 'tests' / 'failing.c', '-ldl'], check=True)
+    return str(library)
+
+
 def content(path):
     """The bytes of a file, or None where there is no file."""
     path = pathlib.Path(path)

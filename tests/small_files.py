@@ -1,6 +1,6 @@
 """Small PDB files for the tests: records, and the streams and the file that hold them."""
 import struct
-from harness import FIRST, GUID, container, words
+from harness import FIRST, GUID, blocks_of, container, words
 
 # Records: const int and volatile int.
 CONST = bytes.fromhex('0a000110 74000000 0100f2f1')
@@ -37,6 +37,15 @@ def types(records):
 def info(age=1):
     """An info stream without names, as docs/WRITTEN.md says."""
     return words(20000404, 0, age) + GUID + words(0, 0, 8, 0, 0, 0)
+
+
+def named_info(text, offsets):
+    """An info stream with this buffer, and a name at each of these offsets in it."""
+    count = len(offsets)
+    present = blocks_of(count, 32)
+    bits = words(*((1 << min(32, count - 32 * k)) - 1 for k in range(present)))
+    pairs = b''.join(words(offset, 5) for offset in offsets)
+    return info()[:28] + words(len(text)) + text + words(count, count, present) + bits + words(0) + pairs + bytes(4)
 
 
 def written(records, block=4096):

@@ -47,7 +47,8 @@ const WRITE: Page = Page {
     meaning: "not all bytes of the file or of the text could be written, or the system could not store \
         them",
     cause: "a full disk, a quota, a pipe whose reader has ended, or an output that is closed",
-    advice: "make room, and run the command again: OUT, if it was written, is not whole",
+    advice: "make room, and run the command again: OUT may have only its first bytes, unless only the \
+        report could not be written",
 };
 
 const READ: Page = Page {
@@ -61,10 +62,10 @@ const READ: Page = Page {
 const TOO_LONG: Page = Page {
     number: 38,
     text: "TooLong",
-    meaning: "the file, or the stream that the command reads, has more bytes than --max-bytes allows, \
-        or more than 4294967295",
+    meaning: "the file, its directory, the stream that the command reads, or the names that info \
+        shows have more bytes than --max-bytes allows, or the file more than 4294967295",
     cause: "a file that is larger than the limit, or a damaged or hostile one that announces a very \
-        long stream",
+        long directory or stream, or names that share their bytes",
     advice: "raise --max-bytes if the file is known to be good",
 };
 

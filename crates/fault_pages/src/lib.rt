@@ -3,8 +3,8 @@
 //! [`page_of`] gives the [`Page`] of a fault by its number. `pdbmerge explain` prints it, and
 //! docs/FAULTS.md has the same texts.
 //!
-//! What is proved: there is a page for each number from 1 to 41, and for no other, and it is the page
-//! of that fault. That the texts are right is not proved.
+//! What is proved: there is a page for each number from 1 to 41, and for no other, and it says this
+//! number. That the texts are right is not proved.
 //!
 //! # Example
 //!

@@ -8,12 +8,13 @@ use std::rt::HostRuntime;
 /// The greatest number of a standard stream: 0 is input, 1 is output and 2 is for errors.
 const LAST_STANDARD: i32 = 2;
 
-/// Opens a file that nothing can be written into, and keeps it if it stands at the number of a
-/// standard stream.
+/// Opens what can be neither read nor written, and keeps it if it stands at the number of a standard
+/// stream.
 fn hold_one(rt: &HostRuntime) -> Option<File> {
-    // A system without the null device has at least its root folder.
-    let file = fs::open(rt, "/dev/null")
-        .or_else(|_| fs::open(rt, "/"))
+    // Where the root folder can't be opened, the null device keeps the number at least. It reads as
+    // a file of no bytes.
+    let file = fs::open(rt, "/")
+        .or_else(|_| fs::open(rt, "/dev/null"))
         .ok()?;
     if file.as_raw_fd() <= LAST_STANDARD {
         Some(file)
@@ -26,8 +27,8 @@ fn hold_one(rt: &HostRuntime) -> Option<File> {
 ///
 /// The system gives a file the lowest number that is free. If a standard stream is closed, the next
 /// file that is opened would get its number: the report would go into OUT. So these numbers are
-/// held while the program runs. The files are opened for reading, so a write to a closed standard
-/// stream still fails.
+/// held while the program runs, by the root folder. A read of it fails, so a closed standard input
+/// is no empty list. A write fails too, and so does creating OUT under a name of the stream.
 #[derive(Drop)]
 pub struct Held {
     _files: [Option<File>; 3],

@@ -26,7 +26,7 @@ use pdb_commands::{
 };
 use program_files::{InputFiles, NewFile, ProgramFault, Progress, Reading, WholeFile, open_within};
 use refusal::{Refusal, refuse, refuse_line};
-use report::{REPORT_LENGTH, is_standard_output, print};
+use report::{REPORT_LENGTH, TakenStreams, print};
 use std::hash::{BuildHasher, BuildHasherDefault, DefaultHasher, RandomState};
 use std::io::writer;
 use std::process::ExitCode;
@@ -43,9 +43,14 @@ fn compared<'a>(
     InputFiles::new(rt, files, max_bytes, None)
 }
 
-/// The inputs of a merge, with what tells how many of them were read.
-fn inputs_of<'a>(rt: &'a HostRuntime, task: &'a Merging) -> InputFiles<'a, HostRuntime> {
-    let progress = if task.shows_progress {
+/// The inputs of a merge, with what tells how many of them were read. It tells that on standard
+/// error, so it tells nothing where that is OUT.
+fn inputs_of<'a>(
+    rt: &'a HostRuntime,
+    task: &'a Merging,
+    taken: TakenStreams,
+) -> InputFiles<'a, HostRuntime> {
+    let progress = if task.shows_progress && !taken.error {
         Some(Progress::new(rt, task.inputs.len()))
     } else {
         None
@@ -57,11 +62,12 @@ fn inputs_of<'a>(rt: &'a HostRuntime, task: &'a Merging) -> InputFiles<'a, HostR
 fn write_merged<S: BuildHasher + Drop>(
     rt: &HostRuntime,
     task: &Merging,
+    taken: TakenStreams,
     hasher: S,
 ) -> Result<Vec<u8>, ProgramFault> {
     let mut new_file = NewFile::new(rt, task.out.as_str());
     let mut report = Vec::with_capacity(rt.alloc(), REPORT_LENGTH)?;
-    let inputs = inputs_of(rt, task);
+    let inputs = inputs_of(rt, task, taken);
     let mut told = Out::new(&mut report);
     let merged = match task.naming {
         Naming::Given => run_merge(
@@ -89,20 +95,25 @@ fn write_merged<S: BuildHasher + Drop>(
     Ok(report)
 }
 
-/// Merges files into a new one, and writes the report on it.
+/// Merges files into a new one, and writes the report on it. Returns the exit status.
 fn merge_with<S: BuildHasher + Drop>(
     rt: &HostRuntime,
     task: &Merging,
     hasher: S,
-) -> Result<(), ProgramFault> {
-    let is_output_taken = is_standard_output(rt, task.out.as_str());
-    let report = write_merged(rt, task, hasher)?;
-    print(rt, &report, is_output_taken)
+) -> Result<ExitCode, ProgramFault> {
+    let taken = TakenStreams::of(rt, task.out.as_str());
+    let report = write_merged(rt, task, taken, hasher)?;
+    match print(rt, &report, taken) {
+        Ok(()) => Ok(ExitCode::SUCCESS),
+        // OUT is whole. The line of a refusal would be written into it.
+        Err(_) if taken.error => Ok(ExitCode::FAILURE),
+        Err(fault) => Err(fault),
+    }
 }
 
 /// Merges files with hashes that nobody can predict, where the system gives random numbers. Where
 /// it gives none, the key is fixed, and records that share a hash have to be searched for.
-fn merge(rt: &HostRuntime, task: &Merging) -> Result<(), ProgramFault> {
+fn merge(rt: &HostRuntime, task: &Merging) -> Result<ExitCode, ProgramFault> {
     match RandomState::new(rt) {
         Ok(hasher) => merge_with(rt, task, hasher),
         Err(_) => {
@@ -198,7 +209,7 @@ fn run(rt: &HostRuntime, task: &Task) -> Result<ExitCode, ProgramFault> {
             files,
             max_bytes,
         } => return compare(rt, &compared(rt, files, *max_bytes), *scope),
-        Task::Merge(task) => merge(rt, task)?,
+        Task::Merge(task) => return merge(rt, task),
     }
     Ok(ExitCode::SUCCESS)
 }

@@ -1,8 +1,10 @@
 //! What the program says of a refusal.
 
 use command_line::{Line, LineFault, Task};
+use command_texts::push_quoted;
 use pdb_commands::RunFault;
 use program_files::ProgramFault;
+use std::alloc::AllocError;
 use std::io::{self, Eprint, Print};
 use std::process::ExitCode;
 
@@ -63,21 +65,32 @@ fn inputs_of(task: &Task) -> &[String] {
     }
 }
 
+/// A path in quotes, as names are printed: a path may hold what a terminal would act upon.
+fn quoted<R: AllocGlobal>(rt: &R, path: &str) -> Result<String, AllocError> {
+    let mut text = String::new(rt.alloc());
+    push_quoted(&mut text, path.as_bytes())?;
+    Ok(text)
+}
+
 /// Prints which input a fault names.
-fn name_input<R: Eprint>(rt: &R, fault: &ProgramFault, task: &Task) -> io::Result<()> {
+fn name_input<R: Eprint + AllocGlobal>(
+    rt: &R,
+    fault: &ProgramFault,
+    task: &Task,
+) -> io::Result<()> {
     if let Some(file) = fault.file() {
         if let Some(path) = inputs_of(task).get(file) {
-            eprintln!(rt; "file {file} is {path}")?;
+            eprintln!(rt; "file {file} is {}", quoted(rt, path.as_str())?)?;
         }
     }
     Ok(())
 }
 
 /// Prints which file the list of more inputs is.
-fn name_list<R: Eprint>(rt: &R, task: &Task) -> io::Result<()> {
+fn name_list<R: Eprint + AllocGlobal>(rt: &R, task: &Task) -> io::Result<()> {
     if let Task::Merge(task) = task {
         if let Some(list) = &task.list {
-            eprintln!(rt; "LIST is {}", list.path)?;
+            eprintln!(rt; "LIST is {}", quoted(rt, list.path.as_str())?)?;
         }
     }
     Ok(())
@@ -89,7 +102,7 @@ fn name_page<R: Eprint>(rt: &R, fault: &ProgramFault) -> io::Result<()> {
 }
 
 /// Prints which file a refusal is about, and where more is said of the fault.
-fn say_more<R: Eprint>(rt: &R, refusal: &Refusal, task: &Task) -> io::Result<()> {
+fn say_more<R: Eprint + AllocGlobal>(rt: &R, refusal: &Refusal, task: &Task) -> io::Result<()> {
     match refusal {
         Refusal::Line(_) => Ok(()),
         Refusal::List(fault) => {
@@ -105,7 +118,7 @@ fn say_more<R: Eprint>(rt: &R, refusal: &Refusal, task: &Task) -> io::Result<()>
 
 /// Prints why a command was refused, and more where the arguments ask for it. Returns the exit
 /// status.
-pub fn refuse<R: Print + Eprint>(rt: &R, refusal: &Refusal, line: &Line) -> ExitCode {
+pub fn refuse<R: Print + Eprint + AllocGlobal>(rt: &R, refusal: &Refusal, line: &Line) -> ExitCode {
     let status = match refusal {
         Refusal::Line(fault) => refuse_line(rt, fault),
         Refusal::List(fault) | Refusal::Program(fault) => print_fault(rt, fault),
