@@ -24,9 +24,11 @@ fn folders() -> Vec<String> {
     }
 }
 
-/// The folders that pkg-config tells; none where it is not there, or doesn't know the library.
+/// The folders that pkg-config tells; none where it is not there, or doesn't know the library. It is asked
+/// for those of the system too: the linker looks there for a shared library, but rustc for no archive.
 fn told_folders() -> Vec<String> {
     let asked = Command::new("pkg-config")
+        .env("PKG_CONFIG_ALLOW_SYSTEM_LIBS", "1")
         .args(["--libs-only-L", "pdbmerge"])
         .output();
     let told = match asked {
