@@ -2,4 +2,3 @@ pub mod Fault
 pub mod At
 pub mod Input
 pub mod Inputs
-pub mod Paged

@@ -37,10 +37,6 @@ pub trait ReadAt {
     /// Whether a read failed.
     ghost is_broken: { Self → Bool };
 
-    /// The ghost name of the reference through which it reads, and 0 if it has none. So a caller
-    /// that lent the reference knows that it gets the same one back.
-    ghost lent: { Self → ℕ } = { λ _. 0 };
-
     /// How many bytes there are. If the bytes are not known, this is how many there are said to be.
     fn len(&self) -> u64
         ensures told { result ≡ (bytes self.now).told }
@@ -60,7 +56,6 @@ pub trait ReadAt {
         requires inside { IfKnown (bytes self.old) (λ file.
             offset + length into.old ≤ length file) }
         ensures keeps { bytes self.new ≡ bytes self.old }
-        ensures lent { lent self.new ≡ lent self.old }
         ensures same { length into.new ≡ length into.old }
         ensures value { IfSome result (λ _.
             IfKnown (bytes self.old) (λ file. StandsAt file offset into.new)) }

@@ -8,8 +8,7 @@
 //! - [`Source`] gives bytes. [`In`] makes a source of any `Read`, and [`read_all`] reads a whole
 //!   source.
 //! - [`ReadAt`] gives bytes from any position. [`Seeking`] makes a `ReadAt` of any file that can
-//!   seek. A slice is a `ReadAt` by itself. [`Paged`] reads through pages that it keeps, for many
-//!   small reads.
+//!   seek. A slice is a `ReadAt` by itself.
 //! - [`Inputs`] are several inputs that are read one after the other. An input is [`Opened`] to be
 //!   read by position, or read to its end.
 //!
@@ -35,7 +34,6 @@ mod at;
 mod fault;
 mod input;
 mod inputs;
-mod paged;
 mod sink;
 mod source;
 
@@ -43,6 +41,5 @@ pub use at::{AtFault, ReadAt, Seeking, read_more, read_over};
 pub use fault::NotTaken;
 pub use input::{ReadFault, read_all, read_into, skip_all};
 pub use inputs::{InputFault, Inputs, Opened};
-pub use paged::Paged;
 pub use sink::{Out, Sink, put_all};
 pub use source::{In, Source};

@@ -10,6 +10,7 @@ pub mod LayoutLaws
 pub mod ListsLaws
 pub mod FoundLaws
 pub mod ReadNumberLaws
+pub mod WindowLaws
 pub mod RefusedLaws
 pub mod AtLayoutLaws
 pub mod BlockLaws

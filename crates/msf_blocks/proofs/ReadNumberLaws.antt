@@ -1,18 +1,14 @@
 -- Numbers of the directory that reads gave, one at a time.
 use Rattle.std.proofs.Common.{◌≡◌, ℕ, suc, ◌+◌, ◌-◌, ◌*◌, ◌/◌, ◌%◌, ◌<◌, ◌≤◌, ◌^◌, List, [], ◌∷◌, ◌++◌, length, get_or, ap, ◌∙◌, arith, inl, inr}
 use Rattle.std.proofs.lemmas.Bool.{cases_lt}
-use Rattle.std.proofs.lemmas.List.{take_all, length-append, get_or_append_left, get_or-append-add}
-use Rattle.byte_fields.specs.Number.{number_at, four_bytes, u32s}
-use Rattle.byte_fields.proofs.NumberLaws.{four_bytes-number_at, length-four_bytes}
+use Rattle.std.proofs.lemmas.List.{length-append, get_or_append_left, get_or-append-add}
+use Rattle.byte_fields.specs.Number.{four_bytes, u32s}
+use Rattle.byte_fields.proofs.NumberLaws.{length-four_bytes}
 use Rattle.byte_io.specs.At.{Bytes, AreGiven}
 use Rattle.msf_blocks.specs.BlockNumber.{IsBlockSize}
 use Rattle.msf_blocks.specs.Superblock.{Fields}
 use Rattle.msf_blocks.specs.Directory.{AreDirectoryBytes, AreDirectoryNumbers, IsDirectoryNumber, IsNumberGiven, map_start}
 use Rattle.msf_blocks.proofs.DirectoryLaws.{lies_in_block}
-
--- four bytes are those of the number that they spell
-pub four_bytes_are : (text : List ℕ) → length text ≡ 4 → ((i : ℕ) → get_or text i 0 < 256) → four_bytes (number_at 4 text 0) ≡ text
-four_bytes_are text four small = four_bytes-number_at text 0 small (omega (arith, four)) ∙ take_all 4 text (omega (arith, four))
 
 -- a number that was read in a block of the directory is one of the directory
 pub number_in_block : (bytes : Bytes) (fields : Fields) (position block n : ℕ) → IsBlockSize fields.block_size → 4 * position + 4 ≤ fields.directory_bytes → n < 2 ^ 32

@@ -3,6 +3,7 @@ pub mod BlockNumber
 pub mod Superblock
 pub mod Directory
 pub mod Blocks
+pub mod Window
 pub mod Layout
 pub mod Stream
 pub mod FreeMap

@@ -50,6 +50,8 @@ mod free_map;
 pub mod laws;
 mod layout;
 mod superblock;
+mod window;
+mod without_memory;
 
 pub use block_number::{blocks_for, is_map_block, nth_block};
 pub use block_size::{BlockSize, is_block_size};

@@ -1,0 +1,42 @@
+use Rattle.std.proofs.Common.{◌∙◌, sym, arith}
+use Rattle.std.proofs.lemmas.Result.{err_from_is_err_and}
+use Rattle.byte_io.proofs.AtLaws.{of_more}
+use Rattle.msf_blocks.specs.Directory.{directory_contents}
+use Rattle.msf_blocks.proofs.DirectoryLaws.{list_start_more, list_start_upto}
+use Rattle.msf_blocks.proofs.RefusedLaws.{more_lists, rest_refused, list_refused}
+use Rattle.msf_blocks.proofs.without_memory.check_list.Goals as goal
+
+pub check_stream-requires-clause-room : goal.check_stream-requires-clause-room
+check_stream-requires-clause-room g c = λ file known.
+    let fields = c.args.superblock.now in
+    let old = sym c.in-Some.ensures.keeps ∙ known in
+    let upto = list_start_upto fields.block_size (directory_contents file fields) c.args.stream c.args.streams c.requires.below in
+    omega (arith, upto.0, c.requires.start file old, c.in-Some.ensures.value file old, c.requires.room file old)
+
+pub check_end-requires-clause-start : goal.check_end-requires-clause-start
+check_end-requires-clause-start g c = λ file known.
+    let fields = c.args.superblock.now in
+    let old = sym c.in-Some.ensures.keeps ∙ sym c.in-Err-Of.ensures.keeps ∙ known in
+    omega (arith, c.from.ensures, c.from-in-Err-Of.ensures, c.requires.start file old, c.in-Some.ensures.value file old, list_start_more fields.block_size (directory_contents file fields) c.args.stream)
+
+pub returns-in-Ok-clause-end : goal.returns-in-Ok-clause-end
+returns-in-Ok-clause-end g c = λ file known.
+    let fields = c.args.superblock.now in
+    omega (arith, c.requires.start file known, c.in-Some.ensures.value file known, list_start_more fields.block_size (directory_contents file fields) c.args.stream)
+
+pub returns-in-Ok-clause-lists : goal.returns-in-Ok-clause-lists
+returns-in-Ok-clause-lists g c =
+    more_lists (g.R.ReadAt.bytes c.args.input.now) c.args.superblock.now c.args.streams c.args.stream c.args.start c.in-Some.count c.requires.lists c.in-Some.ensures.size (rw c.in-Some.ensures.keeps at c.in-Ok.ensures.listed)
+
+pub returns-in_err-check_end-in-Err-Of-clause-refused : goal.returns-in_err-check_end-in-Err-Of-clause-refused
+returns-in_err-check_end-in-Err-Of-clause-refused g c =
+    let p = err_from_is_err_and c.from_residual.result c.from_residual.ensures.1 in
+    rw (p.1, p.2) (of_more _ _ c.in_err-check_end-in-Err-Of.field-0.0 (λ fault lacks.
+    rest_refused (g.R.ReadAt.bytes c.args.input.now) c.args.superblock.now c.args.streams c.args.stream c.args.start c.in-Some.count fault c.requires.lists c.in-Some.ensures.size
+    (rw (c.in-Err-Of.ensures.keeps, c.in-Some.ensures.keeps, c.from.ensures, c.from-in-Err-Of.ensures) at lacks) c.requires.few) c.in_err-check_end-in-Err-Of.ensures.refused)
+
+pub returns-in_ok-check_end-in-Err-Of-clause-refused : goal.returns-in_ok-check_end-in-Err-Of-clause-refused
+returns-in_ok-check_end-in-Err-Of-clause-refused g c =
+    let e = c.in-Err-Of.ensures in
+    list_refused (g.R.ReadAt.bytes c.args.input.now) c.args.superblock.now c.args.streams c.args.stream c.args.start c.in-Some.count c.in-Err-Of.fault c.requires.lists c.in-Some.ensures.size
+    (rw (e.keeps, c.in-Some.ensures.keeps, c.from.ensures, c.from-in-Err-Of.ensures) at c.in_ok-check_end-in-Err-Of.ensures.room) (rw (c.in-Err-Of.field-0-is, c.in-Some.ensures.keeps) at e.refused)
