@@ -1,21 +1,19 @@
 -- What is read by position, of a file that may be known.
-use Rattle.std.proofs.Common.{◌≡◌, ℕ, zero, suc, ◌+◌, ◌*◌, ◌/◌, ◌%◌, ◌<◌, ◌≤◌, map, true, false, Bool, List, Option, Some, None, length, take, drop, get_or, ap, ◌∙◌, refl, sym, arith}
+use Rattle.std.proofs.Common.{◌≡◌, ℕ, zero, suc, ◌+◌, ◌*◌, ◌<◌, ◌≤◌, map, true, false, Bool, List, Some, None, length, take, drop, get_or, ap, ◌∙◌, refl, sym, arith}
 use Rattle.std.proofs.lemmas.List.{take-take, get_or-take, get_or-drop, length-take}
 use Rattle.std.proofs.lemmas.List.FromFn.{get_or-map-range_with_len, length-map-range_with_len}
 use Rattle.std.specs.List.{starts_with, range_with_len}
-use Rattle.std.specs.Prelude.{nat_le, nat_eq, IfSome}
+use Rattle.std.specs.Prelude.{nat_le, nat_eq}
 use Rattle.std.proofs.lemmas.Bool.Decides.{nat_tests}
 use Rattle.std.proofs.lemmas.Nat.{mul-le}
 use Rattle.byte_fields.specs.Number.{number_at, nth_u32}
 use Rattle.byte_fields.specs.Check.{Check, checks_below, first_failing}
 use Rattle.byte_io.specs.At.{StandsAt}
-use Rattle.msf_blocks.specs.BlockNumber.{IsBlockSize}
-use Rattle.msf_blocks.specs.Blocks.{AreInside, in_blocks}
-use Rattle.msf_blocks.specs.Directory.{map_number, map_numbers, number_check, number_checks, directory_blocks, directory_block_check, directory_block_checks, directory_contents, length_checks, list_start}
+use Rattle.msf_blocks.specs.Blocks.{AreInside}
+use Rattle.msf_blocks.specs.Directory.{map_number, number_check, number_checks, directory_blocks, directory_block_check, directory_block_checks, length_checks, list_start}
+use Rattle.msf_blocks.proofs.DirectoryLaws.{map_numbers}
 use Rattle.msf_blocks.specs.declared.fault.MsfFault.TheVariants.{Short, DirectoryShort}
 use Rattle.msf_blocks.specs.Superblock.{HoldsBlocks, Fields, IsFit, IsSuperblock, magic, fields_of, superblock_checks, front_checks}
-use Rattle.msf_blocks.proofs.RangeLaws.{map-same_ranges}
-use Rattle.msf_blocks.proofs.SizeLaws.{some_bytes, place_below}
 use Rattle.msf_blocks.proofs.DirectoryLaws.{map_is_ordinary}
 use Rattle.msf_blocks.proofs.SuperblockLaws.{magic_from_starts_with, starts_with_magic}
 
@@ -108,22 +106,6 @@ number_is file bytes offset stands four =
     let here : offset + 0 ≡ offset = omega arith in
     rw here at (number_read file bytes offset 0 stands (omega (arith, four)))
 
--- a block map that was read is that of the file
-pub block_map_stands : (file bytes : List ℕ) (fields : Fields) (addr size n : ℕ) → addr ≡ fields.block_map_addr → size ≡ fields.block_size → addr < fields.num_blocks → HoldsBlocks file fields
-    → n ≤ size → length bytes ≡ n → bytes ≡ take n (drop (addr * size) file) → StandsAt file (fields.block_map_addr * fields.block_size) bytes
-block_map_stands file bytes fields addr size n at long below whole few many is =
-    let rows : (addr + 1) * size ≤ fields.num_blocks * fields.block_size = rw (← long) (mul-le (addr + 1) size fields.num_blocks size (omega (arith, below)) (omega arith)) in
-    rw (← at, ← long) (record { inside = omega (arith, rows, whole, few, many); is = rw many is })
-
--- the numbers of a block map that was read are those of the file
-pub numbers_read : (file bytes : List ℕ) (fields : Fields) → StandsAt file (fields.block_map_addr * fields.block_size) bytes → 4 * directory_blocks fields ≤ length bytes
-    → map (nth_u32 bytes) (range_with_len 0 (directory_blocks fields)) ≡ map_numbers file fields
-unfolding nth_u32 map_number
-numbers_read file bytes fields stands fits =
-    map-same_ranges (nth_u32 bytes) (map_number file fields) 0 0 (directory_blocks fields) (λ k lt.
-    let same : 0 + k ≡ k = omega arith in
-    rw same (number_read file bytes (fields.block_map_addr * fields.block_size) (4 * k) stands (omega (arith, lt, fits))))
-
 same_checks : {F : Type 0} (n : ℕ) (f g : ℕ → List (Check F)) → ((k : ℕ) → k < n → f k ≡ g k) → checks_below n f ≡ checks_below n g
 same_checks zero f g same = refl
 same_checks (suc n) f g same = rw (same_checks n f g (λ k lt. same k (omega (arith, lt))), same n (omega arith)) refl
@@ -137,19 +119,6 @@ number_checks_are file numbers fields is =
     let at : get_or numbers k 0 ≡ map_number file fields k = rw is (get_or-map-range_with_len (map_number file fields) 0 count k k 0 lt (omega arith)) in
     rw at refl)
 
--- the contents of the directory are in the blocks that the block map lists
-pub map_contents : (file : List ℕ) (fields : Fields) → IsBlockSize fields.block_size
-    → in_blocks file fields.block_size (map_numbers file fields) fields.directory_bytes ≡ directory_contents file fields
-unfolding in_blocks directory_contents
-map_contents file fields size =
-    let b = fields.block_size in
-    let blocks = map_numbers file fields in
-    map-same_ranges (λ i. get_or file (get_or blocks (i / b) 0 * b + i % b) 0) (λ i. get_or file (map_number file fields (i / b) * b + i % b) 0) 0 0 fields.directory_bytes (λ i below.
-    let same : 0 + i ≡ i = omega arith in
-    let lt : i / b < directory_blocks fields = place_below b fields.directory_bytes i (some_bytes b size) below in
-    let at : get_or blocks (i / b) 0 ≡ map_number file fields (i / b) = get_or-map-range_with_len (map_number file fields) 0 (directory_blocks fields) (i / b) (i / b) 0 lt (omega arith) in
-    rw (same, at) refl)
-
 -- these blocks are in the file
 pub map_inside : (file : List ℕ) (fields : Fields) → first_failing (directory_block_checks file fields) ≡ None → HoldsBlocks file fields
     → AreInside file fields.block_size (map_numbers file fields)
@@ -160,11 +129,6 @@ map_inside file fields held whole k lt =
     let inside = (map_is_ordinary file fields k (record { whole = whole; blocks = held }) below).1 in
     let m : (map_number file fields k + 1) * fields.block_size ≤ fields.num_blocks * fields.block_size = mul-le _ _ _ _ (omega (arith, inside)) (omega arith) in
     rw at (omega (arith, m, whole))
-
--- what holds of a number holds where there is one
-pub number_more : (P Q : ℕ → Type 0) (result : Option ℕ) → ((n : ℕ) → P n → Q n) → IfSome result P → IfSome result Q
-number_more P Q None each is = tt
-number_more P Q (Some n) each is = each n is
 
 -- a directory that is too short for the number of its streams
 pub short_count : (b : ℕ) (contents : List ℕ) → length contents < 4 → first_failing (length_checks b contents) ≡ Some (DirectoryShort 4 (length contents))

@@ -1,17 +1,20 @@
 -- The numbers of the stream directory, and their offsets in the file.
 use Rattle.std.proofs.Common.{map, add-one, [], ◌∷◌, ◌++◌, ◌≡◌, ℕ, zero, suc, ◌+◌, ◌-◌, ◌*◌, ◌/◌, ◌%◌, ◌<◌, ◌≤◌, true, List, length, get_or, refl, ap, ◌∙◌, arith}
 use Rattle.std.specs.List.{range_with_len}
-use Rattle.std.proofs.lemmas.List.{get_or-drop}
 use Rattle.std.proofs.lemmas.List.FromFn.{map-range_with_len_more, get_or-map-range_with_len, length-map-range_with_len}
-use Rattle.std.proofs.lemmas.Nat.{mul-le, div-add-mod', mod_below, div-mul-add, mod-mul-add}
+use Rattle.std.proofs.lemmas.Nat.{div-add-mod', mod_below, div-mul-add, mod-mul-add}
 use Rattle.std.proofs.lemmas.Bool.Decides.{nat_tests}
-use Rattle.byte_fields.specs.Number.{number_at, nth_u32}
+use Rattle.byte_fields.specs.Number.{nth_u32}
 use Rattle.byte_fields.proofs.CheckLaws.{checks_below-each, check_held}
 use Rattle.msf_blocks.specs.BlockNumber.{IsBlockSize, IsOrdinary, is_ordinary, blocks_for}
 use Rattle.msf_blocks.specs.Superblock.{Fields}
 use Rattle.msf_blocks.specs.Directory.{map_number, directory_contents, directory_blocks, directory_block_check, directory_block_checks, IsReadable, list_start, stream_blocks}
 use Rattle.msf_blocks.specs.declared.fault.MsfFault.TheVariants.{DirectoryBlock}
 use Rattle.msf_blocks.proofs.SizeLaws.{size_facts, some_bytes, place_below}
+
+-- the numbers of the blocks of the directory
+abbrev pub map_numbers : List ℕ → Fields → List ℕ
+map_numbers file fields = map (map_number file fields) (range_with_len 0 (directory_blocks fields))
 
 -- ---- where a number is
 
@@ -58,22 +61,6 @@ byte_at file fields j i size lt room =
     get_or-map-range_with_len _ 0 fields.directory_bytes (4 * j + i) (4 * j + i) 0 (omega arith) (omega arith)
     ∙ rw (p.0, p.1) (ap (λ (n : ℕ). get_or file n 0) (omega arith))
 
--- a number of the directory is the number in the file at its offset
-pub nth_u32_is : (file : List ℕ) (fields : Fields) (j : ℕ) → IsBlockSize fields.block_size → 4 * j + 4 ≤ length (directory_contents file fields)
-    → nth_u32 (directory_contents file fields) j ≡ number_at 4 file (word_offset file fields j)
-unfolding nth_u32 number_at
-nth_u32_is file fields j size room =
-    let fits : 4 * j + 4 ≤ fields.directory_bytes = omega (arith, contents_length file fields) in
-    let b0 = byte_at file fields j 0 size (omega arith) fits in
-    let b1 = byte_at file fields j 1 size (omega arith) fits in
-    let b2 = byte_at file fields j 2 size (omega arith) fits in
-    let b3 = byte_at file fields j 3 size (omega arith) fits in
-    simp get_or-drop (rw (b0, b1, b2, b3) refl)
-
--- the block map has the number of the block of each number of the directory
-pub nth_u32_block : (file : List ℕ) (fields : Fields) (j : ℕ) → IsBlockSize fields.block_size → 4 * j + 4 ≤ length (directory_contents file fields) → 4 * j / fields.block_size < directory_blocks fields
-nth_u32_block file fields j size room = (lies_in_block fields.block_size fields.directory_bytes j size (omega (arith, contents_length file fields))).below
-
 -- the blocks that the block map lists are ordinary
 pub map_is_ordinary : (file : List ℕ) (fields : Fields) (k : ℕ) → IsReadable file fields → k < directory_blocks fields → IsOrdinary fields.num_blocks (map_number file fields k)
 unfolding directory_block_checks
@@ -81,15 +68,6 @@ map_is_ordinary file fields k readable lt =
     let block = map_number file fields k in
     let e : is_ordinary fields.num_blocks block ≡ true = check_held (is_ordinary fields.num_blocks block) (DirectoryBlock k block) (checks_below-each (directory_block_check file fields) (directory_blocks fields) k readable.blocks lt) in
     (grind (arith, nat_tests), grind (arith, nat_tests))
-
--- the four bytes of the number are in the file
-pub nth_u32_fits : (file : List ℕ) (fields : Fields) (j : ℕ) → IsBlockSize fields.block_size → IsReadable file fields → 4 * j + 4 ≤ length (directory_contents file fields)
-    → word_offset file fields j + 4 ≤ length file
-nth_u32_fits file fields j size readable room =
-    let b = lies_in_block fields.block_size fields.directory_bytes j size (omega (arith, contents_length file fields)) in
-    let o = map_is_ordinary file fields (4 * j / fields.block_size) readable b.below in
-    let m : (map_number file fields (4 * j / fields.block_size) + 1) * fields.block_size ≤ fields.num_blocks * fields.block_size = mul-le _ _ _ _ (omega (arith, o.1)) (omega arith) in
-    omega (arith, b.inside, m, readable.whole)
 
 -- ---- where the lists of the streams are
 

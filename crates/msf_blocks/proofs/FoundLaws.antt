@@ -165,7 +165,7 @@ length_holds fields contents streams h =
     rw (a, b, c) refl
 
 -- the checks of the directory's blocks hold
-blocks_hold : (file : List ℕ) (fields : Fields) (contents : List ℕ) → IsDirectory file fields contents → first_failing (directory_block_checks file fields) ≡ None
+pub blocks_hold : (file : List ℕ) (fields : Fields) (contents : List ℕ) → IsDirectory file fields contents → first_failing (directory_block_checks file fields) ≡ None
 unfolding directory_block_checks
 blocks_hold file fields contents h =
     checks_below-all (directory_block_check file fields) (directory_blocks fields) (λ k below.

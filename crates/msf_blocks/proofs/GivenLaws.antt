@@ -103,7 +103,7 @@ map_given_refuses bytes fields numbers fault given long first = record {
 -- ---- contents
 
 -- reads gave each byte of the contents, in a block that they gave in the block map
-byte_given : (bytes : Bytes) (fields : Fields) (contents : List ℕ) (i : ℕ) → IsBlockSize fields.block_size → HasContents bytes fields contents → i < length contents → IsDirectoryByte bytes fields i (get_or contents i 0)
+pub byte_given : (bytes : Bytes) (fields : Fields) (contents : List ℕ) (i : ℕ) → IsBlockSize fields.block_size → HasContents bytes fields contents → i < length contents → IsDirectoryByte bytes fields i (get_or contents i 0)
 byte_given bytes fields contents i size has lt =
     let b = fields.block_size in
     let below : i / b < length has.numbers = omega (arith, place_below b fields.directory_bytes i (some_bytes b size) (omega (arith, lt, has.count)), has.block_map.count) in

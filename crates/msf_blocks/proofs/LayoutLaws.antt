@@ -4,7 +4,7 @@ use Rattle.std.specs.List.{range_with_len}
 use Rattle.std.proofs.lemmas.List.{map-append}
 use Rattle.byte_fields.specs.Number.{nth_u32}
 use Rattle.byte_fields.specs.Check.{first_failing, checks_below, Refuses}
-use Rattle.byte_fields.proofs.CheckLaws.{first_failing-append_none, first_failing-append_some, first_failing-parts}
+use Rattle.byte_fields.proofs.CheckLaws.{first_failing-append_none, first_failing-append_some}
 use Rattle.msf_blocks.specs.Superblock.{Fields, fields_of, superblock_checks}
 use Rattle.msf_blocks.specs.Directory.{directory_checks, directory_contents, directory_block_checks, length_checks, stream_checks, stream_blocks, list_start, listed_at, listed_below}
 use Rattle.msf_blocks.specs.Layout.{layout_checks}
@@ -13,6 +13,12 @@ use Rattle.msf_blocks.specs.declared.layout.Stream.{Stream}
 use Rattle.msf_blocks.specs.declared.fault.MsfFault.{MsfFault}
 use Rattle.msf_blocks.specs.declared.fault.MsfFault.TheVariants.{Memory}
 use Rattle.msf_blocks.proofs.DirectoryLaws.{map_range_more}
+
+-- this is the first fault of the directory of a file that begins with this superblock: a fault of a number of the block map, else of what the directory lists, else out of memory
+abbrev pub IsDirectoryFault : List ℕ → Fields → MsfFault → Type 0
+IsDirectoryFault file fields fault =
+    (first_failing (directory_block_checks file fields) ≡ Some fault)
+    ⊎ ((first_failing (directory_block_checks file fields) ≡ None) × Refuses Memory (first_failing (directory_checks fields (directory_contents file fields))) fault)
 
 -- ---- the first fault
 
@@ -36,13 +42,6 @@ after_blocks : (file : List ℕ) (fields : Fields) → fields ≡ fields_of file
     → first_failing (layout_checks file) ≡ first_failing (length_checks fields.block_size (directory_contents file fields) ++ checks_below (nth_u32 (directory_contents file fields) 0) (stream_checks fields (directory_contents file fields)))
 after_blocks file fields is a b =
     ap first_failing (checks_are file fields is) ∙ first_failing-append_none (superblock_checks file) _ a ∙ first_failing-append_none (directory_block_checks file fields) _ b
-
--- after these, a fault of the length of the directory is the fault of the layout
-pub length_fault : (file : List ℕ) (fields : Fields) (contents : List ℕ) (fault : MsfFault) → fields ≡ fields_of file → contents ≡ directory_contents file fields → first_failing (superblock_checks file) ≡ None → first_failing (directory_block_checks file fields) ≡ None
-    → first_failing (length_checks fields.block_size contents) ≡ Some fault → first_failing (layout_checks file) ≡ Some fault
-length_fault file fields contents fault is contents_is a b e =
-    let here : first_failing (length_checks fields.block_size (directory_contents file fields)) ≡ Some fault = rw (← contents_is) e in
-    after_blocks file fields is a b ∙ first_failing-append_some (length_checks fields.block_size (directory_contents file fields)) _ fault here
 
 -- after these, the first fault of the layout is the first fault of its streams
 pub stream_answer : (file : List ℕ) (fields : Fields) (contents : List ℕ) (n : ℕ) → fields ≡ fields_of file → contents ≡ directory_contents file fields → first_failing (superblock_checks file) ≡ None → first_failing (directory_block_checks file fields) ≡ None
@@ -79,13 +78,3 @@ pub listed_more : {A : Type 0} (b : ℕ) (contents : List ℕ) (t : ℕ) (xs : L
     → map listed_of (xs ++ s ∷ []) ≡ listed_below b contents (t + 1)
 listed_more b contents t xs s before here =
     map-append listed_of xs (s ∷ []) ∙ rw (before, here) (sym (map_range_more (listed_at b contents) t))
-
--- if all checks hold, then the checks of the blocks of the directory hold, and so do those of the streams
-pub layout_parts : (file : List ℕ) (fields : Fields) → fields ≡ fields_of file → first_failing (layout_checks file) ≡ None
-    → (first_failing (directory_block_checks file fields) ≡ None) × (first_failing (checks_below (nth_u32 (directory_contents file fields) 0) (stream_checks fields (directory_contents file fields))) ≡ None)
-layout_parts file fields is held =
-    let all = rw (checks_are file fields is) at held in
-    let a = first_failing-parts (superblock_checks file) _ all in
-    let b = first_failing-parts (directory_block_checks file fields) _ a.1 in
-    let c = first_failing-parts (length_checks fields.block_size (directory_contents file fields)) _ b.1 in
-    (b.0, c.1)

@@ -11,6 +11,8 @@ pub mod ListsLaws
 pub mod FoundLaws
 pub mod ReadNumberLaws
 pub mod WindowLaws
+pub mod KnownLaws
+pub mod KnownLayoutLaws
 pub mod RefusedLaws
 pub mod AtLayoutLaws
 pub mod BlockLaws

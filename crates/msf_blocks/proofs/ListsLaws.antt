@@ -1,10 +1,9 @@
 -- The streams that are read from a directory are the streams that it lists.
-use Rattle.std.proofs.Common.{◌≡◌, ℕ, zero, suc, ◌+◌, ◌*◌, ◌/◌, ◌%◌, ◌<◌, ◌≤◌, true, List, [], ◌∷◌, ◌++◌, None, length, map, take, drop, get_or, refl, sym, ap, ◌∙◌, subst, arith, inl, inr}
+use Rattle.std.proofs.Common.{◌≡◌, ℕ, zero, suc, ◌+◌, ◌*◌, ◌<◌, ◌≤◌, true, List, [], ◌∷◌, ◌++◌, None, length, map, take, drop, get_or, refl, sym, ap, ◌∙◌, subst, arith}
 use Rattle.std.specs.List.{range_with_len, flat_map}
-use Rattle.std.proofs.lemmas.Bool.{cases_lt}
 use Rattle.std.proofs.lemmas.Bool.Decides.{nat_tests}
 use Rattle.std.proofs.lemmas.Grind.{flat_map-append}
-use Rattle.std.proofs.lemmas.List.{append-nil, take-append-drop, get_or_past}
+use Rattle.std.proofs.lemmas.List.{append-nil, take-append-drop}
 use Rattle.std.proofs.lemmas.List.FromFn.{get_or-map-range_with_len, length-map-range_with_len}
 use Rattle.std.proofs.lemmas.List.Elements.{All-from_get_or}
 use Rattle.byte_fields.specs.Bytes.{AreBytes}
@@ -13,12 +12,11 @@ use Rattle.byte_fields.specs.Check.{first_failing, checks_below}
 use Rattle.byte_fields.proofs.NumberLaws.{u32s-nth_u32, number_at-small}
 use Rattle.byte_fields.proofs.CheckLaws.{checks_below-each, check_held}
 use Rattle.msf_blocks.specs.BlockNumber.{IsBlockSize, IsOrdinary, is_ordinary}
-use Rattle.msf_blocks.specs.Superblock.{Fields, IsSuperblock, fields_of}
-use Rattle.msf_blocks.specs.Directory.{Listed, IsListed, ListsStreams, directory_contents, map_number, stream_checks, stream_block_check, stream_blocks, list_start, listed_at, listed_below}
-use Rattle.msf_blocks.specs.Layout.{HasLayout, IsLayout, layout_checks}
+use Rattle.msf_blocks.specs.Superblock.{Fields}
+use Rattle.msf_blocks.specs.Directory.{Listed, IsListed, ListsStreams, stream_checks, stream_block_check, stream_blocks, list_start, listed_at, listed_below}
+use Rattle.msf_blocks.specs.Layout.{IsLayout}
 use Rattle.msf_blocks.specs.declared.fault.MsfFault.TheVariants.{StreamBlock}
-use Rattle.msf_blocks.proofs.DirectoryLaws.{map_range_more, map_is_ordinary, list_start_zero, list_start_more}
-use Rattle.msf_blocks.proofs.LayoutLaws.{layout_parts}
+use Rattle.msf_blocks.proofs.DirectoryLaws.{map_range_more, list_start_zero, list_start_more}
 
 -- ---- what is read is what the directory lists
 
@@ -107,43 +105,6 @@ lists_what_is_read fields contents bytes long held =
           let at : get_or (listed_below b contents n) t (listed_at b contents 0) ≡ listed_at b contents t = get_or-map-range_with_len (listed_at b contents) 0 n t t (listed_at b contents 0) below (omega arith) in
           rw at (listed_holds fields contents t bytes (checks_below-each (stream_checks fields contents) n t held below)));
     }
-
--- the bytes of the directory are bytes of the file
-pub contents_bytes : (file : List ℕ) (fields : Fields) → AreBytes file → AreBytes (directory_contents file fields)
-unfolding directory_contents
-contents_bytes file fields each i =
-    let byte = λ (i : ℕ). get_or file (map_number file fields (i / fields.block_size) * fields.block_size + i % fields.block_size) 0 in
-    elim (cases_lt i fields.directory_bytes) [
-      | inl lt ↦ rw (get_or-map-range_with_len byte 0 fields.directory_bytes i i 0 lt (omega arith)) (each (map_number file fields (i / fields.block_size) * fields.block_size + i % fields.block_size))
-      | inr le ↦ rw (get_or_past (map byte (range_with_len 0 fields.directory_bytes)) i 0 (omega (arith, length-map-range_with_len byte 0 fields.directory_bytes))) (omega arith)
-    ]
-
--- what is read from a file whose checks hold is its layout
-pub layout_is : (file : List ℕ) (fields : Fields) (contents : List ℕ) (n : ℕ) (streams : List Listed) → AreBytes file → IsSuperblock file fields → fields ≡ fields_of file → contents ≡ directory_contents file fields
-    → n ≡ nth_u32 contents 0 → 4 * list_start fields.block_size contents n ≤ length contents → first_failing (layout_checks file) ≡ None → streams ≡ listed_below fields.block_size contents n
-    → HasLayout file (record { superblock = fields; streams = streams })
-layout_is file fields contents n streams bytes super is contents_is count room held read =
-    let parts = layout_parts file fields is held in
-    let small : AreBytes contents = rw contents_is (contents_bytes file fields bytes) in
-    let streams_hold : first_failing (checks_below (nth_u32 contents 0) (stream_checks fields contents)) ≡ None = rw contents_is parts.1 in
-    record {
-      superblock = super;
-      contents = contents;
-      directory = record {
-        ordinary = λ k lt. map_is_ordinary file fields k (record { whole = super.whole; blocks = parts.0 }) lt;
-        contents_is = contents_is;
-      };
-      lists = rw (read, count) (lists_what_is_read fields contents small (rw (← count) room) streams_hold);
-    }
-
--- what holds of every layout holds of the layout of a file
-pub layout_fits : (file : List ℕ) (fields : Fields) (contents : List ℕ) (n : ℕ) (streams : List Listed) → AreBytes file → HasLayout file (record { superblock = fields; streams = streams })
-    → contents ≡ directory_contents file fields → n ≡ nth_u32 contents 0 → streams ≡ listed_below fields.block_size contents n → IsLayout (record { superblock = fields; streams = streams })
-unfolding nth_u32
-layout_fits file fields contents n streams bytes h contents_is count read =
-    let small : AreBytes contents = rw contents_is (contents_bytes file fields bytes) in
-    let long : length streams ≡ n = rw read (length-map-range_with_len (listed_at fields.block_size contents) 0 n) in
-    record { size = h.superblock.fit.block_size_fits; few = omega (arith, long, count, number_at-small contents 0 small); each = h.lists.each }
 
 -- ---- contents that were read by position
 

@@ -39,10 +39,6 @@ pub record HasMapBelow (bytes : Bytes) (fields : Fields) (count : ℕ) : Type 0 
   pub given : AreMapNumbers bytes fields numbers
   pub ordinary : All (IsOrdinary fields.num_blocks) numbers
 
--- no number was read
-pub no_map : (bytes : Bytes) (fields : Fields) → HasMapBelow bytes fields 0
-no_map bytes fields = record { numbers = []; many = refl; given = λ k lt. absurd (omega (arith, lt)); ordinary = All-nil (IsOrdinary fields.num_blocks) }
-
 -- one more number was read
 pushed_given : (bytes : Bytes) (fields : Fields) (numbers : List ℕ) (n : ℕ) → AreMapNumbers bytes fields numbers → IsNumberGiven bytes (map_start fields + 4 * length numbers) n → AreMapNumbers bytes fields (numbers ++ n ∷ [])
 pushed_given bytes fields numbers n given here = λ k lt. elim (cases_lt k (length numbers)) [

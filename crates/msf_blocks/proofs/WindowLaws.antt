@@ -1,18 +1,17 @@
 -- The numbers that a window shows are those of the directory.
-use Rattle.std.proofs.Common.{◌≡◌, ℕ, ◌+◌, ◌-◌, ◌*◌, ◌/◌, ◌%◌, ◌<◌, ◌≤◌, ◌^◌, List, ◌++◌, length, take, drop, get_or, min, ap, ◌∙◌, sym, arith}
+use Rattle.std.proofs.Common.{◌≡◌, ℕ, ◌+◌, ◌-◌, ◌*◌, ◌/◌, ◌%◌, ◌<◌, ◌≤◌, ◌^◌, List, ◌++◌, length, take, drop, get_or, min, ap, ◌∙◌, arith}
 use Rattle.std.proofs.lemmas.List.{get_or-take, get_or-drop}
 use Rattle.std.proofs.Math.Seq.{take-append_seam}
 use Rattle.std.proofs.lemmas.Nat.{mod_below, mul-le, div-add-mod', div-mul-add, mod-mul-add}
-use Rattle.byte_fields.specs.Number.{number_at, four_bytes, nth_u32}
+use Rattle.byte_fields.specs.Number.{four_bytes}
 use Rattle.byte_fields.proofs.NumberLaws.{length-four_bytes}
-use Rattle.byte_io.specs.At.{Bytes, AreGiven, IfKnown}
+use Rattle.byte_io.specs.At.{Bytes, AreGiven}
 use Rattle.msf_blocks.specs.BlockNumber.{IsBlockSize}
-use Rattle.msf_blocks.specs.Directory.{IsDirectoryNumber, IsNumberGiven, IsReadable, directory_contents, map_number, map_start}
+use Rattle.msf_blocks.specs.Directory.{IsDirectoryNumber, IsNumberGiven, IsReadable, map_number, map_start}
 use Rattle.msf_blocks.specs.Superblock.{Fields}
 use Rattle.msf_blocks.specs.Window.{IsPart, IsWindow, Shows, shown}
 use Rattle.msf_blocks.specs.declared.window.Window.{Window}
-use Rattle.msf_blocks.proofs.AtLaws.{number_read}
-use Rattle.msf_blocks.proofs.DirectoryLaws.{contents_length, lies_in_block, map_is_ordinary, nth_u32_is, word_offset}
+use Rattle.msf_blocks.proofs.DirectoryLaws.{lies_in_block, map_is_ordinary}
 use Rattle.msf_blocks.proofs.ReadNumberLaws.{number_in_block}
 use Rattle.msf_blocks.proofs.SizeLaws.{some_bytes, place_below}
 
@@ -50,21 +49,6 @@ part_number bytes fields first position n part is lies room short spelled =
     let byte : get_or (four_bytes n) i 0 ≡ get_or part (d + i) 0 = ap (λ (xs : List ℕ). get_or xs i 0) spelled ∙ get_or-take 4 (drop d part) i 0 four ∙ get_or-drop d part i 0 in
     rw (here, byte) (is.given (d + i) (omega (arith, four, lies.upto, at))) in
     number_in_block bytes fields position is.block n is.size room short listed given
-
--- if the file is known, this is the number of its directory
-pub part_number_known : (bytes : Bytes) (fields : Fields) (first position : ℕ) (part : List ℕ) → IsPart bytes fields (4 * first) part → LiesIn first position part
-    → 4 * position + 4 ≤ fields.directory_bytes → IfKnown bytes (λ file. nth_u32 part (position - first) ≡ nth_u32 (directory_contents file fields) position)
-unfolding nth_u32
-part_number_known bytes fields first position part is lies room = λ file known.
-    let b = fields.block_size in
-    let s = 4 * first in
-    let d = 4 * (position - first) in
-    let at : 4 * position ≡ s + d = omega (arith, lies.from) in
-    let same = in_same_block b s d (omega (arith, is.inside, lies.upto, at)) in
-    let start = map_number file fields (s / b) * b + s % b in
-    let here : start + d ≡ word_offset file fields position = rw (at, same.block, same.within) (omega arith) in
-    number_read file part start d (is.known file known) (omega (arith, lies.upto, at)) ∙ ap (λ (o : ℕ). number_at 4 file o) here
-    ∙ sym (nth_u32_is file fields position is.size (omega (arith, room, contents_length file fields)))
 
 -- a part of a block of the directory is in the file
 pub part_fits : (file : List ℕ) (fields : Fields) (start count : ℕ) → IsBlockSize fields.block_size → IsReadable file fields → start < fields.directory_bytes → start % fields.block_size + count ≤ fields.block_size

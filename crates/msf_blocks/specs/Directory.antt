@@ -9,8 +9,6 @@ use Rattle.msf_blocks.specs.Blocks.{AreGivenIn}
 use Rattle.msf_blocks.specs.Superblock.{HoldsBlocks, Fields}
 use Rattle.msf_blocks.specs.declared.fault.MsfFault.{MsfFault}
 use Rattle.msf_blocks.specs.declared.fault.MsfFault.TheVariants.{DirectoryBlock, DirectoryShort, StreamBlock, Memory}
-use Rattle.msf_blocks.specs.declared.directory.Place.{Place}
-use Rattle.msf_blocks.specs.declared.directory.Place.TheVariants.{Blocks, Gathered}
 
 -- how many blocks the directory has
 abbrev pub directory_blocks : Fields → ℕ
@@ -100,25 +98,6 @@ pub record DirectoryView : Type 0 where
 pub record IsReadable (file : List ℕ) (fields : Fields) : Type 0 where
   pub whole : HoldsBlocks file fields
   pub blocks : first_failing (directory_block_checks file fields) ≡ None
-
--- the superblock of a file whose directory is in its blocks or in a buffer
-abbrev pub superblock_in : Place → Fields
-superblock_in (Blocks file) = file.superblock
-superblock_in (Gathered fields contents) = fields
-
--- the contents of a directory, which are in the blocks of a file or in a buffer
-abbrev pub contents_in : Place → List ℕ
-contents_in (Blocks file) = directory_contents file.bytes file.superblock
-contents_in (Gathered fields contents) = contents.now
-
--- the directory is there as a whole
-abbrev pub IsThere : Place → Type 0
-IsThere (Blocks file) = first_failing (directory_block_checks file.bytes file.superblock) ≡ None
-IsThere (Gathered fields contents) = length contents.now ≡ fields.directory_bytes
-
--- the numbers of the blocks of the directory
-abbrev pub map_numbers : List ℕ → Fields → List ℕ
-map_numbers file fields = map (map_number file fields) (range_with_len 0 (directory_blocks fields))
 
 -- the checks of a directory whose blocks are ordinary: those of its length, and those of the lists of its streams
 abbrev pub directory_checks : Fields → List ℕ → List (Check MsfFault)
@@ -247,12 +226,6 @@ pub record ContentsRefuse (bytes : Bytes) (fields : Fields) (fault : MsfFault) :
 -- reads gave a directory with this fault: the block map has it, or reads gave a block map without a fault and contents that have it
 abbrev pub DirectoryRefuses : Bytes → Fields → MsfFault → Type 0
 DirectoryRefuses bytes fields fault = BlockMapRefuses bytes fields fault ⊎ (HasBlockMap bytes fields × ContentsRefuse bytes fields fault)
-
--- this is the first fault of the directory of a file that begins with this superblock: a fault of a number of the block map, else of what the directory lists, else out of memory
-abbrev pub IsDirectoryFault : List ℕ → Fields → MsfFault → Type 0
-IsDirectoryFault file fields fault =
-    (first_failing (directory_block_checks file fields) ≡ Some fault)
-    ⊎ ((first_failing (directory_block_checks file fields) ≡ None) × Refuses Memory (first_failing (directory_checks fields (directory_contents file fields))) fault)
 
 -- stream t, read at the positions of its numbers
 unfoldable pub listed_at : ℕ → List ℕ → ℕ → Listed

@@ -33,11 +33,6 @@ pub record IsFit (fields : Fields) : Type 0 where
 abbrev pub HoldsBlocks : List ℕ → Fields → Type 0
 HoldsBlocks file fields = fields.num_blocks * fields.block_size ≤ length file
 
--- contracts see a file with its superblock as its bytes and the fields of the superblock
-pub record BlockFileView : Type 0 where
-  pub bytes : List ℕ
-  pub superblock : Fields
-
 -- the file begins with a superblock with these fields, and has the blocks that it announces
 pub record IsSuperblock (file : List ℕ) (fields : Fields) : Type 0 where
   pub long : 56 ≤ length file
@@ -97,9 +92,14 @@ pub record IsFront (front : List ℕ) (told : ℕ) (fields : Fields) : Type 0 wh
 abbrev pub HasFront : Bytes → Fields → Type 0
 HasFront bytes fields = (front : List ℕ) × AreGiven bytes 0 front × IsFront front bytes.told fields
 
--- reads gave a front whose first check that fails has this fault
-abbrev pub HasBadFront : Bytes → MsfFault → Type 0
-HasBadFront bytes fault = (front : List ℕ) × AreGiven bytes 0 front × (length front ≡ 56) × (first_failing (front_checks front bytes.told) ≡ Some fault)
+-- the file is said to be long enough, and reads gave a front whose first check that fails has this
+-- fault
+pub record HasBadFront (bytes : Bytes) (fault : MsfFault) : Type 0 where
+  pub long : 56 ≤ bytes.told
+  pub front : List ℕ
+  pub given : AreGiven bytes 0 front
+  pub count : length front ≡ 56
+  pub refused : first_failing (front_checks front bytes.told) ≡ Some fault
 
 -- the front has this fault: the file is said to have too few bytes for a front, or reads gave a front with this fault
 abbrev pub FrontRefuses : Bytes → MsfFault → Type 0

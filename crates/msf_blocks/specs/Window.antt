@@ -1,7 +1,7 @@
 -- Windows on a directory that is read by position.
 use Rattle.std.specs.Prelude.{ℕ, ◌+◌, ◌*◌, ◌/◌, ◌%◌, ◌<◌, ◌≤◌, List, length, take}
-use Rattle.byte_io.specs.At.{Bytes, AreGiven, IfKnown, StandsAt}
-use Rattle.msf_blocks.specs.Directory.{IsNumberGiven, map_number, map_start}
+use Rattle.byte_io.specs.At.{Bytes, AreGiven}
+use Rattle.msf_blocks.specs.Directory.{IsNumberGiven, map_start}
 use Rattle.msf_blocks.specs.Superblock.{Fields}
 use Rattle.msf_blocks.specs.BlockNumber.{IsBlockSize}
 use Rattle.msf_blocks.specs.declared.window.Window.{Window}
@@ -14,10 +14,6 @@ pub record IsPart (bytes : Bytes) (fields : Fields) (start : ℕ) (part : List �
   pub block : ℕ
   pub listed : IsNumberGiven bytes (map_start fields + 4 * (start / fields.block_size)) block
   pub given : AreGiven bytes (block * fields.block_size + start % fields.block_size) part
-  -- where the file is known, this block is the one that it lists
-  pub known : IfKnown bytes (λ file.
-      let first = map_number file fields (start / fields.block_size) * fields.block_size in
-      StandsAt file (first + start % fields.block_size) part)
 
 -- the bytes of a window that were read
 abbrev pub shown : Window → List ℕ

@@ -1,14 +1,13 @@
 //! The stream directory and the block map: reads both, and writes those of an image.
 
-ghost use Rattle.std.specs.Prelude.{None, IfOk, OnOk, map, ◌^◌, ◌≡◌, ◌+◌, ◌*◌, ◌<◌, ◌≤◌, ◌∷◌, ◌++◌, length};
+ghost use Rattle.std.specs.Prelude.{IfOk, OnOk, map, ◌^◌, ◌≡◌, ◌+◌, ◌*◌, ◌<◌, ◌≤◌, ◌∷◌, ◌++◌, length};
 ghost use Rattle.std.specs.List.{range_with_len};
 ghost use Rattle.byte_fields.specs.Number.{nth_u32, u32s};
 ghost use Rattle.byte_fields.specs.Bytes.{AreBytes};
-ghost use Rattle.byte_fields.specs.Check.{Makes, checks_below, first_failing};
+ghost use Rattle.byte_fields.specs.Check.{Makes, checks_below};
 ghost use Rattle.msf_blocks.specs.BlockNumber.{IsBlockSize, block_numbers};
-ghost use Rattle.msf_blocks.specs.Directory.{map_number, directory_blocks, directory_block_checks, directory_contents, bytes_of, stream_blocks, list_start, length_checks, stream_checks};
+ghost use Rattle.msf_blocks.specs.Directory.{directory_blocks, bytes_of, stream_blocks, list_start, length_checks, stream_checks};
 
-use crate::block_file::BlockFile;
 use crate::block_number::{blocks_for, is_ordinary};
 use crate::block_size::BlockSize;
 use crate::fault::MsfFault;
@@ -27,93 +26,26 @@ pub fn bytes_of(size: u32) -> u32
     if size == NIL { 0 } else { size }
 }
 
-/// Where the bytes of a directory are.
-#[derive(Drop)]
-pub enum Place<'a> {
-    /// In the blocks of this file that the block map lists.
-    Blocks(BlockFile<'a>),
-    /// In this buffer, one after the other. The file begins with this superblock.
-    Gathered(Superblock, &'a [u8]),
-}
-
-/// A stream directory. Contracts see it as the values of the superblock and the contents of the
-/// directory. Where the file is in memory, the code never copies these contents into one buffer.
+/// The contents of a stream directory, one number after the other, and the superblock that its file
+/// begins with.
 #[derive(Drop)]
 pub struct Directory<'a> {
-    place: Place<'a>,
+    superblock: Superblock,
+    contents: &'a [u8],
 }
 
 impl<'a> Model for Directory<'a> {
-    ghost use Rattle.msf_blocks.specs.Directory.{DirectoryView, IsThere, contents_in, superblock_in};
+    ghost use Rattle.std.specs.Prelude.{◌≡◌, length};
+    ghost use Rattle.msf_blocks.specs.Directory.{DirectoryView};
 
     ghost Value = { DirectoryView };
 
-    ghost view = { λ d.
-        record { superblock = superblock_in d.place; contents = contents_in d.place } };
+    ghost view = { λ d. record { superblock = d.superblock; contents = d.contents.now } };
 
-    ghost invariant = { λ d. IsThere d.place };
-}
-
-/// The number at a position of the block map.
-#[tactic(auto, unfolding(crate::specs::Directory::map_number))]
-fn map_number(file: &BlockFile<'_>, position: u32) -> u32
-    requires { position < directory_blocks file.now.superblock }
-    ensures { result ≡ map_number file.now.bytes file.now.superblock position }
-{
-    let superblock = file.superblock();
-    let start = superblock.block_map_addr() as usize * superblock.block_size() as usize;
-    u32_at(file.bytes(), start + 4 * position as usize)
-}
-
-/// Checks the numbers in the block map.
-#[tactic(auto, unfolding(crate::specs::Directory::directory_block_checks))]
-fn check_block_map(file: &BlockFile<'_>) -> Result<(), MsfFault>
-    ensures { Makes result (directory_block_checks file.now.bytes file.now.superblock) }
-{
-    let superblock = file.superblock();
-    for at in 0..blocks_for(superblock.block_size(), superblock.directory_bytes()) {
-        let n = map_number(file, at);
-        if !is_ordinary(superblock.num_blocks(), n) {
-            return Err(MsfFault::DirectoryBlock { at, n });
-        }
-    }
-    Ok(())
-}
-
-/// The number at a position of a directory in the blocks of a file.
-#[tactic(auto, using(crate::proofs::DirectoryLaws::contents_length, crate::proofs::DirectoryLaws::nth_u32_is, crate::proofs::DirectoryLaws::nth_u32_block, crate::proofs::DirectoryLaws::nth_u32_fits, crate::proofs::SizeLaws::size_facts))]
-fn number_in_blocks(file: &BlockFile<'_>, position: u32) -> u32
-    requires blocks { first_failing (directory_block_checks file.now.bytes file.now.superblock)
-        ≡ None }
-    requires inside { 4 * position + 4
-        ≤ length (directory_contents file.now.bytes file.now.superblock) }
-    ensures { result ≡ nth_u32 (directory_contents file.now.bytes file.now.superblock) position }
-{
-    let block_size = file.superblock().block_size();
-    let offset = 4 * position;
-    let block = map_number(file, offset / block_size);
-    let start = block as usize * block_size as usize;
-    // The size of a block is a multiple of four, so no number crosses the end of a block.
-    u32_at(file.bytes(), start + (offset % block_size) as usize)
+    ghost invariant = { λ d. length d.contents.now ≡ d.superblock.directory_bytes };
 }
 
 impl<'a> Directory<'a> {
-    /// Finds the directory of a file, and checks the numbers of the directory's blocks.
-    #[tactic(auto, using(crate::proofs::DirectoryLaws::contents_length))]
-    pub fn find(file: BlockFile<'a>) -> Result<Directory<'a>, MsfFault>
-        ensures superblock { IfOk result (λ d. d.superblock ≡ file.entry.superblock) }
-        ensures contents { IfOk result (λ d.
-            d.contents ≡ directory_contents file.entry.bytes file.entry.superblock) }
-        ensures short { IfOk result (λ d. length d.contents < 2 ^ 32) }
-        ensures first { Makes result
-            (directory_block_checks file.entry.bytes file.entry.superblock) }
-    {
-        check_block_map(&file)?;
-        Ok(Directory {
-            place: Place::Blocks(file),
-        })
-    }
-
     /// The directory with these contents, of a file that begins with this superblock.
     pub fn gathered(superblock: Superblock, contents: &'a [u8]) -> Directory<'a>
         requires { length contents.now ≡ superblock.directory_bytes }
@@ -123,20 +55,17 @@ impl<'a> Directory<'a> {
         ensures small { AreBytes contents.now }
     {
         Directory {
-            place: Place::Gathered(superblock, contents),
+            superblock,
+            contents,
         }
     }
 
     /// The superblock of the file.
-    #[tactic(auto, using(crate::proofs::DirectoryLaws::contents_length))]
     pub fn superblock(&self) -> Superblock
         ensures value { result ≡ self.now.superblock }
         ensures len { length self.now.contents ≡ result.directory_bytes }
     {
-        match &self.place {
-            Place::Blocks(file) => *file.superblock(),
-            Place::Gathered(superblock, _) => *superblock,
-        }
+        self.superblock
     }
 
     /// The number at a position of the directory. The directory is a list of four-byte numbers.
@@ -145,10 +74,7 @@ impl<'a> Directory<'a> {
         requires { 4 * position + 4 ≤ length self.now.contents }
         ensures { result ≡ nth_u32 self.now.contents position }
     {
-        match &self.place {
-            Place::Blocks(file) => number_in_blocks(file, position),
-            Place::Gathered(_, contents) => u32_at(contents, 4 * position as usize),
-        }
+        u32_at(self.contents, 4 * position as usize)
     }
 
     /// The listed size of a stream in bytes: 0xFFFFFFFF for a nil stream.

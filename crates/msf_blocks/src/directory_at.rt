@@ -1,12 +1,12 @@
 //! A stream directory that is read by position.
 
-ghost use Rattle.std.specs.Prelude.{None, ◌≡◌, ◌⊎◌, ◌+◌, ◌*◌, ◌<◌, ◌≤◌, length, map, OnOk, IfOk, IfErr};
+ghost use Rattle.std.specs.Prelude.{◌≡◌, ◌⊎◌, ◌+◌, ◌*◌, ◌<◌, ◌≤◌, length, map, IfOk, IfErr};
 ghost use Rattle.std.specs.List.{range_with_len};
 ghost use Rattle.byte_fields.specs.Number.{nth_u32};
-ghost use Rattle.byte_fields.specs.Check.{Makes, first_failing};
+ghost use Rattle.byte_fields.specs.Check.{Makes};
 ghost use Rattle.byte_io.specs.At.{Breaks, IfKnown, IfOf};
-ghost use Rattle.msf_blocks.specs.Directory.{AreMapNumbers, HasContents, IsBlockMap, IsDirectoryFault, DirectoryRefuses, map_numbers, number_checks, directory_blocks, directory_block_checks, directory_contents};
-ghost use Rattle.msf_blocks.specs.Superblock.{HoldsBlocks};
+ghost use Rattle.msf_blocks.specs.Directory.{AreMapNumbers, HasContents, IsBlockMap, DirectoryRefuses, number_checks, directory_blocks};
+ghost use Rattle.msf_blocks.specs.Superblock.{HoldsBlocks, IsFit};
 
 use crate::block_number::{blocks_for, is_ordinary};
 use crate::blocks::read_blocks;
@@ -40,8 +40,6 @@ fn read_map<R: ReadAt, A: Allocator + Copy>(
     requires { IfKnown (R.bytes input.old) (λ file. HoldsBlocks file superblock.now) }
     ensures keeps { R.bytes input.new ≡ R.bytes input.old }
     ensures len { IfOk result (λ v. length v.items ≡ directory_blocks superblock.now) }
-    ensures value { IfOk result (λ v.
-        IfKnown (R.bytes input.old) (λ file. v.items ≡ map_numbers file superblock.now)) }
     ensures given { IfOk result (λ v. AreMapNumbers (R.bytes input.old) superblock.now v.items) }
     ensures first { IfErr result (λ fault.
         ((fault ≡ ReadFault.Read) × Breaks (R.bytes input.old) (R.is_broken input.new))
@@ -76,15 +74,10 @@ fn read_numbers<R: ReadAt, A: Allocator + Copy>(
     input: &mut R,
     superblock: &Superblock,
 ) -> Result<Vec<u32, A>, AtFault<MsfFault>>
-    requires { IfKnown (R.bytes input.old) (λ file. HoldsBlocks file superblock.now) }
+    requires fit { IsFit superblock.now }
+    requires whole { IfKnown (R.bytes input.old) (λ file. HoldsBlocks file superblock.now) }
     ensures keeps { R.bytes input.new ≡ R.bytes input.old }
-    ensures value { IfOk result (λ v.
-        IfKnown (R.bytes input.old) (λ file. v.items ≡ map_numbers file superblock.now)) }
     ensures map { IfOk result (λ v. IsBlockMap (R.bytes input.old) superblock.now v.items) }
-    ensures held { OnOk result (IfKnown (R.bytes input.old) (λ file.
-        first_failing (directory_block_checks file superblock.now) ≡ None)) }
-    ensures first { IfErr result (IfOf (λ fault.
-        IfKnown (R.bytes input.old) (λ file. IsDirectoryFault file superblock.now fault))) }
     ensures refused { IfErr result (IfOf (DirectoryRefuses (R.bytes input.old) superblock.now)) }
     ensures read { IfErr result (λ fault.
         fault ≡ AtFault.Read → Breaks (R.bytes input.old) (R.is_broken input.new)) }
@@ -110,16 +103,11 @@ pub fn read_contents<R: ReadAt, A: Allocator + Copy>(
     input: &mut R,
     superblock: &Superblock,
 ) -> Result<Vec<u8, A>, AtFault<MsfFault>>
-    requires { IfKnown (R.bytes input.old) (λ file. HoldsBlocks file superblock.now) }
+    requires fit { IsFit superblock.now }
+    requires whole { IfKnown (R.bytes input.old) (λ file. HoldsBlocks file superblock.now) }
     ensures keeps { R.bytes input.new ≡ R.bytes input.old }
-    ensures value { IfOk result (λ contents. IfKnown (R.bytes input.old) (λ file.
-        contents.items ≡ directory_contents file superblock.now)) }
     ensures texts { IfOk result (λ contents.
         HasContents (R.bytes input.old) superblock.now contents.items) }
-    ensures held { OnOk result (IfKnown (R.bytes input.old) (λ file.
-        first_failing (directory_block_checks file superblock.now) ≡ None)) }
-    ensures first { IfErr result (IfOf (λ fault.
-        IfKnown (R.bytes input.old) (λ file. IsDirectoryFault file superblock.now fault))) }
     ensures refused { IfErr result (IfOf (DirectoryRefuses (R.bytes input.old) superblock.now)) }
     ensures read { IfErr result (λ fault.
         fault ≡ AtFault.Read → Breaks (R.bytes input.old) (R.is_broken input.new)) }

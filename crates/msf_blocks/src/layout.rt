@@ -1,16 +1,15 @@
 //! Where the streams of a container are.
 
-ghost use Rattle.std.specs.Prelude.{None, ◌≡◌, ◌≤◌, ◌<◌, ◌*◌, ◌^◌, length, map, IfOk, IfErr, slice_get, option_map};
+ghost use Rattle.std.specs.Prelude.{◌≡◌, ◌≤◌, ◌<◌, ◌*◌, ◌^◌, length, map, IfOk, IfErr, slice_get, option_map};
 ghost use Rattle.byte_fields.specs.Bytes.{AreBytes};
 ghost use Rattle.byte_fields.specs.Number.{nth_u32};
-ghost use Rattle.byte_fields.specs.Check.{Makes, Refuses, first_failing};
+ghost use Rattle.byte_fields.specs.Check.{Refuses, first_failing};
 ghost use Rattle.byte_io.specs.At.{Breaks, IfKnown, IfOf, map_of};
-ghost use Rattle.msf_blocks.specs.Superblock.{HasFront, IsFit, IsSuperblock, fields_of, superblock_checks};
-ghost use Rattle.msf_blocks.specs.Directory.{directory_contents, list_start, listed_below, bytes_of};
+ghost use Rattle.msf_blocks.specs.Superblock.{HasFront, HoldsBlocks, IsFit};
+ghost use Rattle.msf_blocks.specs.Directory.{list_start, listed_below, bytes_of};
 ghost use Rattle.msf_blocks.specs.Layout.{LayoutView, HasLayout, HasTexts, HasWithinFault, TextsRefuse, TextsRefuseWithin, IsLayout, block_of, layout_checks};
 ghost use Rattle.msf_blocks.specs.Stream.{listed_of};
 
-use crate::block_file::BlockFile;
 use crate::directory::{Directory, bytes_of};
 use crate::directory_at::read_contents;
 use crate::fault::{MsfFault, WithinFault};
@@ -50,27 +49,6 @@ impl<A: Allocator> Model for Layout<A> {
 
     ghost invariant = { λ l.
         IsLayout (record { superblock = l.superblock; streams = map listed_of l.streams.items }) };
-}
-
-/// Checks the layout of a file, and returns the directory and how many streams it lists. This does
-/// not allocate.
-#[tactic(auto, using(crate::proofs::LayoutLaws::superblock_fault, crate::proofs::LayoutLaws::block_fault, crate::proofs::LayoutLaws::length_fault, crate::proofs::LayoutLaws::stream_answer))]
-fn check(file: &[u8]) -> Result<(Directory<'_>, u32), MsfFault>
-    ensures found { IfOk result (λ r. IsSuperblock file.now r.0.superblock) }
-    ensures fields { IfOk result (λ r. r.0.superblock ≡ fields_of file.now) }
-    ensures contents { IfOk result (λ r.
-        r.0.contents ≡ directory_contents file.now r.0.superblock) }
-    ensures short { IfOk result (λ r. length r.0.contents < 2 ^ 32) }
-    ensures streams { IfOk result (λ r. r.1 ≡ nth_u32 r.0.contents 0) }
-    ensures room { IfOk result (λ r.
-        4 * list_start r.0.superblock.block_size r.0.contents r.1 ≤ length r.0.contents) }
-    ensures first { Makes result (layout_checks file.now) }
-{
-    let superblock = Superblock::read(file)?;
-    let directory = Directory::find(BlockFile::new(file, superblock))?;
-    let streams = directory.check_length()?;
-    directory.check_streams(streams)?;
-    Ok((directory, streams))
 }
 
 /// The streams that the directory lists.
@@ -113,11 +91,12 @@ impl<A: Allocator + Copy> Layout<A> {
     ///    or for their lists of blocks.
     /// 4. `StreamBlock`: a number in the list of a stream is block 0, or past the last block. The
     ///    lists are checked in the order of the directory.
-    /// 5. `Memory`: out of memory for the lists. Nothing is allocated before all checks passed.
+    /// 5. `Memory`: out of memory, and no check fails. Where memory is refused for the directory, it
+    ///    is checked without.
     ///
-    /// Bytes of the directory after the last list are ignored. This allocates room for the streams
-    /// and the block numbers that the directory lists, and nothing else. ("The MSF File Format",
-    /// "The Stream Directory".)
+    /// Bytes of the directory after the last list are ignored. This allocates room for the
+    /// directory, for the streams and for the block numbers that it lists, as [`Layout::read_at`]
+    /// does. ("The MSF File Format", "The Stream Directory".)
     pub fn read(alloc: A, file: &[u8]) -> Result<Layout<A>, MsfFault>
         ensures value { IfOk result (HasLayout file.now) }
         ensures found { (layout : LayoutView) → HasLayout file.now layout →
@@ -125,13 +104,12 @@ impl<A: Allocator + Copy> Layout<A> {
         ensures first { IfErr result
             (Refuses MsfFault.Memory (first_failing (layout_checks file.now))) }
     {
-        let (directory, streams) = check(file)?;
-        let superblock = directory.superblock();
-        let streams = list_streams(alloc, &directory, streams)?;
-        Ok(Layout {
-            superblock,
-            streams,
-        })
+        let mut bytes = file;
+        match Layout::read_at(alloc, &mut bytes) {
+            Ok(layout) => Ok(layout),
+            Err(AtFault::Of(fault)) => Err(fault),
+            Err(AtFault::Read) => unreachable!(),
+        }
     }
 }
 
@@ -151,20 +129,12 @@ fn layout_behind<R: ReadAt, A: Allocator + Copy>(
     input: &mut R,
     superblock: Superblock,
 ) -> Result<Layout<A>, AtFault<MsfFault>>
-    requires small { IfKnown (R.bytes input.old) AreBytes }
-    requires value { IfKnown (R.bytes input.old) (λ file. IsSuperblock file superblock) }
-    requires fields { IfKnown (R.bytes input.old) (λ file. superblock ≡ fields_of file) }
-    requires held { IfKnown (R.bytes input.old) (λ file.
-        first_failing (superblock_checks file) ≡ None) }
     requires fit { IsFit superblock }
+    requires whole { IfKnown (R.bytes input.old) (λ file. HoldsBlocks file superblock) }
     requires front { HasFront (R.bytes input.old) superblock }
     ensures keeps { R.bytes input.new ≡ R.bytes input.old }
-    ensures value { IfOk result (λ layout.
-        IfKnown (R.bytes input.old) (λ file. HasLayout file layout)) }
     ensures superblock { IfOk result (λ layout. layout.superblock ≡ superblock) }
     ensures texts { IfOk result (HasTexts (R.bytes input.old)) }
-    ensures first { IfErr result (IfOf (λ fault. IfKnown (R.bytes input.old) (λ file.
-        Refuses MsfFault.Memory (first_failing (layout_checks file)) fault))) }
     ensures refused { IfErr result (IfOf (TextsRefuse (R.bytes input.old))) }
     ensures read { IfErr result (λ fault.
         fault ≡ AtFault.Read → Breaks (R.bytes input.old) (R.is_broken input.new)) }
@@ -187,11 +157,7 @@ fn layout_at<R: ReadAt, A: Allocator + Copy>(
 ) -> Result<Layout<A>, AtFault<MsfFault>>
     ensures keeps { R.bytes input.new ≡ R.bytes input.old }
     ensures small { IfKnown (R.bytes input.old) AreBytes }
-    ensures value { IfOk result (λ layout.
-        IfKnown (R.bytes input.old) (λ file. HasLayout file layout)) }
     ensures texts { IfOk result (HasTexts (R.bytes input.old)) }
-    ensures first { IfErr result (IfOf (λ fault. IfKnown (R.bytes input.old) (λ file.
-        Refuses MsfFault.Memory (first_failing (layout_checks file)) fault))) }
     ensures refused { IfErr result (IfOf (TextsRefuse (R.bytes input.old))) }
     ensures read { IfErr result (λ fault.
         fault ≡ AtFault.Read → Breaks (R.bytes input.old) (R.is_broken input.new)) }
@@ -206,7 +172,7 @@ impl<A: Allocator + Copy> Layout<A> {
     ///
     /// The faults are those of [`Layout::read`], in the same order, and `AtFault::Read` where a
     /// read fails. A file may change, so the directory is read once, and what was read is checked.
-    /// This allocates room for the directory too. ("The MSF File Format", "The Stream Directory".)
+    /// ("The MSF File Format", "The Stream Directory".)
     pub fn read_at<R: ReadAt>(alloc: A, input: &mut R) -> Result<Layout<A>, AtFault<MsfFault>>
         ensures keeps { R.bytes input.new ≡ R.bytes input.old }
         ensures small { IfKnown (R.bytes input.old) AreBytes }

@@ -17,7 +17,8 @@
 //! - [`nth_block`] and [`is_map_block`] tell map blocks from other blocks. [`free_bit`] reads the
 //!   free block map in force, and [`free_blocks`] counts the blocks that it says are free.
 //! - [`Sink`], [`Source`] and what belongs to them are those of the crate `byte_io`.
-//! - [`laws`] says what holds of every container: a file has at most one layout.
+//! - [`laws`] says what holds of every container: a file has at most one layout, and what reads gave
+//!   of a file that is known is what the file has.
 //!
 //! A reader refuses a container with the fault of the first check that fails. The checks are made
 //! in the order of the variants of [`MsfFault`].
@@ -39,7 +40,6 @@
 //! ```
 #![tactic(auto)]
 
-mod block_file;
 mod block_number;
 mod block_size;
 mod blocks;

@@ -1,9 +1,9 @@
 //! The numbers of a directory that is not in memory, through windows on the stack.
 
 ghost use Rattle.std.specs.Prelude.{◌≡◌, ◌+◌, ◌-◌, ◌*◌, ◌<◌, ◌≤◌, true, length, take, drop, IfSome, IfNone};
-ghost use Rattle.byte_fields.specs.Number.{number_at, four_bytes, nth_u32};
+ghost use Rattle.byte_fields.specs.Number.{number_at, four_bytes};
 ghost use Rattle.byte_io.specs.At.{Breaks, IfKnown};
-ghost use Rattle.msf_blocks.specs.Directory.{IsDirectoryNumber, IsNumberGiven, IsReadable, directory_blocks, directory_contents, map_number, map_start};
+ghost use Rattle.msf_blocks.specs.Directory.{IsDirectoryNumber, IsNumberGiven, IsReadable, directory_blocks, map_number, map_start};
 ghost use Rattle.msf_blocks.specs.Superblock.{HoldsBlocks};
 ghost use Rattle.msf_blocks.specs.Window.{IsWindow, Shows, shown};
 
@@ -51,8 +51,7 @@ pub fn read_map_number<R: ReadAt>(
 /// The number at a position of these bytes.
 fn number_in(bytes: &[u8], position: u32) -> u32
     requires { 4 * position + 4 ≤ length bytes.now }
-    ensures value { result ≡ nth_u32 bytes.now position }
-    ensures bytes { four_bytes result ≡ take 4 (drop (4 * position) bytes.now) }
+    ensures { four_bytes result ≡ take 4 (drop (4 * position) bytes.now) }
 {
     u32_at(bytes, 4 * position as usize)
 }
@@ -90,7 +89,6 @@ impl Window {
     fn number(&self, position: u32) -> u32
         requires short { self.now.count ≤ 510 }
         requires shows { Shows self.now position }
-        ensures value { result ≡ nth_u32 (shown self.now) (position - self.now.first) }
         ensures bytes { four_bytes result
             ≡ take 4 (drop (4 * (position - self.now.first)) (shown self.now)) }
         ensures whole { length (shown self.now) ≡ 4 * self.now.count }
@@ -142,8 +140,6 @@ pub fn read_directory_number<R: ReadAt>(
     requires there { 4 * position + 4 ≤ superblock.now.directory_bytes }
     ensures keeps { R.bytes input.new ≡ R.bytes input.old }
     ensures window { IsWindow (R.bytes input.old) superblock.now window.new }
-    ensures value { IfSome result (λ n. IfKnown (R.bytes input.old) (λ file.
-        n ≡ nth_u32 (directory_contents file superblock.now) position)) }
     ensures given { IfSome result (IsDirectoryNumber (R.bytes input.old) superblock.now position) }
     ensures refuses { IfNone result (Breaks (R.bytes input.old) (R.is_broken input.new)) }
 {

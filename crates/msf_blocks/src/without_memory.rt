@@ -1,12 +1,10 @@
 //! The checks of a directory for which memory was refused. They are made all the same, through two
 //! windows on the stack: one on the sizes of the streams, one on their lists of blocks.
 
-ghost use Rattle.std.specs.Prelude.{None, Some, ◌≡◌, ◌+◌, ◌*◌, ◌<◌, ◌≤◌, ◌^◌, map, OnOk, IfOk, IfErr, IfSome, IfNone};
-ghost use Rattle.byte_fields.specs.Number.{nth_u32};
-ghost use Rattle.byte_fields.specs.Check.{first_failing, checks_below};
+ghost use Rattle.std.specs.Prelude.{Some, ◌≡◌, ◌+◌, ◌*◌, ◌<◌, ◌≤◌, ◌^◌, map, OnOk, IfOk, IfErr, IfSome, IfNone};
 ghost use Rattle.byte_io.specs.At.{Breaks, IfKnown, IfOf};
-ghost use Rattle.msf_blocks.specs.Directory.{IsDirectoryNumber, IsReadable, IsDirectoryFault, HasSize, HasSizes, HasRoom, LacksRoom, HasBlocks, HasLists, HasBlockMap, BlockMapRefuses, ListRefuses, ContentsRefuse, DirectoryRefuses, directory_block_checks, directory_checks, directory_contents, list_start, length_checks, stream_blocks, stream_checks};
-ghost use Rattle.msf_blocks.specs.Superblock.{HoldsBlocks};
+ghost use Rattle.msf_blocks.specs.Directory.{IsDirectoryNumber, IsReadable, HasSize, HasSizes, HasRoom, LacksRoom, HasBlocks, HasLists, HasBlockMap, BlockMapRefuses, ListRefuses, ContentsRefuse, DirectoryRefuses};
+ghost use Rattle.msf_blocks.specs.Superblock.{HoldsBlocks, IsFit};
 ghost use Rattle.msf_blocks.specs.Window.{IsWindow};
 
 use crate::block_number::{blocks_for, is_ordinary};
@@ -20,12 +18,6 @@ use byte_io::{AtFault, ReadAt};
 fn check_map<R: ReadAt>(input: &mut R, superblock: &Superblock) -> Result<(), AtFault<MsfFault>>
     requires whole { IfKnown (R.bytes input.old) (λ file. HoldsBlocks file superblock.now) }
     ensures keeps { R.bytes input.new ≡ R.bytes input.old }
-    ensures held { OnOk result (IfKnown (R.bytes input.old) (λ file.
-        first_failing (directory_block_checks file superblock.now) ≡ None)) }
-    ensures first { IfErr result (IfOf (λ fault. IfKnown (R.bytes input.old) (λ file.
-        first_failing (directory_block_checks file superblock.now) ≡ Some fault))) }
-    // Even if the file's bytes are not known, reads gave a block map without a fault, or one with
-    // this fault.
     ensures map { OnOk result (HasBlockMap (R.bytes input.old) superblock.now) }
     ensures refused { IfErr result (IfOf (BlockMapRefuses (R.bytes input.old) superblock.now)) }
     ensures read { IfErr result (λ fault.
@@ -54,10 +46,6 @@ fn read_stream_blocks<R: ReadAt>(
     requires window { IsWindow (R.bytes input.old) superblock.now sizes.old }
     ensures keeps { R.bytes input.new ≡ R.bytes input.old }
     ensures window { IsWindow (R.bytes input.old) superblock.now sizes.new }
-    ensures value { IfSome result (λ n. IfKnown (R.bytes input.old) (λ file.
-        n
-        ≡ stream_blocks superblock.now.block_size (directory_contents file superblock.now)
-        stream)) }
     ensures few { IfSome result (λ n. n ≤ 2 ^ 23) }
     ensures size { IfSome result (HasSize (R.bytes input.old) superblock.now stream) }
     ensures refuses { IfNone result (Breaks (R.bytes input.old) (R.is_broken input.new)) }
@@ -78,18 +66,12 @@ fn read_lists_end<R: ReadAt>(
     streams: u32,
 ) -> Option<u64>
     requires readable { IfKnown (R.bytes input.old) (λ file. IsReadable file superblock.now) }
-    requires start { IfKnown (R.bytes input.old) (λ file.
-        start
-        ≡ list_start superblock.now.block_size (directory_contents file superblock.now) from) }
     requires few { 4 * (1 + streams) ≤ superblock.now.directory_bytes }
     requires upto { from ≤ streams }
     requires short { start ≤ 2 ^ 33 }
     requires window { IsWindow (R.bytes input.old) superblock.now sizes.old }
     ensures keeps { R.bytes input.new ≡ R.bytes input.old }
     ensures window { IsWindow (R.bytes input.old) superblock.now sizes.new }
-    ensures value { IfSome result (λ n. IfKnown (R.bytes input.old) (λ file.
-        n
-        ≡ list_start superblock.now.block_size (directory_contents file superblock.now) streams)) }
     ensures few { IfSome result (λ n. n < 2 ^ 60) }
     ensures sizes { IfSome result (HasSizes (R.bytes input.old) superblock.now from streams start) }
     ensures refuses { IfNone result (Breaks (R.bytes input.old) (R.is_broken input.new)) }
@@ -112,23 +94,12 @@ fn check_end<R: ReadAt>(
     streams: u32,
 ) -> Result<(), AtFault<MsfFault>>
     requires readable { IfKnown (R.bytes input.old) (λ file. IsReadable file superblock.now) }
-    requires start { IfKnown (R.bytes input.old) (λ file.
-        start
-        ≡ list_start superblock.now.block_size (directory_contents file superblock.now) from) }
     requires few { 4 * (1 + streams) ≤ superblock.now.directory_bytes }
     requires upto { from ≤ streams }
     requires short { start ≤ 2 ^ 33 }
     requires window { IsWindow (R.bytes input.old) superblock.now sizes.old }
     ensures keeps { R.bytes input.new ≡ R.bytes input.old }
     ensures window { IsWindow (R.bytes input.old) superblock.now sizes.new }
-    ensures held { OnOk result (IfKnown (R.bytes input.old) (λ file.
-        4 * list_start superblock.now.block_size (directory_contents file superblock.now) streams
-        ≤ superblock.now.directory_bytes)) }
-    ensures first { IfErr result (IfOf (λ fault. IfKnown (R.bytes input.old) (λ file.
-        let end = list_start superblock.now.block_size (directory_contents file superblock.now)
-        streams in
-        (superblock.now.directory_bytes < 4 * end)
-        × (fault ≡ MsfFault.DirectoryShort (4 * end) superblock.now.directory_bytes)))) }
     ensures room { OnOk result (HasRoom (R.bytes input.old) superblock.now from streams start) }
     ensures refused { IfErr result
         (IfOf (LacksRoom (R.bytes input.old) superblock.now from streams start)) }
@@ -161,19 +132,6 @@ fn check_length<R: ReadAt>(
     ensures few { IfOk result (λ n. 4 * (1 + n) ≤ superblock.now.directory_bytes) }
     ensures short { IfOk result (λ n. 4 * (1 + n) < 2 ^ 32) }
     ensures given { IfOk result (IsDirectoryNumber (R.bytes input.old) superblock.now 0) }
-    ensures streams { IfOk result (λ n. IfKnown (R.bytes input.old) (λ file.
-        n ≡ nth_u32 (directory_contents file superblock.now) 0)) }
-    ensures room { IfOk result (λ n. IfKnown (R.bytes input.old) (λ file.
-        4 * list_start superblock.now.block_size (directory_contents file superblock.now) n
-        ≤ superblock.now.directory_bytes)) }
-    ensures held { OnOk result (IfKnown (R.bytes input.old) (λ file.
-        first_failing
-        (length_checks superblock.now.block_size (directory_contents file superblock.now))
-        ≡ None)) }
-    ensures first { IfErr result (IfOf (λ fault. IfKnown (R.bytes input.old) (λ file.
-        first_failing
-        (length_checks superblock.now.block_size (directory_contents file superblock.now))
-        ≡ Some fault))) }
     ensures refused { IfErr result (IfOf (ContentsRefuse (R.bytes input.old) superblock.now)) }
     ensures read { IfErr result (λ fault.
         fault ≡ AtFault.Read → Breaks (R.bytes input.old) (R.is_broken input.new)) }
@@ -204,25 +162,11 @@ fn check_stream<R: ReadAt>(
     count: u32,
 ) -> Result<(), AtFault<MsfFault>>
     requires readable { IfKnown (R.bytes input.old) (λ file. IsReadable file superblock.now) }
-    requires room { IfKnown (R.bytes input.old) (λ file.
-        4 * (start + count) ≤ superblock.now.directory_bytes) }
-    requires start { IfKnown (R.bytes input.old) (λ file.
-        start
-        ≡ list_start superblock.now.block_size (directory_contents file superblock.now) stream) }
-    requires count { IfKnown (R.bytes input.old) (λ file.
-        count
-        ≡ stream_blocks superblock.now.block_size (directory_contents file superblock.now) stream) }
     requires window { IsWindow (R.bytes input.old) superblock.now lists.old }
     ensures keeps { R.bytes input.new ≡ R.bytes input.old }
     ensures window { IsWindow (R.bytes input.old) superblock.now lists.new }
     ensures room { OnOk result (4 * (start + count) ≤ superblock.now.directory_bytes) }
     ensures short { OnOk result (4 * (start + count) < 2 ^ 32) }
-    ensures held { OnOk result (IfKnown (R.bytes input.old) (λ file.
-        first_failing (stream_checks superblock.now (directory_contents file superblock.now) stream)
-        ≡ None)) }
-    ensures first { IfErr result (IfOf (λ fault. IfKnown (R.bytes input.old) (λ file.
-        first_failing (stream_checks superblock.now (directory_contents file superblock.now) stream)
-        ≡ Some fault))) }
     ensures listed { OnOk result
         (HasBlocks (R.bytes input.old) superblock.now start (start + count)) }
     ensures refused { IfErr result
@@ -263,12 +207,6 @@ fn check_list<R: ReadAt>(
     requires readable { IfKnown (R.bytes input.old) (λ file. IsReadable file superblock.now) }
     requires few { 4 * (1 + streams) ≤ superblock.now.directory_bytes }
     requires below { stream < streams }
-    requires start { IfKnown (R.bytes input.old) (λ file.
-        start
-        ≡ list_start superblock.now.block_size (directory_contents file superblock.now) stream) }
-    requires room { IfKnown (R.bytes input.old) (λ file.
-        4 * list_start superblock.now.block_size (directory_contents file superblock.now) streams
-        ≤ superblock.now.directory_bytes) }
     requires lists { HasLists (R.bytes input.old) superblock.now streams stream start }
     requires on_sizes { IsWindow (R.bytes input.old) superblock.now sizes.old }
     requires on_lists { IsWindow (R.bytes input.old) superblock.now lists.old }
@@ -276,16 +214,6 @@ fn check_list<R: ReadAt>(
     ensures on_sizes { IsWindow (R.bytes input.old) superblock.now sizes.new }
     ensures on_lists { IsWindow (R.bytes input.old) superblock.now lists.new }
     ensures fits { IfOk result (λ end. 4 * end ≤ superblock.now.directory_bytes) }
-    ensures end { IfOk result (λ end. IfKnown (R.bytes input.old) (λ file.
-        end
-        ≡ list_start superblock.now.block_size (directory_contents file superblock.now)
-        (stream + 1))) }
-    ensures held { OnOk result (IfKnown (R.bytes input.old) (λ file.
-        first_failing (stream_checks superblock.now (directory_contents file superblock.now) stream)
-        ≡ None)) }
-    ensures first { IfErr result (IfOf (λ fault. IfKnown (R.bytes input.old) (λ file.
-        first_failing (stream_checks superblock.now (directory_contents file superblock.now) stream)
-        ≡ Some fault))) }
     ensures lists { IfOk result (HasLists (R.bytes input.old) superblock.now streams (stream + 1)) }
     ensures refused { IfErr result (IfOf (ContentsRefuse (R.bytes input.old) superblock.now)) }
     ensures read { IfErr result (λ fault.
@@ -317,26 +245,11 @@ fn check_streams<R: ReadAt>(
     requires few { 4 * (1 + streams) ≤ superblock.now.directory_bytes }
     requires short { 4 * (1 + streams) < 2 ^ 32 }
     requires given { IsDirectoryNumber (R.bytes input.old) superblock.now 0 streams }
-    requires streams { IfKnown (R.bytes input.old) (λ file.
-        streams ≡ nth_u32 (directory_contents file superblock.now) 0) }
-    requires room { IfKnown (R.bytes input.old) (λ file.
-        4 * list_start superblock.now.block_size (directory_contents file superblock.now) streams
-        ≤ superblock.now.directory_bytes) }
     requires on_sizes { IsWindow (R.bytes input.old) superblock.now sizes.old }
     requires on_lists { IsWindow (R.bytes input.old) superblock.now lists.old }
     ensures keeps { R.bytes input.new ≡ R.bytes input.old }
     ensures on_sizes { IsWindow (R.bytes input.old) superblock.now sizes.new }
     ensures on_lists { IsWindow (R.bytes input.old) superblock.now lists.new }
-    ensures held { OnOk result (IfKnown (R.bytes input.old) (λ file.
-        first_failing (checks_below streams
-        (stream_checks superblock.now (directory_contents file superblock.now)))
-        ≡ None)) }
-    ensures first { IfErr result (IfOf (λ fault. IfKnown (R.bytes input.old) (λ file.
-        first_failing (checks_below streams
-        (stream_checks superblock.now (directory_contents file superblock.now)))
-        ≡ Some fault))) }
-    // Even if the file's bytes are not known, reads gave contents without a fault, or some with
-    // this fault.
     ensures sound { OnOk result
         (ContentsRefuse (R.bytes input.old) superblock.now MsfFault.Memory) }
     ensures refused { IfErr result (IfOf (ContentsRefuse (R.bytes input.old) superblock.now)) }
@@ -357,12 +270,6 @@ fn check_directory<R: ReadAt>(
 ) -> Result<(), AtFault<MsfFault>>
     requires readable { IfKnown (R.bytes input.old) (λ file. IsReadable file superblock.now) }
     ensures keeps { R.bytes input.new ≡ R.bytes input.old }
-    ensures held { OnOk result (IfKnown (R.bytes input.old) (λ file.
-        first_failing (directory_checks superblock.now (directory_contents file superblock.now))
-        ≡ None)) }
-    ensures first { IfErr result (IfOf (λ fault. IfKnown (R.bytes input.old) (λ file.
-        first_failing (directory_checks superblock.now (directory_contents file superblock.now))
-        ≡ Some fault))) }
     ensures sound { OnOk result
         (ContentsRefuse (R.bytes input.old) superblock.now MsfFault.Memory) }
     ensures refused { IfErr result (IfOf (ContentsRefuse (R.bytes input.old) superblock.now)) }
@@ -381,12 +288,9 @@ fn check_directory<R: ReadAt>(
 // The windows are on its stack, so its callers do not take it in.
 #[inline(never)]
 pub fn fault_without_memory<R: ReadAt>(input: &mut R, superblock: &Superblock) -> AtFault<MsfFault>
-    requires { IfKnown (R.bytes input.old) (λ file. HoldsBlocks file superblock.now) }
+    requires fit { IsFit superblock.now }
+    requires whole { IfKnown (R.bytes input.old) (λ file. HoldsBlocks file superblock.now) }
     ensures keeps { R.bytes input.new ≡ R.bytes input.old }
-    ensures first { IfOf
-        (λ fault.
-        IfKnown (R.bytes input.old) (λ file. IsDirectoryFault file superblock.now fault))
-        result }
     ensures refused { IfOf (DirectoryRefuses (R.bytes input.old) superblock.now) result }
     ensures read { result ≡ AtFault.Read → Breaks (R.bytes input.old) (R.is_broken input.new) }
 {

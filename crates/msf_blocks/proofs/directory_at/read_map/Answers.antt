@@ -1,8 +1,7 @@
-use Rattle.std.proofs.Common.{◌≡◌, ◌∙◌, ◌*◌, ◌≤◌, take, drop, length, ap, refl, arith}
+use Rattle.std.proofs.Common.{◌≡◌, ◌∙◌, ◌*◌, length, ap, refl, arith}
 use Rattle.std.proofs.lemmas.List.FromFn.{length-map-range_with_len}
 use Rattle.byte_fields.specs.Number.{nth_u32}
 use Rattle.msf_blocks.specs.Directory.{directory_blocks, map_start}
-use Rattle.msf_blocks.proofs.AtLaws.{block_map_stands, numbers_read}
 use Rattle.msf_blocks.proofs.GivenLaws.{behind_none, map_given}
 use Rattle.msf_blocks.proofs.directory_at.read_map.Goals as goal
 
@@ -10,20 +9,6 @@ pub returns-clause-len : goal.returns-clause-len
 returns-clause-len g c =
     let count : c.blocks_for-count.result ≡ directory_blocks c.args.superblock.now = c.blocks_for-count.ensures.value ∙ rw (c.block_size-block_size.ensures.value, c.directory_bytes.ensures.value) refl in
     ap length c.in_ok-numbers_in.ensures ∙ length-map-range_with_len (nth_u32 c.deref.result.now) 0 c.blocks_for-count.result ∙ count
-
-pub returns-clause-value : goal.returns-clause-value
-returns-clause-value g c = λ file known.
-    let fields = c.args.superblock.now in
-    let bytes = c.read_more.new.buffer.items in
-    let n = c.blocks_for-count.result in
-    let b : c.block_size-block_size.result ≡ fields.block_size = c.block_size-block_size.ensures.value in
-    let count : n ≡ directory_blocks fields = c.blocks_for-count.ensures.value ∙ rw (b, c.directory_bytes.ensures.value) refl in
-    let few : 4 * n ≤ c.block_size-block_size.result = omega (arith, rw (← c.directory_bytes.ensures.value, ← c.blocks_for-count.ensures.value) at c.block_size-block_size.ensures.listed) in
-    let is : bytes ≡ take (4 * n) (drop (c.from.result * c.from-2.result) file) = rw c.new-bytes.ensures.items at (c.in_ok-read_more.ensures.value file known) in
-    let many : length bytes ≡ 4 * n = omega (arith, c.in_ok-read_more.ensures.len, ap length c.new-bytes.ensures.items) in
-    let stands = block_map_stands file bytes fields c.from.result c.from-2.result (4 * n) (c.from.ensures ∙ c.block_map_addr.ensures.value) (c.from-2.ensures ∙ b) (omega (arith, c.from.ensures, c.block_map_addr.ensures.fits.1)) (c.requires file known)
-    (omega (arith, few, c.from-2.ensures)) many is in
-    rw (c.deref.ensures.value, count) at c.in_ok-numbers_in.ensures ∙ numbers_read file bytes fields stands (omega (arith, many, count))
 
 pub returns-clause-given : goal.returns-clause-given
 returns-clause-given g c =

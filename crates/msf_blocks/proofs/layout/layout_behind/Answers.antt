@@ -6,60 +6,10 @@ use Rattle.byte_fields.proofs.CheckLaws.{first_failing-append_some}
 use Rattle.byte_io.proofs.AtLaws.{of_more}
 use Rattle.msf_blocks.specs.Directory.{directory_checks, length_checks}
 use Rattle.msf_blocks.specs.Stream.{listed_of}
-use Rattle.msf_blocks.proofs.LayoutLaws.{contents_fault, length_fault, stream_answer, directory_answer}
-use Rattle.msf_blocks.proofs.ListsLaws.{layout_is, lists_are_read, layout_fits_at}
+use Rattle.msf_blocks.proofs.LayoutLaws.{directory_answer}
+use Rattle.msf_blocks.proofs.ListsLaws.{lists_are_read, layout_fits_at}
 use Rattle.msf_blocks.proofs.GivenLaws.{directory_refuses}
 use Rattle.msf_blocks.proofs.layout.layout_behind.Goals as goal
-
-pub returns-in_err-contents-clause-first : goal.returns-in_err-contents-clause-first
-returns-in_err-contents-clause-first g c =
-    let s = c.requires in
-    let superblock = c.args.superblock in
-    let p = err_from_is_err_and c.from_residual.result c.from_residual.ensures.1 in
-    rw (p.1, p.2) (of_more _ _ c.in_err-contents.field-0.0 (λ inner is file known. contents_fault file superblock inner (s.fields file known) (s.held file known) (is file known)) c.in_err-contents.ensures.first)
-
-pub returns-in_err-streams-clause-first : goal.returns-in_err-streams-clause-first
-returns-in_err-streams-clause-first g c =
-    let s = c.requires in
-    let superblock = c.args.superblock in
-    let t = c.in_ok-contents.ensures in
-    let d = c.gathered-directory.ensures in
-    let contents = c.in_ok-contents.contents.items in
-    let is_contents = d.contents ∙ c.deref.ensures.value in
-    let p = err_from_is_err_and c.from_residual-in_err-streams.result c.from_residual-in_err-streams.ensures.1 in
-    rw (p.1, p.2) (λ file known.
-    inl (length_fault file superblock contents c.in_err-streams.field-0.0 (s.fields file known) (t.value file known) (s.held file known) (t.held file known) (rw (d.superblock, is_contents) at c.in_err-streams.ensures.first)))
-
-pub returns-in_err-check_streams-clause-first : goal.returns-in_err-check_streams-clause-first
-returns-in_err-check_streams-clause-first g c =
-    let s = c.requires in
-    let superblock = c.args.superblock in
-    let t = c.in_ok-contents.ensures in
-    let d = c.gathered-directory.ensures in
-    let contents = c.in_ok-contents.contents.items in
-    let is_contents = d.contents ∙ c.deref.ensures.value in
-    let p = err_from_is_err_and c.from_residual-in_err-check_streams.result c.from_residual-in_err-check_streams.ensures.1 in
-    let l = c.in_ok-streams.ensures in
-    rw (p.1, p.2) (λ file known.
-    inl (stream_answer file superblock contents c.in_ok-streams.streams (s.fields file known) (t.value file known) (s.held file known) (t.held file known) (rw (d.superblock, is_contents) at l.first) (rw is_contents at l.streams)
-    ∙ rw (d.superblock, is_contents) at c.in_err-check_streams.ensures))
-
-pub returns-in_err-streams-2-clause-first : goal.returns-in_err-streams-2-clause-first
-returns-in_err-streams-2-clause-first g c =
-    let s = c.requires in
-    let superblock = c.args.superblock in
-    let t = c.in_ok-contents.ensures in
-    let d = c.gathered-directory.ensures in
-    let contents = c.in_ok-contents.contents.items in
-    let is_contents = d.contents ∙ c.deref.ensures.value in
-    let l = c.in_ok-streams.ensures in
-    let p = err_from_is_err_and c.from_residual-in_err-streams-2.result c.from_residual-in_err-streams-2.ensures.1 in
-    rw (p.1, p.2) (λ file known.
-    inr (
-      c.in_err-streams-2.ensures.memory,
-      stream_answer file superblock contents c.in_ok-streams.streams (s.fields file known) (t.value file known) (s.held file known) (t.held file known) (rw (d.superblock, is_contents) at l.first) (rw is_contents at l.streams)
-          ∙ rw (d.superblock, is_contents) at c.in_ok-check_streams.ensures,
-    ))
 
 pub invariant_of-result : goal.invariant_of-result
 invariant_of-result g c =
@@ -77,22 +27,6 @@ invariant_of-result g c =
     let read = rw (d.superblock, is_contents) at c.in_ok-streams-2.ensures.value in
     layout_fits_at superblock contents n streams s.fit.block_size_fits small count read
     (lists_are_read superblock contents n streams small count (rw (d.superblock, is_contents) at l.room) (rw (d.superblock, is_contents) at c.in_ok-check_streams.ensures) read)
-
-pub returns-clause-value : goal.returns-clause-value
-returns-clause-value g c = λ file known.
-    let s = c.requires in
-    let superblock = c.args.superblock in
-    let t = c.in_ok-contents.ensures in
-    let d = c.gathered-directory.ensures in
-    let contents = c.in_ok-contents.contents.items in
-    let is_contents = d.contents ∙ c.deref.ensures.value in
-    let l = c.in_ok-streams.ensures in
-    let n = c.in_ok-streams.streams in
-    let count = rw is_contents at l.streams in
-    let held = stream_answer file superblock contents n (s.fields file known) (t.value file known) (s.held file known) (t.held file known) (rw (d.superblock, is_contents) at l.first) count
-    ∙ rw (d.superblock, is_contents) at c.in_ok-check_streams.ensures in
-    layout_is file superblock contents n (map listed_of c.in_ok-streams-2.streams.items) (s.small file known) (s.value file known) (s.fields file known) (t.value file known) count (rw (d.superblock, is_contents) at l.room) held
-    (rw (d.superblock, is_contents) at c.in_ok-streams-2.ensures.value)
 
 pub returns-clause-texts : goal.returns-clause-texts
 returns-clause-texts g c =

@@ -1,6 +1,6 @@
-use Rattle.std.proofs.Common.{◌∙◌, arith}
+use Rattle.std.proofs.Common.{arith}
 use Rattle.msf_blocks.specs.Window.{IsWindow, Shows, shown}
-use Rattle.msf_blocks.proofs.WindowLaws.{part_number, part_number_known, window_lies}
+use Rattle.msf_blocks.proofs.WindowLaws.{part_number, window_lies}
 use Rattle.msf_blocks.proofs.window.read_directory_number.Given.{Over}
 use Rattle.msf_blocks.proofs.window.read_directory_number.Goals as goal
 use Rattle.msf_blocks.proofs.window.read_directory_number.Goals.{then-not-shows+in_ok-open, else-not-shows}
@@ -19,10 +19,3 @@ returns-clause-given g c =
     let part = is.0.part (omega (arith, is.1.from, is.1.upto)) in
     part_number (g.R.ReadAt.bytes c.args.input.now) c.args.superblock.now window.first c.args.position c.number.result (shown window) part (window_lies window c.args.position c.number.ensures.whole is.1) c.requires.there
     (omega (arith, c.number.type_inv)) c.number.ensures.bytes
-
-pub returns-clause-value : goal.returns-clause-value
-returns-clause-value g c = λ file known.
-    let is = is-window g c in
-    let window = c.if-not-shows.window in
-    let part = is.0.part (omega (arith, is.1.from, is.1.upto)) in
-    c.number.ensures.value ∙ part_number_known (g.R.ReadAt.bytes c.args.input.now) c.args.superblock.now window.first c.args.position (shown window) part (window_lies window c.args.position c.number.ensures.whole is.1) c.requires.there file known

@@ -1,28 +1,7 @@
-use Rattle.std.proofs.Common.{◌∙◌, sym, arith}
 use Rattle.std.proofs.lemmas.Result.{err_from_is_err_and}
 use Rattle.byte_io.proofs.AtLaws.{of_more}
-use Rattle.msf_blocks.specs.Directory.{directory_contents}
-use Rattle.msf_blocks.proofs.DirectoryLaws.{list_start_more, list_start_upto}
 use Rattle.msf_blocks.proofs.RefusedLaws.{more_lists, rest_refused, list_refused}
 use Rattle.msf_blocks.proofs.without_memory.check_list.Goals as goal
-
-pub check_stream-requires-clause-room : goal.check_stream-requires-clause-room
-check_stream-requires-clause-room g c = λ file known.
-    let fields = c.args.superblock.now in
-    let old = sym c.in-Some.ensures.keeps ∙ known in
-    let upto = list_start_upto fields.block_size (directory_contents file fields) c.args.stream c.args.streams c.requires.below in
-    omega (arith, upto.0, c.requires.start file old, c.in-Some.ensures.value file old, c.requires.room file old)
-
-pub check_end-requires-clause-start : goal.check_end-requires-clause-start
-check_end-requires-clause-start g c = λ file known.
-    let fields = c.args.superblock.now in
-    let old = sym c.in-Some.ensures.keeps ∙ sym c.in-Err-Of.ensures.keeps ∙ known in
-    omega (arith, c.from.ensures, c.from-in-Err-Of.ensures, c.requires.start file old, c.in-Some.ensures.value file old, list_start_more fields.block_size (directory_contents file fields) c.args.stream)
-
-pub returns-in-Ok-clause-end : goal.returns-in-Ok-clause-end
-returns-in-Ok-clause-end g c = λ file known.
-    let fields = c.args.superblock.now in
-    omega (arith, c.requires.start file known, c.in-Some.ensures.value file known, list_start_more fields.block_size (directory_contents file fields) c.args.stream)
 
 pub returns-in-Ok-clause-lists : goal.returns-in-Ok-clause-lists
 returns-in-Ok-clause-lists g c =

@@ -1,6 +1,4 @@
 use Rattle.std.proofs.Common.{◌≡◌, ◌∙◌, refl, arith}
-use Rattle.msf_blocks.specs.Directory.{directory_contents}
-use Rattle.msf_blocks.proofs.DirectoryLaws.{list_start_more}
 use Rattle.msf_blocks.proofs.RefusedLaws.{no_sizes, more_sizes}
 use Rattle.msf_blocks.proofs.without_memory.read_lists_end.Goals as goal
 
@@ -9,7 +7,6 @@ loop-stream-init g c = record {
   keeps = refl;
   window = c.requires.window;
   few = omega (arith, c.requires.short);
-  value = c.requires.start;
   sizes = no_sizes (g.R.ReadAt.bytes c.args.input.now) c.args.superblock.now c.args.from c.args.start;
 }
 
@@ -21,10 +18,6 @@ loop-stream-preserved g c =
       keeps = e.keeps ∙ i.keeps;
       window = rw i.keeps at e.window;
       few = omega (arith, i.few, e.few, c.from.ensures);
-      value = λ file known.
-          let before = i.value file known in
-          let here = e.value file (i.keeps ∙ known) in
-          omega (arith, before, here, c.from.ensures, list_start_more c.args.superblock.now.block_size (directory_contents file c.args.superblock.now) c.loop-stream.stream);
       sizes = rw c.from.ensures (more_sizes (g.R.ReadAt.bytes c.args.input.now) c.args.superblock.now c.args.from c.loop-stream.stream c.args.start c.loop-stream.end _ i.sizes (rw i.keeps at e.size));
     }
 

@@ -61,9 +61,6 @@ returns-clause-window g c =
       block = c.in_ok-block.block;
       listed = rw b.ensures.value at c.in_ok-block.ensures.given;
       given = rw (start, c.in_ok-block.ensures.keeps) at came.given;
-      known = λ file known.
-          let number = c.in_ok-block.ensures.value file known in
-          rw (start, number, b.ensures.value) at (came.value file (c.in_ok-block.ensures.keeps ∙ known));
     })
 
 pub returns-clause-shows : goal.returns-clause-shows
