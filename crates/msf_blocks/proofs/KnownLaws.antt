@@ -1,13 +1,17 @@
 -- What reads gave of a file that is known is what the file has.
-use Rattle.std.proofs.Common.{◌≡◌, ℕ, ◌+◌, ◌*◌, ◌/◌, ◌%◌, ◌<◌, ◌≤◌, true, List, ◌++◌, Some, length, take, drop, get_or, ap, ◌∙◌, sym, refl, arith, inl, inr}
+use Rattle.std.proofs.Common.{map, ◌≡◌, ℕ, ◌+◌, ◌*◌, ◌/◌, ◌%◌, ◌<◌, ◌≤◌, true, List, ◌++◌, Some, length, take, drop, get_or, ap, ◌∙◌, sym, refl, arith, inl, inr}
 use Rattle.std.proofs.lemmas.Bool.{eqb-true, eq-eqb}
 use Rattle.std.proofs.lemmas.Grind.{get_or_default_zero, same_number_lists}
 use Rattle.std.proofs.lemmas.List.{get_or-take, get_or-drop, length-take, length-drop, take_all, take-append-drop}
 use Rattle.std.proofs.lemmas.List.FromFn.{get_or-map-range_with_len, length-map-range_with_len}
-use Rattle.std.proofs.lemmas.Nat.{mul-le, mod_below}
+use Rattle.std.specs.Prelude.{Result, Ok, Err, OnOk}
+use Rattle.std.specs.List.{range_with_len}
+use Rattle.std.proofs.lemmas.Nat.{div_below, mul-le, mod_below}
 use Rattle.byte_fields.specs.Number.{number_at}
 use Rattle.byte_fields.specs.Check.{Refuses, first_failing}
-use Rattle.byte_io.specs.At.{AreGiven, StandsAt, stable}
+use Rattle.byte_io.specs.At.{AreGiven, Bytes, IfKnown, StandsAt, stable}
+use Rattle.msf_blocks.specs.BlockNumber.{IsBlockSize, blocks_for}
+use Rattle.msf_blocks.specs.Blocks.{AreGivenIn, AreInside, in_blocks}
 use Rattle.msf_blocks.specs.Directory.{AreDirectoryBytes, AreMapNumbers, BlockMapRefuses, ContentsRefuse, DirectoryRefuses, HasBlockMap, HasContents, IsBlockMap, IsDirectoryByte, IsNumberGiven, IsReadable, directory_block_checks, directory_blocks, directory_checks, directory_contents, map_number, map_start}
 use Rattle.msf_blocks.proofs.LayoutLaws.{IsDirectoryFault}
 use Rattle.msf_blocks.proofs.DirectoryLaws.{map_numbers}
@@ -17,7 +21,7 @@ use Rattle.msf_blocks.specs.declared.fault.MsfFault.TheVariants.{Memory}
 use Rattle.msf_blocks.proofs.AtLaws.{number_checks_are, number_is}
 use Rattle.msf_blocks.proofs.DirectoryLaws.{contents_length, map_is_ordinary}
 use Rattle.msf_blocks.proofs.GivenLaws.{byte_given}
-use Rattle.msf_blocks.proofs.SizeLaws.{place_below, size_facts, some_bytes}
+use Rattle.msf_blocks.proofs.SizeLaws.{ceil_ge, place_below, size_facts, some_bytes}
 
 -- ---- bytes
 
@@ -150,3 +154,36 @@ contents_known file fields contents whole fit has =
     let given : AreDirectoryBytes (stable file) fields 0 contents = λ i lt. let here : 0 + i ≡ i = omega arith in rw here (byte_given (stable file) fields contents i fit.block_size_fits has lt) in
     let count : length contents ≡ length all = has.count ∙ sym (contents_length file fields) in
     directory_known file fields contents fit readable given (omega (arith, has.count)) ∙ rw count (take_all (length all) all (omega arith))
+
+-- ---- a list of blocks
+
+-- bytes that reads gave in blocks of a file are those in these blocks
+pub blocks_known : (file : List ℕ) (b : ℕ) (blocks text : List ℕ) → 0 < b → AreInside file b blocks → length text ≤ length blocks * b → AreGivenIn (stable file) b blocks text → text ≡ in_blocks file b blocks (length text)
+unfolding in_blocks
+blocks_known file b blocks text some inside fits given =
+    let f = λ (i : ℕ). get_or file (get_or blocks (i / b) 0 * b + i % b) 0 in
+    let long : length text ≡ length (map f (range_with_len 0 (length text))) = sym (length-map-range_with_len f 0 (length text)) in
+    same_number_lists text (map f (range_with_len 0 (length text))) long (λ k lt.
+    let within : k / b < length blocks = div_below k b (length blocks) some (omega (arith, lt, fits)) in
+    let row = inside (k / b) within in
+    byte_is file (get_or blocks (k / b) 0 * b + k % b) (get_or text k 0) (omega (arith, row, mod_below k b some)) (given k lt)
+    ∙ sym (get_or-map-range_with_len f 0 (length text) k k 0 lt (omega arith)))
+
+-- a file gives the bytes in its blocks
+pub blocks_given : (file : List ℕ) (b : ℕ) (blocks : List ℕ) (size : ℕ) → 0 < b → AreInside file b blocks → size ≤ length blocks * b → AreGivenIn (stable file) b blocks (in_blocks file b blocks size)
+unfolding in_blocks
+blocks_given file b blocks size some inside fits = λ k lt.
+    let f = λ (i : ℕ). get_or file (get_or blocks (i / b) 0 * b + i % b) 0 in
+    let below : k < size = omega (arith, lt, length-map-range_with_len f 0 size) in
+    let row = inside (k / b) (div_below k b (length blocks) some (omega (arith, below, fits))) in
+    let byte : get_or (map f (range_with_len 0 size)) k 0 ≡ f k = get_or-map-range_with_len f 0 size k k 0 below (omega arith) in
+    rw byte (gives_own file (get_or blocks (k / b) 0 * b + k % b) (omega (arith, row, mod_below k b some)))
+
+-- of a result
+pub result_blocks_known : {T E : Type 0} (bytes : Bytes) (b : ℕ) (blocks text : List ℕ) (size : ℕ) (result : Result T E) → IsBlockSize b → IfKnown bytes (λ file. AreInside file b blocks) → length blocks ≡ blocks_for b size
+    → length text ≡ size → OnOk result (AreGivenIn bytes b blocks text) → OnOk result (IfKnown bytes (λ file. text ≡ in_blocks file b blocks size))
+result_blocks_known bytes b blocks text size (Err fault) is inside count long given = tt
+result_blocks_known bytes b blocks text size (Ok value) is inside count long given = λ file known.
+    let some = some_bytes b is in
+    let room : size ≤ length blocks * b = rw count (ceil_ge b size some) in
+    rw long at (blocks_known file b blocks text some (inside file known) (omega (arith, long, room)) (rw known at given))

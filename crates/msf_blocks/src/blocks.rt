@@ -46,8 +46,6 @@ fn read_runs<R: ReadAt>(
     requires room { length buffer.old ≡ size }
     ensures keeps { R.bytes input.new ≡ R.bytes input.old }
     ensures same { length buffer.new ≡ size }
-    ensures value { OnOk result (IfKnown (R.bytes input.old) (λ file.
-        buffer.new ≡ in_blocks file block_size blocks.now size)) }
     ensures given { OnOk result (AreGivenIn (R.bytes input.old) block_size blocks.now buffer.new) }
     ensures first { IfErr result (λ fault.
         (fault ≡ ReadFault.Read) × Breaks (R.bytes input.old) (R.is_broken input.new)) }

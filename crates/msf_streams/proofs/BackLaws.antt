@@ -16,11 +16,12 @@ use Rattle.msf_blocks.specs.Superblock.{Fields, IsSuperblock, magic}
 use Rattle.msf_blocks.specs.Directory.{IsListed, IsDirectory, directory_contents, map_number, bytes_of}
 use Rattle.msf_blocks.proofs.BlockLaws.{nth_zero, nth_ge}
 use Rattle.msf_blocks.proofs.SizeLaws.{size_facts, big_enough, next_row, ceil_ge, place_below}
-use Rattle.msf_streams.specs.Streams.{gathered, listed_contents}
+use Rattle.msf_streams.specs.Streams.{listed_contents}
+use Rattle.msf_blocks.specs.Blocks.{in_blocks}
 use Rattle.msf_blocks.specs.BlockNumber.{block_numbers}
 use Rattle.msf_streams.specs.Image.{padded, laid_out, superblock_numbers, listed_from, blocks_of_all, directory_len, directory_count, data_count, image_blocks, superblock_part, block_map_part, directory_part, parts, image, Fits, image_fields, ReadsBack}
 use Rattle.msf_blocks.proofs.RangeLaws.{map-range_with_len_parts, map-same_ranges}
-use Rattle.msf_streams.proofs.PieceLaws.{gathered_first, at_most_one_for}
+use Rattle.msf_streams.proofs.PieceLaws.{in_blocks_first, at_most_one_for}
 use Rattle.msf_streams.proofs.ImageLaws.{part_back, image_long, length_parts, nth_below}
 
 -- one of several numbers that are next to each other
@@ -58,7 +59,7 @@ streams_back b m all front (t ∷ ts) big e count short =
     let f = sum_by (blocks_for b) (map length front) in
     let small : length t < 0xFFFFFFFF = All-head (λ u. length u < 0xFFFFFFFF) t ts short in
     let size : bytes_of (length t) ≡ length t = grind (arith, nat_tests) in
-    let here : gathered x b (block_numbers b f (blocks_for b (length t))) (length t) ≡ t = rw e (part_back b m front t ts big (rw e at count)) in
+    let here : in_blocks x b (block_numbers b f (blocks_for b (length t))) (length t) ≡ t = rw e (part_back b m front t ts big (rw e at count)) in
     let more : all ≡ (front ++ t ∷ []) ++ ts = e ∙ sym (append_assoc front (t ∷ []) ts) in
     let next : sum_by (blocks_for b) (map length (front ++ t ∷ [])) ≡ f + blocks_for b (length t) =
     omega (arith, ap (sum_by (blocks_for b)) (map-append length front (t ∷ [])) ∙ sum_by-append (blocks_for b) (map length front) (length t ∷ []), sum_by-cons (blocks_for b) (length t) []) in
@@ -74,14 +75,14 @@ one_for b len pos some one =
 pub block_back : (b m : ℕ) (all front : List (List ℕ)) (t : List ℕ) (back : List (List ℕ)) → 3 < b → all ≡ front ++ t ∷ back → sum_by (blocks_for b) (map length all) ≡ m + 1
     → 0 < length t → length t ≤ b → (nth_block b (sum_by (blocks_for b) (map length front)) + 1) * b ≤ length (laid_out b (nth_block b m + 1) (flat_map (padded b) all))
     → take (length t) (drop (nth_block b (sum_by (blocks_for b) (map length front)) * b) (laid_out b (nth_block b m + 1) (flat_map (padded b) all))) ≡ t
-unfolding gathered
+unfolding in_blocks
 block_back b m all front t back big e count some one fits =
     let x = laid_out b (nth_block b m + 1) (flat_map (padded b) all) in
     let f = sum_by (blocks_for b) (map length front) in
-    let here : gathered x b (block_numbers b f (blocks_for b (length t))) (length t) ≡ t = rw e (part_back b m front t back big (rw e at count)) in
+    let here : in_blocks x b (block_numbers b f (blocks_for b (length t))) (length t) ≡ t = rw e (part_back b m front t back big (rw e at count)) in
     let single : blocks_for b (length t) ≡ 1 = one_for b (length t) (omega arith) some one in
-    let first : gathered x b (block_numbers b f 1) (length t) ≡ t = rw single at here in
-    sym (gathered_first x b (nth_block b f) (length t) [] one fits) ∙ first
+    let first : in_blocks x b (block_numbers b f 1) (length t) ≡ t = rw single at here in
+    sym (in_blocks_first x b (nth_block b f) (length t) [] one fits) ∙ first
 
 -- ---- the parts of an image
 
@@ -179,7 +180,7 @@ map_here b ts size fits =
     rw is (rw (one, long) at e)
 
 pub directory_here : (b : ℕ) (ts : List (List ℕ)) → IsBlockSize b → Fits b (map length ts)
-    → gathered (image b ts) b (block_numbers b 2 (directory_count b (map length ts))) (directory_len b (map length ts)) ≡ directory_part b (map length ts)
+    → in_blocks (image b ts) b (block_numbers b 2 (directory_count b (map length ts))) (directory_len b (map length ts)) ≡ directory_part b (map length ts)
 unfolding parts
 directory_here b ts size fits =
     let sizes = map length ts in
@@ -264,14 +265,14 @@ map_number_back b ts k size fits lt =
     word_in x ns (nth_block b 1 * b) (4 * directory_count b sizes) k (map_here b ts size fits) (omega (arith, lt, length-map-range_with_len (nth_block b) 2 (directory_count b sizes))) (omega (arith, at, below, h.0)) ∙ at
 
 pub dir_back : (b : ℕ) (ts : List (List ℕ)) → IsBlockSize b → Fits b (map length ts) → IsDirectory (image b ts) (image_fields b (map length ts)) (directory_part b (map length ts))
-unfolding gathered directory_contents
+unfolding in_blocks directory_contents
 dir_back b ts size fits =
     let sizes = map length ts in
     let x = image b ts in
     let big = big_enough b size in
     let d = directory_len b sizes in
     let ns = block_numbers b 2 (directory_count b sizes) in
-    let here : gathered x b ns d ≡ directory_part b sizes = directory_here b ts size fits in
+    let here : in_blocks x b ns d ≡ directory_part b sizes = directory_here b ts size fits in
     record {
       ordinary = λ k lt.
           let e = map_number_back b ts k size fits lt in

@@ -12,7 +12,8 @@ use Rattle.msf_blocks.specs.BlockNumber.{is_map_block, blocks_for, data_blocks}
 use Rattle.msf_blocks.specs.Superblock.{magic}
 use Rattle.msf_blocks.specs.Directory.{Listed, bytes_of}
 use Rattle.msf_blocks.specs.Layout.{LayoutView}
-use Rattle.msf_streams.specs.Streams.{gathered, listed_contents, stream_contents}
+use Rattle.msf_streams.specs.Streams.{listed_contents, stream_contents}
+use Rattle.msf_blocks.specs.Blocks.{in_blocks}
 use Rattle.msf_blocks.specs.FreeMap.{map_byte, map_block}
 use Rattle.msf_blocks.specs.BlockNumber.{block_numbers}
 use Rattle.msf_streams.specs.Image.{padded, data_block, image_block, laid_out, superblock_numbers, superblock_part, block_map_part, directory_part, directory_count, blocks_of_all, parts, image, image_blocks}
@@ -101,9 +102,9 @@ image_is_bytes b contents each =
 
 -- ---- a stream
 
-gathered_are_bytes : (file : List ℕ) (b : ℕ) (blocks : List ℕ) (size : ℕ) → AreBytes file → AreBytes (gathered file b blocks size)
-unfolding gathered
-gathered_are_bytes file b blocks size each =
+in_blocks_are_bytes : (file : List ℕ) (b : ℕ) (blocks : List ℕ) (size : ℕ) → AreBytes file → AreBytes (in_blocks file b blocks size)
+unfolding in_blocks
+in_blocks_are_bytes file b blocks size each =
     bytes_map (λ i. get_or file (get_or blocks (i / b) 0 * b + i % b) 0) (range_with_len 0 size) (λ i. each (get_or blocks (i / b) 0 * b + i % b))
 
 -- a stream of a file of bytes is made of bytes, if there is such a stream
@@ -111,7 +112,7 @@ some_are_bytes : (file : List ℕ) (b : ℕ) (stream : Option Listed) (bytes : L
 some_are_bytes file b None bytes each e = absurd cc
 some_are_bytes file b (Some stream) bytes each e =
     let is : listed_contents file b stream ≡ bytes = cc in
-    rw (← is) (gathered_are_bytes file b stream.blocks (bytes_of stream.size) each)
+    rw (← is) (in_blocks_are_bytes file b stream.blocks (bytes_of stream.size) each)
 
 -- each stream of a file of bytes is made of bytes
 pub stream_is_bytes : (file : List ℕ) (layout : LayoutView) (s : ℕ) (bytes : List ℕ) → AreBytes file → stream_contents file layout s ≡ Some bytes → AreBytes bytes

@@ -10,7 +10,7 @@ use Rattle.std.proofs.lemmas.List.Sums.{sum_by-cons, sum_by-append}
 use Rattle.msf_blocks.specs.BlockNumber.{IsBlockSize, blocks_for, is_map_block, nth_block, data_blocks}
 use Rattle.msf_blocks.proofs.BlockLaws.{rank_is, nth_is_data, nth_onto, nth_monotone, nth_few}
 use Rattle.msf_blocks.proofs.SizeLaws.{size_facts, big_enough, ceil_ge, place_below}
-use Rattle.msf_streams.specs.Streams.{gathered}
+use Rattle.msf_blocks.specs.Blocks.{in_blocks}
 use Rattle.msf_blocks.specs.FreeMap.{map_block, map_byte}
 use Rattle.msf_streams.specs.Image.{padded, data_block, image_block, laid_out, blocks_of_all, directory_len, directory_count, data_count}
 use Rattle.msf_blocks.proofs.RangeLaws.{map-same_ranges, part_by_places}
@@ -97,8 +97,8 @@ image_long b m t big long = length_blocks (image_block b (nth_block b m + 1) t) 
 -- ---- several blocks of the data are read through their numbers
 
 pub stretch : (b m f len : ℕ) (t : List ℕ) → 3 < b → length t ≡ (m + 1) * b → f + blocks_for b len ≤ m + 1 → f * b + len ≤ length t
-    → gathered (laid_out b (nth_block b m + 1) t) b (map (nth_block b) (range_with_len f (blocks_for b len))) len ≡ take len (drop (f * b) t)
-unfolding gathered
+    → in_blocks (laid_out b (nth_block b m + 1) t) b (map (nth_block b) (range_with_len f (blocks_for b len))) len ≡ take len (drop (f * b) t)
+unfolding in_blocks
 stretch b m f len t big long within fits =
     let x = laid_out b (nth_block b m + 1) t in
     let ks = map (nth_block b) (range_with_len f (blocks_for b len)) in
@@ -136,7 +136,7 @@ bytes_back b t rest = rw (append_assoc t (replicate (blocks_for b (length t) * b
 -- each part of an image reads back through the blocks that follow those of the earlier parts
 pub part_back : (b m : ℕ) (front : List (List ℕ)) (t : List ℕ) (back : List (List ℕ)) → 3 < b
     → sum_by (blocks_for b) (map length (front ++ t ∷ back)) ≡ m + 1
-    → gathered (laid_out b (nth_block b m + 1) (flat_map (padded b) (front ++ t ∷ back))) b (map (nth_block b) (range_with_len (sum_by (blocks_for b) (map length front)) (blocks_for b (length t)))) (length t) ≡ t
+    → in_blocks (laid_out b (nth_block b m + 1) (flat_map (padded b) (front ++ t ∷ back))) b (map (nth_block b) (range_with_len (sum_by (blocks_for b) (map length front)) (blocks_for b (length t)))) (length t) ≡ t
 part_back b m front t back big count =
     let all = flat_map (padded b) (front ++ t ∷ back) in
     let f = sum_by (blocks_for b) (map length front) in

@@ -10,15 +10,16 @@ use Rattle.msf_blocks.specs.BlockNumber.{IsOrdinary, blocks_for}
 use Rattle.msf_blocks.specs.Directory.{Listed, IsListed, bytes_of}
 use Rattle.msf_blocks.specs.Layout.{LayoutView, IsLayout, block_of}
 use Rattle.msf_blocks.proofs.SizeLaws.{some_bytes, ceil_ge, place_below}
-use Rattle.msf_streams.specs.Streams.{gathered, blocks_in, stream_contents, AreConsecutive}
+use Rattle.msf_streams.specs.Streams.{blocks_in, stream_contents, AreConsecutive}
+use Rattle.msf_blocks.specs.Blocks.{in_blocks}
 use Rattle.msf_blocks.proofs.RangeLaws.{map-same_ranges, part_by_places}
 use Rattle.msf_blocks.specs.Superblock.{HoldsBlocks}
 use Rattle.msf_streams.proofs.PieceLaws.{none_for, no_stream, stream_at}
 
 -- the contents in consecutive blocks are the bytes from the first of them on
 pub consecutive_contents : (file : List ℕ) (b : ℕ) (blocks : List ℕ) (size first : ℕ) → 0 < b → length blocks ≡ blocks_for b size → first ≡ get_or blocks 0 0 → AreConsecutive blocks
-    → first * b + size ≤ length file → gathered file b blocks size ≡ take size (drop (first * b) file)
-unfolding gathered
+    → first * b + size ≤ length file → in_blocks file b blocks size ≡ take size (drop (first * b) file)
+unfolding in_blocks
 consecutive_contents file b blocks size first some long is each fits =
     map-same_ranges (λ i. get_or file (get_or blocks (i / b) 0 * b + i % b) 0) (λ i. get_or file (first * b + i) 0) 0 0 size (λ i below.
     let same : 0 + i ≡ i = omega arith in
@@ -61,7 +62,7 @@ is_sized layout s size holds e = elim (cases_lt s (length layout.streams)) [
 -- a stream without a first block is empty
 pub empty_lent : (file : List ℕ) (layout : LayoutView) (s size : ℕ) → IsLayout layout → option_map (λ l. bytes_of l.size) (slice_get layout.streams s) ≡ Some size → block_of layout.streams s 0 ≡ None
     → (stream_contents file layout s ≡ Some []) × (length (blocks_in (slice_get layout.streams s)) ≡ 0)
-unfolding gathered
+unfolding in_blocks
 empty_lent file layout s size holds e none =
     let sized = is_sized layout s size holds e in
     let b = layout.superblock.block_size in

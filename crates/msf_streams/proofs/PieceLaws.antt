@@ -13,7 +13,8 @@ use Rattle.msf_blocks.proofs.SizeLaws.{size_facts, some_bytes, few_for}
 use Rattle.msf_blocks.specs.Superblock.{HoldsBlocks, Fields}
 use Rattle.msf_blocks.specs.Directory.{Listed, IsListed, bytes_of}
 use Rattle.msf_blocks.specs.Layout.{LayoutView, IsLayout, block_in, block_of}
-use Rattle.msf_streams.specs.Streams.{FirstIsLong, gathered, pieces, blocks_in, pieces_from, stream_pieces, stream_contents}
+use Rattle.msf_streams.specs.Streams.{FirstIsLong, pieces, blocks_in, pieces_from, stream_pieces, stream_contents}
+use Rattle.msf_blocks.specs.Blocks.{in_blocks}
 use Rattle.msf_blocks.proofs.RangeLaws.{map-range_with_len_parts, map-same_ranges, part_by_places, next_block, first_block}
 
 -- ---- how many blocks some bytes need
@@ -43,9 +44,9 @@ abbrev pub IsWhole : List ℕ → ℕ → ℕ → Type 0
 IsWhole file block_size block = (block + 1) * block_size ≤ length file
 
 -- the first bytes of the contents are in the first block
-pub gathered_first : (file : List ℕ) (block_size block n : ℕ) (blocks : List ℕ) → n ≤ block_size → IsWhole file block_size block
+pub in_blocks_first : (file : List ℕ) (block_size block n : ℕ) (blocks : List ℕ) → n ≤ block_size → IsWhole file block_size block
     → map (λ i. get_or file (get_or (block ∷ blocks) (i / block_size) 0 * block_size + i % block_size) 0) (range_with_len 0 n) ≡ take n (drop (block * block_size) file)
-gathered_first file block_size block n blocks le fits =
+in_blocks_first file block_size block n blocks le fits =
     map-same_ranges (λ i. get_or file (get_or (block ∷ blocks) (i / block_size) 0 * block_size + i % block_size) 0) (λ i. get_or file (block * block_size + i) 0) 0 0 n (λ i below.
     let same : 0 + i ≡ i = omega arith in
     let first = first_block block_size i (omega arith) in
@@ -53,10 +54,10 @@ gathered_first file block_size block n blocks le fits =
     ∙ part_by_places file (block * block_size) n (omega arith)
 
 -- the contents are the first block, and then what the other blocks hold
-gathered_more : (file : List ℕ) (block_size block size : ℕ) (blocks : List ℕ) → 0 < block_size → block_size ≤ size → IsWhole file block_size block
-    → gathered file block_size (block ∷ blocks) size ≡ take block_size (drop (block * block_size) file) ++ gathered file block_size blocks (size - block_size)
-unfolding gathered
-gathered_more file block_size block size blocks some le fits =
+in_blocks_more : (file : List ℕ) (block_size block size : ℕ) (blocks : List ℕ) → 0 < block_size → block_size ≤ size → IsWhole file block_size block
+    → in_blocks file block_size (block ∷ blocks) size ≡ take block_size (drop (block * block_size) file) ++ in_blocks file block_size blocks (size - block_size)
+unfolding in_blocks
+in_blocks_more file block_size block size blocks some le fits =
     let f = λ (i : ℕ). get_or file (get_or (block ∷ blocks) (i / block_size) 0 * block_size + i % block_size) 0 in
     let g = λ (i : ℕ). get_or file (get_or blocks (i / block_size) 0 * block_size + i % block_size) 0 in
     let whole : size ≡ block_size + (size - block_size) = omega arith in
@@ -68,12 +69,12 @@ gathered_more file block_size block size blocks some le fits =
     let one : i / block_size + 1 ≡ suc (i / block_size) = omega arith in
     rw (there, here, next.0, next.1, one) refl) in
     subst (λ (n : ℕ). map f (range_with_len 0 n) ≡ take block_size (drop (block * block_size) file) ++ map g (range_with_len 0 (size - block_size))) (sym whole)
-    (map-range_with_len_parts f 0 block_size (size - block_size) ∙ rw (gathered_first file block_size block block_size blocks (omega arith) fits, others) refl)
+    (map-range_with_len_parts f 0 block_size (size - block_size) ∙ rw (in_blocks_first file block_size block block_size blocks (omega arith) fits, others) refl)
 
 -- the joined pieces are the contents
 concat-pieces : (file : List ℕ) (block_size size : ℕ) (blocks : List ℕ) → 0 < block_size → length blocks ≡ blocks_for block_size size → All (IsWhole file block_size) blocks
-    → concat (pieces file block_size blocks size) ≡ gathered file block_size blocks size
-unfolding gathered pieces
+    → concat (pieces file block_size blocks size) ≡ in_blocks file block_size blocks size
+unfolding in_blocks pieces
 concat-pieces file block_size size [] some long whole = let none : size ≡ 0 = none_for block_size size some long in rw none refl
 concat-pieces file block_size size (block ∷ blocks) some long whole =
     let here : IsWhole file block_size block = All-head (IsWhole file block_size) block blocks whole in
@@ -82,12 +83,12 @@ concat-pieces file block_size size (block ∷ blocks) some long whole =
       | inl short ↦
           let none : blocks ≡ [] = nil_from_length blocks (omega (arith, long, at_most_one_for block_size size some (omega arith))) in
           let least : min block_size size ≡ size = omega arith in
-          rw (none, least) (append-nil (take size (drop (block * block_size) file)) ∙ sym (gathered_first file block_size block size [] (omega arith) here))
+          rw (none, least) (append-nil (take size (drop (block * block_size) file)) ∙ sym (in_blocks_first file block_size block size [] (omega arith) here))
       | inr le ↦
           let least : min block_size size ≡ block_size = omega arith in
           let fewer : length blocks ≡ blocks_for block_size (size - block_size) = omega (arith, long, one_more_for block_size size some le) in
           rw least (ap (λ (bytes : List ℕ). take block_size (drop (block * block_size) file) ++ bytes) (concat-pieces file block_size (size - block_size) blocks some fewer others)
-          ∙ sym (gathered_more file block_size block size blocks some le here))
+          ∙ sym (in_blocks_more file block_size block size blocks some le here))
     ]
 
 -- there is one piece for each block

@@ -1,11 +1,12 @@
 -- What holds of every image, and of the streams of every file.
-use Rattle.std.specs.Prelude.{ℕ, ◌≡◌, ◌+◌, ◌*◌, ◌≤◌, List, Some, length, map}
+use Rattle.std.specs.Prelude.{ℕ, ◌≡◌, ◌↔◌, ◌+◌, ◌*◌, ◌≤◌, List, Some, length, map}
 use Rattle.std.specs.List.{AllByRecursion}
 use Rattle.byte_fields.specs.Bytes.{AreBytes}
+use Rattle.byte_io.specs.At.{stable}
 use Rattle.msf_blocks.specs.BlockNumber.{IsBlockSize}
-use Rattle.msf_blocks.specs.Layout.{LayoutView}
+use Rattle.msf_blocks.specs.Layout.{LayoutView, HasLayout}
 use Rattle.msf_streams.specs.Image.{Fits, ReadsBack, blocks_of_all, image}
-use Rattle.msf_streams.specs.Streams.{stream_contents}
+use Rattle.msf_streams.specs.Streams.{WasRead, stream_contents}
 
 -- the image of streams that fit reads back
 abbrev pub ImagesReadBack : Type 0
@@ -24,3 +25,8 @@ ImagesAreBytes = (block_size : ℕ) (contents : List (List ℕ)) → IsBlockSize
 -- each stream of a file of bytes is made of bytes
 abbrev pub StreamsAreBytes : Type 0
 StreamsAreBytes = (file : List ℕ) (layout : LayoutView) (s : ℕ) (bytes : List ℕ) → AreBytes file → stream_contents file layout s ≡ Some bytes → AreBytes bytes
+
+-- of a file that is known, reads give just the contents of a stream of its layout
+abbrev pub KnownStream : Type 0
+KnownStream = (file : List ℕ) (layout : LayoutView) (s : ℕ) (text : List ℕ) → HasLayout file layout →
+    WasRead (stable file) layout s text ↔ stream_contents file layout s ≡ Some text

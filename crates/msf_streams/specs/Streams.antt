@@ -1,19 +1,14 @@
 -- The contents of a stream, which are in its blocks ("The MSF File Format", "The Stream Directory").
-use Rattle.std.specs.Prelude.{ℕ, ◌≡◌, ◌+◌, ◌-◌, ◌*◌, ◌/◌, ◌%◌, ◌<◌, ◌≤◌, ◌⊎◌, IfSome, min, length, List, [], ◌∷◌, Option, Some, None, map, take, drop, get_or, slice_index, slice_get, option_map}
-use Rattle.std.specs.List.{range_with_len, concat}
+use Rattle.std.specs.Prelude.{ℕ, ◌≡◌, ◌+◌, ◌-◌, ◌*◌, ◌<◌, ◌≤◌, ◌⊎◌, IfSome, min, length, List, [], ◌∷◌, Option, Some, None, take, drop, get_or, slice_get, option_map}
+use Rattle.std.specs.List.{concat}
 use Rattle.byte_io.specs.At.{Bytes}
-use Rattle.msf_blocks.specs.Blocks.{AreGivenIn}
+use Rattle.msf_blocks.specs.Blocks.{AreGivenIn, in_blocks}
 use Rattle.msf_blocks.specs.Directory.{Listed, bytes_of}
 use Rattle.msf_blocks.specs.Layout.{LayoutView}
 
--- the contents of a stream of this size in blocks with these numbers: byte i is in block i / block_size of the list
-unfoldable pub gathered : List ℕ → ℕ → List ℕ → ℕ → List ℕ
-gathered file block_size blocks size =
-    map (λ i. slice_index file (get_or blocks (i / block_size) 0 * block_size + i % block_size)) (range_with_len 0 size)
-
 -- the contents of a stream
 abbrev pub listed_contents : List ℕ → ℕ → Listed → List ℕ
-listed_contents file block_size stream = gathered file block_size stream.blocks (bytes_of stream.size)
+listed_contents file block_size stream = in_blocks file block_size stream.blocks (bytes_of stream.size)
 
 -- the contents of the s-th stream, from 0; None where s is not a stream
 abbrev pub stream_contents : List ℕ → LayoutView → ℕ → Option (List ℕ)

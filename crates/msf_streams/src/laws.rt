@@ -2,7 +2,7 @@
 //!
 //! Each function here does nothing. Its contract is the law.
 
-ghost use Rattle.msf_streams.specs.Laws.{ImagesReadBack, FewBlocksFit, ImagesAreBytes, StreamsAreBytes};
+ghost use Rattle.msf_streams.specs.Laws.{ImagesReadBack, FewBlocksFit, ImagesAreBytes, KnownStream, StreamsAreBytes};
 
 /// An image reads back: it has a layout whose streams are just the streams that it was made of.
 ///
@@ -26,4 +26,9 @@ pub fn images_are_bytes()
 /// Each stream of a file of bytes is made of bytes: numbers below 256.
 pub fn streams_are_bytes()
     ensures { StreamsAreBytes }
+{}
+
+/// Of a file that is known, reads give just the contents of a stream of its layout.
+pub fn known_stream()
+    ensures { KnownStream }
 {}

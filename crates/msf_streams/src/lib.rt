@@ -34,7 +34,7 @@
 //!
 //! What is proved: there is one piece for each listed block, in order, and the joined pieces are
 //! the contents. Byte `i` of the contents is in block `i / block size` of the stream's list
-//! (`gathered` of `specs/Streams`). A stream of the layout is refused only when out of memory. The
+//! (`in_blocks` of `specs/Blocks` of `msf_blocks`). A stream of the layout is refused only when out of memory. The
 //! bytes that are written are the image (`image` of `specs/Image`), or its first bytes where the
 //! sink breaks. Streams are refused exactly where they have no image.
 //! ("The MSF File Format", "The Stream Directory".)

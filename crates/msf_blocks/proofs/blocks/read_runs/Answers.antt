@@ -1,10 +1,9 @@
-use Rattle.std.proofs.Common.{arith, ◌≡◌, ◌∙◌, ◌+◌, ◌-◌, ◌*◌, ◌<◌, ◌++◌, ℕ, List, sym, ap, refl, min, length, get_or, take, drop}
-use Rattle.std.proofs.lemmas.List.{length-take, length-drop, take_all}
+use Rattle.std.proofs.Common.{arith, ◌≡◌, ◌∙◌, ◌+◌, ◌-◌, ◌*◌, ◌<◌, ℕ, List, sym, refl, min, length, take}
+use Rattle.std.proofs.lemmas.List.{length-take, take_all}
 use Rattle.std.proofs.lemmas.Nat.{le-div}
-use Rattle.byte_io.specs.At.{StandsAt}
 use Rattle.msf_blocks.specs.BlockNumber.{blocks_for}
 use Rattle.msf_blocks.proofs.SizeLaws.{size_facts, some_bytes, few_for}
-use Rattle.msf_blocks.proofs.BlocksLaws.{run_facts, run_inside, run_step, blocks_none, all_bytes}
+use Rattle.msf_blocks.proofs.BlocksLaws.{run_facts, run_inside, all_bytes}
 use Rattle.msf_blocks.proofs.GivenLaws.{none_given, given_run}
 use Rattle.msf_blocks.proofs.blocks.read_runs.Goals as goal
 
@@ -15,7 +14,6 @@ loop-position-init g c =
       keeps = refl;
       upto = omega arith;
       len = c.requires.room;
-      value = λ file known. rw zero (sym (blocks_none file c.args.block_size c.args.blocks.now));
       given = none_given (g.R.ReadAt.bytes c.args.input.now) c.args.block_size c.args.blocks.now _ (rw zero refl);
     }
 
@@ -71,21 +69,8 @@ loop-position-preserved g c =
       keeps = more.keeps ∙ i.keeps;
       upto = c.run_len-run.ensures.inside;
       len = more.same ∙ i.len;
-      value = λ file known.
-          let piece = take count (drop (get_or blocks position 0 * b) file) in
-          let inside = run_inside file blocks b position run count (c.requires.inside file known) c.run_len-run.ensures.some c.run_len-run.ensures.inside c.run_len-run.ensures.side (omega (arith, n)) in
-          let long : length piece ≡ count = omega (arith, length-take count (drop (get_or blocks position 0 * b) file), length-drop (get_or blocks position 0 * b) file, inside) in
-          let stands : StandsAt file (get_or blocks position 0 * b) piece = record { inside = omega (arith, long, inside); is = rw long refl } in
-          let is : after ≡ before ++ piece = rw (c.from.ensures, c.from-in-loop-position.ensures) at (more.value file (i.keeps ∙ known)) in
-          rw back (is ∙ rw back at (run_step file blocks b size position run before piece (some_bytes b c.requires.size) facts c.run_len-run.ensures.side (long ∙ n) (ap (λ (m : ℕ). take m c.loop-position.buffer) (sym front) ∙ i.value file known) stands));
       given = rw back (given_run bytes b size blocks position run before after (some_bytes b c.requires.size) facts c.run_len-run.ensures.side long_before (omega (arith, long_before, long_after, front, n)) (rw front at i.given) (rw (c.from.ensures, c.from-in-loop-position.ensures, i.keeps) at more.given));
     }
-
-pub returns-clause-value : goal.returns-clause-value
-returns-clause-value g c = λ file known.
-    let i = c.loop-position.invariant in
-    let all = all_bytes c.args.block_size c.args.size c.loop-position.position c.requires.size (omega (arith, i.upto, c.loop-position-test.false, c.requires.count)) in
-    sym (take_all c.args.size c.loop-position.buffer (omega (arith, i.len))) ∙ rw all at (i.value file known)
 
 pub returns-clause-given : goal.returns-clause-given
 returns-clause-given g c =

@@ -1,6 +1,5 @@
 use Rattle.std.proofs.Common.{◌≡◌, ◌≤◌, ◌-◌, ◌*◌, min, length, take}
-use Rattle.byte_io.specs.At.{IfKnown}
-use Rattle.msf_blocks.specs.Blocks.{AreGivenIn, in_blocks}
+use Rattle.msf_blocks.specs.Blocks.{AreGivenIn}
 use Rattle.msf_blocks.proofs.blocks.read_runs.Given as goal
 
 abbrev pub invariant-loop-position : goal.invariant-loop-position
@@ -8,7 +7,6 @@ invariant-loop-position g l = record {
   keeps : g.R.ReadAt.bytes l.input ≡ g.R.ReadAt.bytes l.initial.input;
   upto : l.position ≤ length l.blocks;
   len : length l.buffer ≡ l.size;
-  value : IfKnown (g.R.ReadAt.bytes l.initial.input) (λ file. take (min (l.position * l.block_size) l.size) l.buffer ≡ in_blocks file l.block_size l.blocks (min (l.position * l.block_size) l.size));
   given : AreGivenIn (g.R.ReadAt.bytes l.initial.input) l.block_size l.blocks (take (min (l.position * l.block_size) l.size) l.buffer);
 }
 
