@@ -1,7 +1,8 @@
 -- The layout, and the fault, of what reads gave of a file that is known are those of the file.
-use Rattle.std.proofs.Common.{◌≡◌, ℕ, ◌+◌, ◌*◌, ◌/◌, ◌%◌, ◌<◌, ◌≤◌, Bool, true, false, List, [], ◌∷◌, Some, None, length, take, get_or, refl, sym, ap, ◌∙◌, arith, inl, inr}
+use Rattle.std.proofs.Common.{◌≡◌, ℕ, ◌+◌, ◌*◌, ◌/◌, ◌%◌, ◌<◌, ◌≤◌, Bool, true, false, List, [], ◌∷◌, Option, Some, None, length, take, get_or, refl, sym, ap, ◌∙◌, arith, inl, inr}
 use Rattle.std.specs.Prelude.{nat_eq, Result, Ok, Err, IfOk, IfErr}
 use Rattle.std.specs.List.{starts_with}
+use Rattle.std.proofs.lemmas.Bool.{cases_lt}
 use Rattle.std.proofs.lemmas.Bool.Decides.{nat_tests}
 use Rattle.std.proofs.lemmas.List.{length-take}
 use Rattle.std.proofs.lemmas.List.FromFn.{get_or-map-range_with_len, length-map-range_with_len}
@@ -10,18 +11,18 @@ use Rattle.byte_fields.specs.Check.{Check, Refuses, first_failing}
 use Rattle.byte_io.specs.At.{AreGiven, Bytes, IfKnown, IfOf, StandsAt, stable}
 use Rattle.byte_io.specs.declared.at.AtFault.{AtFault}
 use Rattle.byte_io.specs.declared.at.AtFault.TheVariants as at
-use Rattle.msf_blocks.specs.Directory.{HasContents, IsBlockMap, IsReadable, directory_blocks, directory_contents, map_number, map_start}
+use Rattle.msf_blocks.specs.Directory.{AreMapNumbers, HasContents, IsBlockMap, IsReadable, directory_block_checks, directory_blocks, directory_contents, map_number, map_start, number_checks}
 use Rattle.msf_blocks.proofs.DirectoryLaws.{map_numbers}
 use Rattle.msf_blocks.specs.Layout.{LayoutView, HasLayout, HasTexts, TextsRefuse, layout_checks}
-use Rattle.msf_blocks.specs.Superblock.{Fields, FrontRefuses, HasFront, IsFit, IsSuperblock, fields_of, front_checks, magic}
+use Rattle.msf_blocks.specs.Superblock.{Fields, FrontRefuses, HasFront, HoldsBlocks, IsFit, IsSuperblock, fields_of, front_checks, magic}
 use Rattle.msf_blocks.specs.declared.fault.MsfFault.{MsfFault}
 use Rattle.msf_blocks.specs.declared.fault.MsfFault.TheVariants.{Memory, Short}
 use Rattle.msf_blocks.proofs.AtLaws.{byte_read, checks_read, fields_read, front_stands, number_checks_are, short_file, superblock_read}
 use Rattle.msf_blocks.proofs.DirectoryLaws.{contents_length, map_is_ordinary}
 use Rattle.msf_blocks.proofs.FoundLaws.{blocks_hold, fields_are, superblock_holds}
-use Rattle.msf_blocks.proofs.GivenLaws.{number_given}
+use Rattle.msf_blocks.proofs.GivenLaws.{directory_refuses, map_given_refuses, number_given}
 use Rattle.msf_blocks.proofs.KnownLaws.{block_map_known, contents_known, directory_fault_known, given_stands, gives_own, map_inside}
-use Rattle.msf_blocks.proofs.LayoutLaws.{contents_fault, superblock_fault}
+use Rattle.msf_blocks.proofs.LayoutLaws.{after_blocks, block_fault, contents_fault, superblock_fault}
 use Rattle.msf_blocks.proofs.SizeLaws.{place_below, size_decides, size_facts, some_bytes}
 use Rattle.msf_blocks.proofs.SuperblockLaws.{magic_from_starts_with}
 
@@ -131,21 +132,23 @@ front_given file fields superblock =
       },
     )
 
--- so is its block map
-map_given_known : (file : List ℕ) (fields : Fields) → IsReadable file fields → IsFit fields → IsBlockMap (stable file) fields (map_numbers file fields)
+-- so are the numbers of its block map
+map_numbers_given : (file : List ℕ) (fields : Fields) → HoldsBlocks file fields → IsFit fields → AreMapNumbers (stable file) fields (map_numbers file fields)
 unfolding map_number
-map_given_known file fields readable fit =
+map_numbers_given file fields whole fit = λ k lt.
     let count = length-map-range_with_len (map_number file fields) 0 (directory_blocks fields) in
-    record {
-      count = count;
-      given = λ k lt.
-          let below : k < directory_blocks fields = omega (arith, lt, count) in
-          let at : get_or (map_numbers file fields) k 0 ≡ map_number file fields k = get_or-map-range_with_len (map_number file fields) 0 (directory_blocks fields) k k 0 below (omega arith) in
-          let own : AreGiven (stable file) 0 file = λ i inside. let here : 0 + i ≡ i = omega arith in rw here (gives_own file i inside) in
-          let here : 0 + (map_start fields + 4 * k) ≡ map_start fields + 4 * k = omega arith in
-          rw at (rw here at (number_given (stable file) 0 (map_start fields + 4 * k) file own (map_inside file fields k readable.whole fit below)));
-      sound = ap first_failing (number_checks_are file (map_numbers file fields) fields refl) ∙ readable.blocks;
-    }
+    let below : k < directory_blocks fields = omega (arith, lt, count) in
+    let at : get_or (map_numbers file fields) k 0 ≡ map_number file fields k = get_or-map-range_with_len (map_number file fields) 0 (directory_blocks fields) k k 0 below (omega arith) in
+    let own : AreGiven (stable file) 0 file = λ i inside. let here : 0 + i ≡ i = omega arith in rw here (gives_own file i inside) in
+    let here : 0 + (map_start fields + 4 * k) ≡ map_start fields + 4 * k = omega arith in
+    rw at (rw here at (number_given (stable file) 0 (map_start fields + 4 * k) file own (map_inside file fields k whole fit below)))
+
+map_given_known : (file : List ℕ) (fields : Fields) → IsReadable file fields → IsFit fields → IsBlockMap (stable file) fields (map_numbers file fields)
+map_given_known file fields readable fit = record {
+  count = length-map-range_with_len (map_number file fields) 0 (directory_blocks fields);
+  given = map_numbers_given file fields readable.whole fit;
+  sound = ap first_failing (number_checks_are file (map_numbers file fields) fields refl) ∙ readable.blocks;
+}
 
 -- and so are the contents of its directory
 contents_given : (file : List ℕ) (fields : Fields) → IsReadable file fields → IsFit fields → HasContents (stable file) fields (directory_contents file fields)
@@ -177,6 +180,62 @@ layout_given file layout has =
       directory = rw has.directory.contents_is (contents_given file fields readable has.superblock.fit);
       lists = has.lists;
     }
+
+-- ---- the first fault of a file is given
+
+-- what refuses a file whose first fault is this one
+same_fault : (first : Option MsfFault) (f fault : MsfFault) → first ≡ Some f → Refuses Memory first fault → fault ≡ f
+same_fault first f fault is refuses = elim refuses [
+  | inl other ↦ let both : Some fault ≡ Some f = sym other ∙ is in cc
+  | inr none ↦ let never : Some f ≡ None = sym is ∙ none.1 in absurd cc
+]
+
+-- the front of a file that is long enough
+record IsRead (file front : List ℕ) : Type 0 where
+  stands : StandsAt file 0 front
+  count : length front ≡ 56
+  given : AreGiven (stable file) 0 front
+
+contents_fault_given : (file : List ℕ) (fields : Fields) (fault : MsfFault) (found : Option MsfFault) → IsFrontOf file fields → HasFront (stable file) fields → first_failing (directory_block_checks file fields) ≡ found
+    → Refuses Memory (first_failing (layout_checks file)) fault → TextsRefuse (stable file) fault
+contents_fault_given file fields fault (Some f) is front blocks refuses =
+    let sound = superblock_holds file fields is.superblock in
+    let same = same_fault _ f fault (block_fault file fields f is.fields_are sound blocks) refuses in
+    let all = map_numbers file fields in
+    let first : first_failing (number_checks all fields) ≡ Some fault = ap first_failing (number_checks_are file all fields refl) ∙ blocks ∙ ap (λ (f : MsfFault). Some f) (sym same) in
+    inr (
+      fields,
+      front,
+      inl (map_given_refuses (stable file) fields all fault (map_numbers_given file fields is.superblock.whole is.superblock.fit) (length-map-range_with_len (map_number file fields) 0 (directory_blocks fields)) first),
+    )
+contents_fault_given file fields fault None is front blocks refuses =
+    let sound = superblock_holds file fields is.superblock in
+    let fit = is.superblock.fit in
+    let contents = directory_contents file fields in
+    let readable : IsReadable file fields = record { whole = is.superblock.whole; blocks = blocks } in
+    let after = after_blocks file fields is.fields_are sound blocks in
+    inr (fields, front, directory_refuses (stable file) fields contents fault fit.block_size_fits (contents_given file fields readable fit) (rw after at refuses))
+
+front_fault_given : (file front : List ℕ) (fault : MsfFault) (found : Option MsfFault) → 56 ≤ length file → IsRead file front → first_failing (front_checks front (length file)) ≡ found
+    → Refuses Memory (first_failing (layout_checks file)) fault → TextsRefuse (stable file) fault
+front_fault_given file front fault (Some f) long read first refuses =
+    let same = same_fault _ f fault (superblock_fault file f (checks_read file front read.stands read.count ∙ first)) refuses in
+    inl (inr (record { long = long; front = front; given = read.given; count = read.count; refused = first ∙ ap (λ (f : MsfFault). Some f) (sym same) }))
+front_fault_given file front fault None long read first refuses =
+    let fields = fields_of front in
+    let has : HasFront (stable file) fields = (front, read.given, record { count = read.count; fields_are = refl; sound = first }) in
+    contents_fault_given file fields fault (first_failing (directory_block_checks file fields)) (front_known file fields has) has refl refuses
+
+-- the first fault of a file is one of what reads give
+pub fault_given : (file : List ℕ) (fault : MsfFault) → Refuses Memory (first_failing (layout_checks file)) fault → TextsRefuse (stable file) fault
+fault_given file fault refuses = elim (cases_lt (length file) 56) [
+  | inl short ↦ inl (inl (short, same_fault _ Short fault (superblock_fault file Short (short_file file short)) refuses))
+  | inr long ↦
+      let front = take 56 file in
+      let stands = front_stands file front long refl in
+      let read : IsRead file front = record { stands = stands; count = omega (arith, long, length-take 56 file); given = gives_standing file 0 front stands } in
+      front_fault_given file front fault (first_failing (front_checks front (length file))) long read refl refuses
+]
 
 -- ---- of results
 

@@ -38,7 +38,7 @@ pub block_fault : (file : List ℕ) (fields : Fields) (fault : MsfFault) → fie
 block_fault file fields fault is a e =
     ap first_failing (checks_are file fields is) ∙ first_failing-append_none (superblock_checks file) _ a ∙ first_failing-append_some (directory_block_checks file fields) _ fault e
 
-after_blocks : (file : List ℕ) (fields : Fields) → fields ≡ fields_of file → first_failing (superblock_checks file) ≡ None → first_failing (directory_block_checks file fields) ≡ None
+pub after_blocks : (file : List ℕ) (fields : Fields) → fields ≡ fields_of file → first_failing (superblock_checks file) ≡ None → first_failing (directory_block_checks file fields) ≡ None
     → first_failing (layout_checks file) ≡ first_failing (length_checks fields.block_size (directory_contents file fields) ++ checks_below (nth_u32 (directory_contents file fields) 0) (stream_checks fields (directory_contents file fields)))
 after_blocks file fields is a b =
     ap first_failing (checks_are file fields is) ∙ first_failing-append_none (superblock_checks file) _ a ∙ first_failing-append_none (directory_block_checks file fields) _ b

@@ -16,7 +16,8 @@ abbrev pub KnownLayout : Type 0
 KnownLayout = (file : List ℕ) (layout : LayoutView) →
     HasTexts (stable file) layout ↔ HasLayout file layout
 
--- a fault of what reads gave of a file that is known is the first fault of the file
+-- of a file that is known, reads give bytes with a fault just if it is the first fault of the file,
+-- or it is out of memory and the file has none
 abbrev pub KnownFault : Type 0
-KnownFault = (file : List ℕ) (fault : MsfFault) → TextsRefuse (stable file) fault →
-    Refuses Memory (first_failing (layout_checks file)) fault
+KnownFault = (file : List ℕ) (fault : MsfFault) →
+    TextsRefuse (stable file) fault ↔ Refuses Memory (first_failing (layout_checks file)) fault

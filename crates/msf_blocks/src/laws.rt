@@ -17,7 +17,7 @@ pub fn known_layout()
     ensures { KnownLayout }
 {}
 
-/// If what reads gave of a file that is known has a fault, it is the first fault of the file.
+/// Of a file that is known, reads give bytes with a fault just if it is the first fault of the file.
 pub fn known_fault()
     ensures { KnownFault }
 {}
