@@ -53,16 +53,15 @@ test:
 	tools/faults --check
 	tools/stale
 	tests/help
-	tools/unreached
-	tools/columns
-	tools/surface
-	tests/start
+	tools/lint
 	tests/program
 	tests/examples
 	tests/examples examples/differences
 	tests/answers
 	tests/rows
-	tests/words
+	tests/explain
+	tests/inputs
+	tests/guid
 	tests/difference
 	tests/failures
 	tests/position

@@ -1,31 +1,50 @@
 """Makes damaged PDB files, for tests/campaign.
 
 A case is a few files and the settings of their merges. Its bytes depend on the seed and the number of
-the case alone. The tables of leaves and members are those of docs/FORMAT.md: damage needs to know
-where a record names other types. No answer of the program is made from them."""
-import pathlib, random, struct
+the case alone. The tables of leaves, members and numbers are read from docs/FORMAT.md: damage needs to
+know where a record names other types. No answer of the program is made from them."""
+import pathlib, random, re, struct
 from typing import NamedTuple
 import harness
-from harness import FIRST, superblock, words
+from harness import FIRST, entry_of, format_rows, leaves, refuse, superblock, words
 
 SIZES = [512, 1024, 2048, 4096, 8192, 16384, 32768]
 HEADER = 56
 INT = 0x74
 NIL = 0xFFFFFFFF
 MOST_BYTES = 1 << 30
-# The fixed places of each leaf: offsets in its body at which there is a type index.
-LEAVES = {
-    0x000A: (), 0x000E: (), 0x1001: (0,), 0x1002: (0,), 0x1008: (0, 8), 0x1009: (0, 4, 8, 16), 0x1201: (), 0x1203: (), 0x1205: (0,), 0x1206: (),
-    0x1503: (0, 4), 0x1504: (4, 8, 12), 0x1505: (4, 8, 12), 0x1519: (4, 8, 12), 0x1506: (4,), 0x1507: (4, 8), 0x151D: (0, 4),
+# The leaves whose places the table tells in words: `places_of` and `some_body` have a case for each.
+IN_WORDS = (0x1002, 0x1201, 0x1203, 0x1206)
+# What the table of members has of the fields after the indices: how many numeric leaves and names. `member_end` and
+# `some_member` have a case for the four bytes of an LF_ONEMETHOD.
+FIELDS = {
+    'a numeric leaf': (1, 0), 'two numeric leaves': (2, 0), 'a name': (0, 1), '': (0, 0),
+    'four bytes if bits 2 to 4 of the attributes are 4 or 6 (an introduced virtual)': (0, 0),
 }
+
+
+def fixed_places(leaf):
+    """The offsets in the body of a leaf at which there is always a type index."""
+    if leaf.others and leaf.kind not in IN_WORDS:
+        refuse(f'no case in tests/damage.py for the places of {leaf.name}: {leaf.others}')
+    return leaf.places
+
+
+def member_parts(indices, fields):
+    """How many type indices, numeric leaves and names a member has."""
+    numerics, names = zip(*(entry_of(FIELDS, field) for field in fields.split(', ')))
+    return int(re.sub('^none', '0', indices).partition(':')[0]), sum(numerics), sum(names)
+
+
+# The fixed places of each leaf: offsets in its body at which there is a type index.
+LEAVES = {leaf.kind: fixed_places(leaf) for leaf in leaves()}
 KINDS = list(LEAVES)
 # The parts of each member after its first four bytes: how many type indices, numeric leaves and names.
-MEMBERS = {
-    0x1400: (1, 1, 0), 0x1401: (2, 2, 0), 0x1402: (2, 2, 0), 0x1404: (1, 0, 0), 0x1409: (1, 0, 0), 0x1502: (0, 1, 1), 0x150D: (1, 1, 1),
-    0x150E: (1, 0, 1), 0x150F: (1, 0, 1), 0x1510: (1, 0, 1), 0x1511: (1, 0, 1), 0x151A: (1, 1, 0),
-}
+MEMBERS = {int(kind, 16): member_parts(indices, fields)
+           for _, kind, indices, fields in format_rows('Members of a field list')}
 # How many bytes follow the kind of a numeric leaf.
-NUMERICS = {0x8000: 1, 0x8001: 2, 0x8002: 2, 0x8003: 4, 0x8004: 4, 0x8009: 8, 0x800A: 8}
+NUMERICS = {int(kind, 16): int(size)
+            for kinds, size in format_rows('Numeric leaves') for kind in re.findall(r' (0x\w+)', kinds)}
 # How many bytes of records fit in a file with the smallest blocks.
 ROOM = {512: 8_384_968, 1024: 67_101_640, 2048: 536_856_520}
 

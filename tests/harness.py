@@ -1,6 +1,7 @@
-"""What the scripts that run the program share: their command line, the program, its runs, the checks of what
-came, and the containers of PDB files."""
-import hashlib, itertools, os, pathlib, struct, subprocess, sys, tempfile
+"""What the scripts that run the program share: their command line, the program, its runs and its commands, the
+checks of what came, and the containers of PDB files."""
+import csv, functools, hashlib, itertools, os, pathlib, re, resource, shutil, struct, subprocess, sys, tempfile
+from typing import NamedTuple
 
 ROOT = pathlib.Path(__file__).resolve().parent.parent
 sys.path.append(str(ROOT / 'tools'))
@@ -58,6 +59,15 @@ def run_in_one(*words, **settings):
     return run(*words, stderr=subprocess.STDOUT, **settings)[:2]
 
 
+# Little memory for a run.
+LOW_MEMORY = 64 << 20
+
+
+def limited(size):
+    """What gives a new process so much address space."""
+    return lambda: resource.setrlimit(resource.RLIMIT_AS, (size, size))
+
+
 def failing_library(folder):
     """Compiles tests/failing.c into a folder. Returns the library that lets a call of a process fail."""
     library = pathlib.Path(folder) / 'failing.so'
@@ -75,6 +85,113 @@ def sum_of(path):
     """The SHA-256 of a file, or None where there is no file."""
     data = content(path)
     return None if data is None else hashlib.sha256(data).hexdigest()
+
+
+# ---- The commands of the program
+
+# The arguments of commands that are files to read, and what stands for each other argument and required option.
+INPUTS = ('FILE', 'A', 'B', 'IN')
+VALUES = {'OUT': 'out.pdb', 'INDEX': '0x1000', 'N': '2', '--guid': GUID_TEXT, '--age': AGE}
+# The commands that do not read one file and show something of it.
+OTHERS = ('merge', 'diff', 'explain')
+
+
+def help_part(text, head):
+    """The lines of a help text below a head."""
+    found = re.search(rf'^{head}:\n((?:  .*\n)+)', text, re.MULTILINE)
+    return found[1] if found else ''
+
+
+def usage_of(command):
+    """The required options and the arguments of a command, as the usage in its help has them."""
+    text = run(program(), command, '--help')[1]
+    text = re.search(rf'^Usage: pdbmerge {command} \[OPTIONS\] (.*)$', text, re.MULTILINE)
+    if not text:
+        refuse(f'the help of the command {command} has no usage')
+    return [option or argument for option, argument in re.findall(r'(--[a-z-]+) <\w+>|[<[](\w+)[]>]', text[1])]
+
+
+@functools.cache
+def commands():
+    """Each command that the help of the program lists, but `help`, with its required options and its arguments."""
+    names = re.findall(r'^  ([a-z]+) ', help_part(run(program(), '--help')[1], 'Commands'), re.MULTILINE)
+    if 'help' not in names or len(names) < 2:
+        refuse(f'the help of {program()} lists no commands')
+    return {name: usage_of(name) for name in names if name != 'help'}
+
+
+@functools.cache
+def shown_commands():
+    """The commands that read one file and show something of it. Where a command does neither that nor is one of
+    OTHERS, no script has runs of it, and the script ends."""
+    shown = [name for name, arguments in commands().items() if 'FILE' in arguments]
+    for name in commands():
+        entry_of(dict.fromkeys([*shown, *OTHERS]), name)
+    return shown
+
+
+def words_of(command, *files):
+    """The words of a run of a command. Its arguments that are files are these, one after the other, and from the
+    last one on always that one; IN are all of them."""
+    words, left = [command], list(files)
+    for argument in commands()[command]:
+        if argument == 'IN':
+            words += files
+        elif argument in INPUTS:
+            words.append(left.pop(0) if len(left) > 1 else left[0])
+        elif argument in VALUES:
+            words += [argument] * argument.startswith('--') + [VALUES[argument]]
+        else:
+            refuse(f'the command {command} takes {argument}, for which VALUES has no word')
+    return words
+
+
+def lines_on(*files):
+    """The words of each command that reads files, on these, by its name."""
+    return {name: words_of(name, *files) for name, arguments in commands().items() if {*INPUTS} & {*arguments}}
+
+
+def entry_of(cases, name):
+    """What a table of a script has for a command, or for another name. Where it has nothing, the script ends."""
+    if name not in cases:
+        refuse(f'no case for: {name}')
+    return cases[name]
+
+
+def last_fault():
+    """The greatest number of a fault, by the help of the program."""
+    told = re.search(r'<N> .* from 1 to (\d+)$', run(program(), 'explain', '--help')[1], re.MULTILINE)
+    return int(told[1]) if told else refuse('the help of explain tells no number of a fault')
+
+
+# ---- The tables of docs/FORMAT.md
+
+def format_rows(heading):
+    """The cells of each row of the table below a heading of docs/FORMAT.md, where a row begins with the name of a
+    leaf, of a member or of a kind of number."""
+    part = (ROOT / 'docs' / 'FORMAT.md').read_text().partition(f'\n### {heading} (')[2].partition('\n### ')[0]
+    rows = [[cell.strip() for cell in row.split(' | ')] for row in re.findall(r'^\| (LF_.*)\|$', part, re.MULTILINE)]
+    return rows or refuse(f'docs/FORMAT.md has no table below the heading {heading}')
+
+
+class Leaf(NamedTuple):
+    """A leaf of docs/FORMAT.md: its places that are always there, what is said of others, and where its name is."""
+    name: str
+    kind: int
+    places: tuple
+    others: str
+    naming: str
+
+
+def leaves():
+    """The leaves of docs/FORMAT.md."""
+    found = []
+    for names, kinds, text, naming in format_rows('Leaves'):
+        fixed, others = re.fullmatch(r'(none|\d+(?:, \d+)*|)(.*)', text).groups()
+        places = tuple(map(int, re.findall(r'\d+', fixed)))
+        pairs = zip(names.split(', '), kinds.split(', '), strict=True)
+        found += [Leaf(name, int(kind, 16), places, others, naming) for name, kind in pairs]
+    return found
 
 
 # ---- Checks
@@ -154,6 +271,97 @@ def main(doc, noun, *parts):
         for part in parts:
             part(runs)
     runs.end(noun)
+
+
+# ---- Refusals
+
+# What is said of a word that a command can't use.
+WRONG_WORD = 'pdbmerge: wrong word\n'
+
+
+def told(fault):
+    """What standard error has of a fault."""
+    return f'pdbmerge: {fault}\n'
+
+
+def number_of(line):
+    """The number of the fault that a refusal names."""
+    return int(re.fullmatch(r'pdbmerge: (?:file \d+: )?(?:index 0x[0-9a-f]+: )?(\d+) .*\n', line)[1])
+
+
+def quoted(path):
+    """A path as it is told: in quotes. The quote, the backslash and each byte that is not printable ASCII are
+    written by their numbers."""
+    plain = lambda byte: 0x20 <= byte <= 0x7E and byte not in b'"\\'
+    return '"' + ''.join(chr(byte) if plain(byte) else f'\\x{byte:02x}' for byte in path.encode()) + '"'
+
+
+def more(line, paths=(), refused_list=None):
+    """The lines that -v adds to a refusal: of an input, where the inputs have these paths, or of this list."""
+    counted = re.match(r'pdbmerge: file (\d+): ', line)
+    named = f'file {counted[1]} is {quoted(paths[int(counted[1])])}\n' if counted else ''
+    listed = '' if refused_list is None else f'LIST is {quoted(refused_list)}\n'
+    return f'{listed}{named}pdbmerge explain {number_of(line)} says more\n'
+
+
+def hold_refusal(runs, what, error, given, **settings):
+    """Holds a refused run to all that it writes to standard error."""
+    runs.hold(f'{what}: {" ".join(given)}', runs.run(*given, **settings), (1, '', error, None))
+
+
+def says_more(runs, what, line, paths, command, *others, refused_list=None, **settings):
+    """Holds a refusal to its line, and with -v to the lines that follow it."""
+    verbose = line + more(line, paths, refused_list)
+    hold_refusal(runs, what, line, [command, *others], **settings)
+    for given in [command, '-v', *others], [command, '--verbose', *others], [command, *others, '-v']:
+        hold_refusal(runs, what, verbose, given, **settings)
+
+
+def wants(runs, what, wanted, command, *others):
+    """Holds a wrong word to its line, and with -v to the line that says what is wanted there."""
+    for option in '-v', '--verbose':
+        answer = runs.run(command, option, *others)
+        runs.hold(f'{what}: {command} {option}', answer, (2, '', f'{WRONG_WORD}{wanted}\n', None))
+    runs.hold(f'{what}: {command}', runs.run(command, *others), (2, '', WRONG_WORD, None))
+    answer = runs.run(command, *others, '-v')
+    runs.hold(f'{what}: {command} .. -v', answer, (2, '', f'{WRONG_WORD}{wanted}\n', None))
+
+
+def refused_by_parser(runs, first, *given):
+    """Holds arguments that the parser refuses to the first line of its text."""
+    status, text, error, file = runs.run(*given)
+    what = ' '.join(given)
+    runs.hold(what, (status, text, error.partition('\n')[0], file), (2, '', first, None))
+    runs.hold(f'{what}: no more lines', 'wants' in error or 'says more' in error, False)
+
+
+# ---- The examples, and merges of them
+
+# A merge whose GUID is made of its types, up to its age.
+BY_TYPES = ['merge', '--guid', 'types', '--age']
+# Three files of examples that are merged.
+LISTED = ('plain.pdb', 'memptr.pdb', 'sample.pdb')
+
+
+def table_rows(folder):
+    """The rows of the table of a folder: inputs, command, status and answer."""
+    with open(folder / 'EXPECTED.tsv', newline='') as file:
+        head, *rows = csv.reader(file, delimiter='\t', quoting=csv.QUOTE_NONE)
+    if head != ['input', 'command', 'status', 'answer']:
+        refuse(f'{folder}/EXPECTED.tsv has the head {head}')
+    return rows
+
+
+def copy_examples(runs, names):
+    """Copies files of examples. Returns their names."""
+    for name in names:
+        shutil.copy(EXAMPLES / name, runs.folder / name)
+    return list(names)
+
+
+def report_of(file, records):
+    """What a merge prints of its file."""
+    return f'types {len(records)}\nbytes {len(b"".join(records))}\nfile {len(file)}\n'
 
 
 # ---- Containers

@@ -52,3 +52,13 @@ def written(records, block=4096):
     """The file that `merge` writes for these records, if they are in canonical order. In any order
     it is a file that holds them."""
     return container([b'', info(), types(records), b'', b''], block)
+
+
+# The records of the file that is merged and shown where nothing is to be refused.
+TO_INT = pointer(0x74)
+GOOD_RECORDS = [CONST, TO_INT]
+
+
+def put_good(runs):
+    """Makes the small file that is merged and shown, where nothing is to be refused."""
+    return runs.put('good.pdb', written(GOOD_RECORDS))

@@ -1,5 +1,5 @@
 -- Lists of paths, line by line.
-use Rattle.std.proofs.Common.{◌≡◌, ◌++◌, [], ◌∷◌, ℕ, List, refl}
+use Rattle.std.proofs.Common.{◌++◌, [], ◌∷◌, ℕ, List, refl}
 use Rattle.std.specs.Prelude.{◌≢◌}
 use Rattle.command_line.specs.List.{BeginsWithLine, Leads}
 

@@ -4,9 +4,9 @@ ghost use Rattle.std.specs.Prelude.{◌≡◌, [], false};
 
 use crate::fault::{LineFault, WrongWord};
 use crate::index::read_index;
-use crate::words::program;
+use crate::words::{Kind, ShownCommand, What, command_named, program};
 use clap::ArgMatches;
-use fault_pages::{Page, page_of};
+use fault_pages::{Page, last, page_of};
 use pdb_commands::{Scope, Shown};
 use pdb_info::Settings;
 use std::alloc::{AllocError, Global};
@@ -23,6 +23,9 @@ const BLOCK_SIZE: u32 = 4096;
 
 /// What `--guid` takes.
 const GUID: &str = "a GUID, as 00112233-4455-6677-8899-aabbccddeeff, or the word types";
+
+/// What `explain` takes.
+const PAGE_NUMBER: &str = last!("the number of a fault, from 1 to ");
 
 /// The greatest number of bytes of a file or a stream where the arguments give none: no limit.
 const MAX_BYTES: u32 = u32::MAX;
@@ -249,18 +252,14 @@ fn compared_of(alloc: Global, arguments: &ArgMatches<'_>) -> Result<Vec<String>,
     Ok(files)
 }
 
-/// What the command with this name shows of a file.
-fn shown_of(name: &str, arguments: &ArgMatches<'_>) -> Result<Shown, LineFault> {
-    match name {
-        "records" => Ok(Shown::Records),
-        "record" => match arguments.get_str("INDEX").and_then(read_index) {
+/// What a command shows of a file.
+fn shown_of(command: &ShownCommand, arguments: &ArgMatches<'_>) -> Result<Shown, LineFault> {
+    match command.what {
+        What::Whole(shown) => Ok(shown),
+        What::Record => match arguments.get_str("INDEX").and_then(read_index) {
             Some(index) => Ok(Shown::Record(index)),
             None => Err(wrong(arguments, "INDEX", "a type index, as 0x1000")),
         },
-        "types" => Ok(Shown::Types),
-        "check" => Ok(Shown::Check),
-        "streams" => Ok(Shown::Streams),
-        _ => Ok(Shown::Info),
     }
 }
 
@@ -268,14 +267,14 @@ fn shown_of(name: &str, arguments: &ArgMatches<'_>) -> Result<Shown, LineFault> 
 fn page_in(arguments: &ArgMatches<'_>) -> Result<Page, LineFault> {
     let number = arguments.get_str("N").and_then(|word| word.parse().ok());
     let page = number.and_then(page_of);
-    page.ok_or(wrong(arguments, "N", "the number of a fault, from 1 to 41"))
+    page.ok_or(wrong(arguments, "N", PAGE_NUMBER))
 }
 
 /// What the command with this name is asked for.
 fn task_of(alloc: Global, name: &str, arguments: &ArgMatches<'_>) -> Result<Task, LineFault> {
-    match name {
-        "merge" => Ok(Task::Merge(merging_of(alloc, arguments)?)),
-        "diff" => Ok(Task::Diff {
+    match command_named(name) {
+        Some(Kind::Merge) => Ok(Task::Merge(merging_of(alloc, arguments)?)),
+        Some(Kind::Diff) => Ok(Task::Diff {
             scope: if arguments.get_flag("origins") {
                 Scope::Origins
             } else {
@@ -284,12 +283,14 @@ fn task_of(alloc: Global, name: &str, arguments: &ArgMatches<'_>) -> Result<Task
             files: compared_of(alloc, arguments)?,
             max_bytes: max_bytes_of(arguments)?,
         }),
-        "explain" => Ok(Task::Explain(page_in(arguments)?)),
-        _ => Ok(Task::Show {
-            shown: shown_of(name, arguments)?,
+        Some(Kind::Show(command)) => Ok(Task::Show {
+            shown: shown_of(command, arguments)?,
             file: argument_of(alloc, arguments, "FILE")?,
             max_bytes: max_bytes_of(arguments)?,
         }),
+        Some(Kind::Explain) => Ok(Task::Explain(page_in(arguments)?)),
+        // The parser takes the names of these commands alone.
+        None => Err(LineFault::Word(None)),
     }
 }
 

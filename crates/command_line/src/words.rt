@@ -1,11 +1,22 @@
 //! The words of the command line: commands, options and arguments, and their help.
 
 use clap::{Arg, ArgAction, Command};
+use fault_pages::last;
+use pdb_commands::Shown;
 use std::alloc::{AllocError, Global};
 
 /// The head of the help text.
 const ABOUT: &str =
     "pdbmerge 0.1.0: merges the types of Program Database (PDB) files, and shows what files hold";
+
+/// The name of the command that merges.
+const MERGE_NAME: &str = "merge";
+
+/// The name of the command that compares.
+const DIFF_NAME: &str = "diff";
+
+/// The name of the command that says what a fault means.
+const EXPLAIN_NAME: &str = "explain";
 
 /// What `merge` does.
 const MERGE: &str = "Merges the types of files into one: the same types give the same bytes";
@@ -17,18 +28,43 @@ const DIFF: &str =
 /// What `explain` does.
 const EXPLAIN: &str = "Shows what a fault means, what makes it, and what to do";
 
+/// What `explain` takes.
+const PAGE_NUMBER: &str = last!("The number of the fault, from 1 to ");
+
+/// What a command shows of a file.
+pub enum What {
+    /// This, which needs no argument but the file.
+    Whole(Shown),
+    /// The record whose type index is the argument after the file.
+    Record,
+}
+
 /// A command that reads one file and shows something of it.
-struct ShownCommand {
+pub struct ShownCommand {
     name: &'static str,
     about: &'static str,
+    /// What it shows.
+    pub what: What,
 }
 
 /// A command of the program.
-enum Kind {
+pub enum Kind {
     Merge,
     Diff,
     Show(ShownCommand),
     Explain,
+}
+
+impl Kind {
+    /// The word of the line that names the command.
+    fn name(&self) -> &'static str {
+        match self {
+            Kind::Merge => MERGE_NAME,
+            Kind::Diff => DIFF_NAME,
+            Kind::Show(shown) => shown.name,
+            Kind::Explain => EXPLAIN_NAME,
+        }
+    }
 }
 
 /// The commands, in the order of the help.
@@ -38,29 +74,45 @@ static SUBCOMMANDS: [Kind; 9] = [
     Kind::Show(ShownCommand {
         name: "records",
         about: "Shows each type record: its type index, its kind, its size in bytes",
+        what: What::Whole(Shown::Records),
     }),
     Kind::Show(ShownCommand {
         name: "record",
         about: "Shows one type record: its bytes, what it names, what it is called",
+        what: What::Record,
     }),
     Kind::Show(ShownCommand {
         name: "types",
         about: "Shows each type record: its leaf, its size, the types that it names, its name",
+        what: What::Whole(Shown::Types),
     }),
     Kind::Show(ShownCommand {
         name: "check",
         about: "Shows whether the types of a file can be trusted, and how many there are",
+        what: What::Whole(Shown::Check),
     }),
     Kind::Show(ShownCommand {
         name: "streams",
         about: "Shows the container: its blocks, and each stream with its size and blocks",
+        what: What::Whole(Shown::Streams),
     }),
     Kind::Show(ShownCommand {
         name: "info",
         about: "Shows what identifies the file: version, signature, age, GUID, named streams, feature codes",
+        what: What::Whole(Shown::Info),
     }),
     Kind::Explain,
 ];
+
+/// The command with this name, if there is one.
+pub fn command_named(name: &str) -> Option<&'static Kind> {
+    for which in &SUBCOMMANDS {
+        if which.name() == name {
+            return Some(which);
+        }
+    }
+    None
+}
 
 /// An option: one that takes a value, or one that does not.
 struct Choice {
@@ -243,20 +295,24 @@ fn command<'a>(
 fn with_file<'a>(
     alloc: Global,
     command: Command<'a>,
-    has_index: bool,
+    what: &What,
 ) -> Result<Command<'a>, AllocError> {
     let command = command.arg(path(alloc, "FILE", "The PDB file to read"))?;
-    if !has_index {
-        return Ok(command);
+    match what {
+        What::Whole(_) => Ok(command),
+        What::Record => command.arg(path(
+            alloc,
+            "INDEX",
+            "The type index of the record, as 0x1000",
+        )),
     }
-    command.arg(path(alloc, "INDEX", "The type index of the record, as 0x1000"))
 }
 
 /// A command that reads one file and shows something of it.
 #[inline(never)]
 fn showing<'a>(alloc: Global, shown: &'a ShownCommand) -> Result<Command<'a>, AllocError> {
     let command = command(alloc, shown.name, shown.about, &OF_SHOWN, STATUSES)?;
-    with_file(alloc, command, shown.name == "record")
+    with_file(alloc, command, &shown.what)
 }
 
 /// The command that merges, with its arguments.
@@ -269,7 +325,7 @@ fn with_inputs<'a>(alloc: Global, command: Command<'a>) -> Result<Command<'a>, A
 /// The command that reads files and writes one file with their types.
 #[inline(never)]
 fn merging<'a>(alloc: Global) -> Result<Command<'a>, AllocError> {
-    let command = command(alloc, "merge", MERGE, &OF_MERGE, MERGE_STATUSES)?;
+    let command = command(alloc, MERGE_NAME, MERGE, &OF_MERGE, MERGE_STATUSES)?;
     with_inputs(alloc, command)
 }
 
@@ -291,15 +347,15 @@ fn with_files<'a>(alloc: Global, command: Command<'a>) -> Result<Command<'a>, Al
 /// The command that shows the types that only one of two files has.
 #[inline(never)]
 fn differing<'a>(alloc: Global) -> Result<Command<'a>, AllocError> {
-    let command = command(alloc, "diff", DIFF, &OF_DIFF, DIFF_STATUSES)?;
+    let command = command(alloc, DIFF_NAME, DIFF, &OF_DIFF, DIFF_STATUSES)?;
     with_files(alloc, command)
 }
 
 /// The command that says what a fault means.
 #[inline(never)]
 fn explaining<'a>(alloc: Global) -> Result<Command<'a>, AllocError> {
-    let command = command(alloc, "explain", EXPLAIN, &OF_EXPLAIN, STATUSES)?;
-    command.arg(path(alloc, "N", "The number of the fault, from 1 to 41"))
+    let command = command(alloc, EXPLAIN_NAME, EXPLAIN, &OF_EXPLAIN, STATUSES)?;
+    command.arg(path(alloc, "N", PAGE_NUMBER))
 }
 
 /// A command of the program.

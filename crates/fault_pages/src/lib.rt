@@ -3,7 +3,7 @@
 //! [`page_of`] gives the [`Page`] of a fault by its number. `pdbmerge explain` prints it, and
 //! docs/FAULTS.md has the same texts.
 //!
-//! What is proved: there is a page for each number from 1 to 41, and for no other, and it says this
+//! What is proved: there is a page for each number from 1 to [`LAST`], and for no other, and it says this
 //! number. That the texts are right is not proved.
 //!
 //! # Example
@@ -30,17 +30,26 @@ ghost use Rattle.std.specs.Prelude.{◌≡◌, ◌↔◌, ◌≤◌, IfSome, IsS
 
 pub use page::Page;
 
+/// The number [`LAST`] as a literal; with a text, that text and the number behind it.
+#[macro_export]
+macro_rules! last {
+    (@ $number:literal) => { $number };
+    (@ $number:literal $text:literal) => { concat!($text, $number) };
+    ($($text:literal)?) => { $crate::last!(@ 41 $($text)?) };
+}
+
+/// The greatest number of a fault. The numbers begin with 1, and none is left out.
+pub const LAST: u32 = last!();
+
 /// What is said of the fault that has this number. `None` where no fault has it: the numbers go from
-/// 1 to 41.
+/// 1 to [`LAST`].
 pub fn page_of(number: u32) -> Option<Page>
     ensures value { IfSome result (λ page. page.number ≡ number) }
-    ensures some { IsSome result ↔ ((1 ≤ number) × (number ≤ 41)) }
+    ensures some { IsSome result ↔ ((1 ≤ number) × (number ≤ LAST)) }
 {
-    match number {
-        0..=10 => container::page(number),
-        11..=15 => streams::page(number),
-        16..=24 => records::page(number),
-        25..=31 => leaves::page(number),
-        _ => doing::page(number),
-    }
+    let page = container::page(number);
+    let page = page.or(streams::page(number));
+    let page = page.or(records::page(number));
+    let page = page.or(leaves::page(number));
+    page.or(doing::page(number))
 }

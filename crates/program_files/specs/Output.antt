@@ -16,6 +16,12 @@ TakesIfCreated Absent count = count ≡ 0
 TakesIfCreated (Created out) count = Unit {0}
 TakesIfCreated Refused count = count ≡ 0
 
+-- the file was created
+abbrev pub IsCreated : {F : Type 0} → State F → Type 0
+IsCreated Absent = ⊥
+IsCreated (Created out) = Unit {0}
+IsCreated Refused = ⊥
+
 -- the file could not be created
 abbrev pub IsUncreated : {F : Type 0} → State F → Type 0
 IsUncreated Absent = ⊥

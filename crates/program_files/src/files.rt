@@ -1,10 +1,10 @@
 //! Files that are opened to be read.
 
-ghost use Rattle.std.specs.Prelude.{◌≡◌, ◌↔◌, ◌<◌, ◌≤◌, IsTrue, IfSome, IfNone, length, take, None, true, false};
+ghost use Rattle.std.specs.Prelude.{◌≡◌, ◌↔◌, ◌<◌, ◌≤◌, IsTrue, IfSome, IfNone, IfOk, IfErr, length, take, None, true, false};
 ghost use Rattle.std.specs.Io.KnownBytes.{Consumes, IsAtEnd};
-ghost use Rattle.program_files.specs.Files.{GivesIfOpened, IsUnopened};
+ghost use Rattle.program_files.specs.Files.{GivesIfOpened, IsOpeningFault, IsUnopened, IsWithin};
 
-use byte_io::{In, InputFault, ReadFault, Seeking, Source};
+use byte_io::{In, InputFault, ReadAt, ReadFault, Seeking, Source};
 use std::fs::OpenFile;
 use std::rt::Files;
 use std::{fmt, fs};
@@ -33,7 +33,10 @@ pub fn open_told<R: Files>(
     rt: &R,
     path: &str,
     limit: u32,
-) -> Result<(R::File, Option<u64>), InputFault> {
+) -> Result<(R::File, Option<u64>), InputFault>
+    ensures length { IfOk result (λ opened. IfSome opened.1 (λ told. told ≤ limit)) }
+    ensures fault { IfErr result IsOpeningFault }
+{
     let file = fs::open(rt, path).map_err(|_| InputFault::Open)?;
     let length = regular_length(&file);
     if u64::from(limit) < length.unwrap_or(0) {
@@ -43,11 +46,11 @@ pub fn open_told<R: Files>(
 }
 
 /// Opens a file to read it as far as that is needed. The faults are those of [`open_told`].
-pub fn open_within<R: Files>(
-    rt: &R,
-    path: &str,
-    limit: u32,
-) -> Result<Reading<R::File>, InputFault> {
+pub fn open_within<R: Files>(rt: &R, path: &str, limit: u32) -> Result<Reading<R::File>, InputFault>
+    ensures within { IfOk result
+        (IsWithin (λ file. (⟦<Seeking<R::File> as ReadAt>⟧.bytes file).told) limit) }
+    ensures fault { IfErr result IsOpeningFault }
+{
     match open_told(rt, path, limit)? {
         (file, Some(length)) if 0 < length => Ok(Reading::At(Seeking::new(file, length))),
         (file, _) => Ok(Reading::Whole(file)),

@@ -1,8 +1,8 @@
 //! The file that the program writes.
 
-ghost use Rattle.std.specs.Prelude.{◌≡◌, ◌↔◌, ◌<◌, ◌≤◌, IsTrue, length, take, true, false};
+ghost use Rattle.std.specs.Prelude.{◌≡◌, ◌↔◌, ◌<◌, ◌≤◌, IsTrue, IfErr, length, take, true, false};
 ghost use Rattle.std.specs.Io.KnownBytes.{Appends, Keeps};
-ghost use Rattle.program_files.specs.Output.{IsUncreated, TakesIfCreated, taken_of};
+ghost use Rattle.program_files.specs.Output.{IsCreated, IsUncreated, TakesIfCreated, taken_of};
 
 use byte_io::{NotTaken, Out, Sink};
 use std::fs::OpenFile;
@@ -67,7 +67,9 @@ impl<'a, R: Files> NewFile<'a, R> {
 
     /// Waits until the system has stored the file. `NotTaken` where the system could not store it:
     /// no write shows this where a disk is across a network.
-    pub fn store(&self) -> Result<(), NotTaken> {
+    pub fn store(&self) -> Result<(), NotTaken>
+        ensures { IfErr result (λ _. IsCreated self.now.state) }
+    {
         match &self.state {
             State::Created(out) => store(out.writer()),
             _ => Ok(()),

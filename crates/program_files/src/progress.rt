@@ -1,5 +1,7 @@
 //! How many of the inputs were read.
 
+ghost use Rattle.std.specs.Prelude.{◌≡◌};
+
 use std::cell::Cell;
 use std::fmt;
 use std::io::Eprint;
@@ -26,7 +28,9 @@ impl<R> fmt::Debug for Progress<'_, R> {
 
 impl<'a, R: Clock + Eprint> Progress<'a, R> {
     /// Nothing of this many inputs was told yet.
-    pub fn new(rt: &'a R, count: usize) -> Progress<'a, R> {
+    pub fn new(rt: &'a R, count: usize) -> Progress<'a, R>
+        ensures { result.count ≡ count }
+    {
         Progress {
             rt,
             count,

@@ -14,16 +14,12 @@ enum {
     DIFFERENT = 3            /* the status of `diff` where two files differ */
 };
 
-/* The leaves of docs/FORMAT.md. */
+/* The leaves of docs/FORMAT.md: tests/library makes leaves.h of its table. */
 static const struct {
     unsigned kind;
     const char *name;
 } LEAVES[] = {
-    {0x000A, "LF_VTSHAPE"},   {0x000E, "LF_LABEL"},      {0x1001, "LF_MODIFIER"},  {0x1002, "LF_POINTER"},
-    {0x1008, "LF_PROCEDURE"}, {0x1009, "LF_MFUNCTION"},  {0x1201, "LF_ARGLIST"},   {0x1203, "LF_FIELDLIST"},
-    {0x1205, "LF_BITFIELD"},  {0x1206, "LF_METHODLIST"}, {0x1503, "LF_ARRAY"},     {0x1504, "LF_CLASS"},
-    {0x1505, "LF_STRUCTURE"}, {0x1506, "LF_UNION"},      {0x1507, "LF_ENUM"},      {0x1519, "LF_INTERFACE"},
-    {0x151D, "LF_VFTABLE"},
+#include "leaves.h"
 };
 
 /* The words of a command. */
