@@ -1,6 +1,6 @@
 //! Bytes that are read by position.
 
-ghost use Rattle.std.specs.Prelude.{◌≡◌, ◌⊎◌, ◌+◌, ◌<◌, ◌≤◌, ◌^◌, ◌++◌, ◌↔◌, ℕ, List, Option, Some, None, Bool, true, false, IsTrue, length, take, drop, get_or, OnOk, IfErr, IfSome, IfNone};
+ghost use Rattle.std.specs.Prelude.{◌≡◌, ◌⊎◌, ◌+◌, ◌<◌, ◌≤◌, ◌++◌, ◌↔◌, ℕ, Option, Some, None, Bool, true, false, IsTrue, length, take, drop, get_or, OnOk, IfErr, IfSome, IfNone};
 ghost use Rattle.byte_io.specs.At.{AreGiven, Breaks, Bytes, GivesBehind, IfKnown, StandsAt, stable, unknown};
 ghost use Rattle.byte_io.specs.declared.at.AtFault.TheVariants as at;
 

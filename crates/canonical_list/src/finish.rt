@@ -5,15 +5,15 @@
 //! of those of the table. The rows of a level are known as soon as the records of the lower levels
 //! have their numbers.
 
-ghost use Rattle.std.specs.Prelude.{◌≡◌, ◌≢◌, ◌⊎◌, ◌↔◌, ◌+◌, ◌-◌, ◌%◌, ◌^◌, ◌<◌, ◌≤◌, ◌++◌, [], ◌∷◌, ℕ, List, length, get_or, map, take, drop, IfOk, IfErr};
-ghost use Rattle.std.specs.List.{All, AllByRecursion, Contains, concat, range_with_len};
+ghost use Rattle.std.specs.Prelude.{◌≡◌, ◌+◌, ◌-◌, ◌%◌, ◌^◌, ◌<◌, ◌++◌, [], ◌∷◌, ℕ, List, length, get_or, map, IfOk};
+ghost use Rattle.std.specs.List.{All, Contains, concat, range_with_len};
 ghost use Rattle.std.specs.List.Sorted.{IsPermutation};
 ghost use Rattle.tpi_records.specs.Records.{IsRecord};
 ghost use Rattle.cv_leaves.specs.Place.{IsChecked};
 ghost use Rattle.cv_leaves.specs.References.{references};
 ghost use Rattle.closed_trees.specs.Depth.{AreDepths, HasDepths, HasLevels};
 ghost use Rattle.cv_leaves.specs.Named.{named_places};
-ghost use Rattle.closed_trees.specs.Tree.{Tree, IsType};
+ghost use Rattle.closed_trees.specs.Tree.{IsType};
 ghost use Rattle.closed_trees.specs.Table.{IsTable, AreNumbered, renumbered};
 ghost use Rattle.canonical_list.specs.Rows.{row, nths, row_bytes, row_positions, AreInOrder};
 ghost use Rattle.canonical_list.specs.Finish.{ListsBelow, AtLevel, Numbered, IsCanonOf};

@@ -1,6 +1,6 @@
 //! The rows of a level, each with the bytes by which it is sorted next.
 
-ghost use Rattle.std.specs.Prelude.{◌≡◌, ◌<◌, ◌+◌, ◌↔◌, ℕ, IsTrue, drop, get_or};
+ghost use Rattle.std.specs.Prelude.{◌≡◌, ◌<◌, ◌↔◌, ℕ, IsTrue, drop, get_or};
 ghost use Rattle.canonical_list.specs.Rows.{IsKeyed, AreTied, head, key};
 
 /// How many bytes the head and the key of a row are made of.

@@ -4,7 +4,7 @@
 //! stand in the rows as numbers, so that comparing two rows waits for no memory. Where this takes
 //! too many rounds, or few rows are left, the bytes of the rows are compared as they are.
 
-ghost use Rattle.std.specs.Prelude.{◌≡◌, [], ◌+◌, ◌*◌, ◌^◌, ◌<◌, ◌≤◌, ℕ, get_or, length, map, IfOk};
+ghost use Rattle.std.specs.Prelude.{◌≡◌, [], ◌+◌, ◌*◌, ◌^◌, ◌<◌, get_or, length, map, IfOk};
 ghost use Rattle.std.specs.List.{All};
 ghost use Rattle.std.specs.List.Sorted.{IsPermutation, IsNonDecreasingBy};
 ghost use Rattle.canonical_list.specs.declared.row.Row.{Row};

@@ -1,5 +1,5 @@
 -- The depth of a record, place by place, while its references are checked.
-use Rattle.std.proofs.Common.{◌≡◌, ◌≤◌, ◌<◌, ◌+◌, ◌-◌, ◌^◌, ℕ, suc, max, List, [], ◌∷◌, ◌++◌, Option, Some, None, map, length, take, drop, set, replicate, get_or, refl, ◌∙◌, sym, ap, arith}
+use Rattle.std.proofs.Common.{◌≡◌, ◌≤◌, ◌<◌, ◌+◌, ◌-◌, ◌^◌, ℕ, suc, max, List, [], ◌∷◌, ◌++◌, Option, Some, None, map, length, take, drop, replicate, get_or, refl, ◌∙◌, sym, ap, arith}
 use Rattle.std.specs.Prelude.{IfSome, Bool, true, false}
 use Rattle.std.specs.List.{AllByRecursion, range_with_len}
 use Rattle.std.proofs.lemmas.List.{append-nil, drop_all, drop_more, take_all}

@@ -1,6 +1,6 @@
 //! An order of records in which each comes after those that it names.
 
-ghost use Rattle.std.specs.Prelude.{◌≡◌, ◌+◌, ◌-◌, ◌≤◌, ◌<◌, ◌^◌, [], ℕ, List, length, get_or, map, drop, IfOk, IfErr};
+ghost use Rattle.std.specs.Prelude.{◌≡◌, ◌+◌, ◌-◌, ◌≤◌, ◌<◌, ◌^◌, [], ℕ, List, length, get_or, map, IfOk, IfErr};
 ghost use Rattle.std.specs.List.{All, AllByRecursion, range_with_len};
 ghost use Rattle.std.specs.Iterator.{YieldsFirst, item_count};
 ghost use Rattle.tpi_records.specs.Records.{IsRecord};

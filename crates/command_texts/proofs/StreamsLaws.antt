@@ -1,9 +1,9 @@
 -- The lines of the streams of a container.
-use Rattle.std.proofs.Common.{◌≡◌, ℕ, zero, suc, ◌+◌, ◌<◌, ◌≤◌, List, [], ◌∷◌, ◌++◌, Option, Some, None, length, take, drop, inl, inr, refl, sym, ap, ◌∙◌, arith, append_assoc}
+use Rattle.std.proofs.Common.{◌≡◌, ℕ, zero, suc, ◌+◌, ◌<◌, List, [], ◌∷◌, ◌++◌, Option, Some, None, length, take, drop, inl, inr, refl, sym, ap, ◌∙◌, arith, append_assoc}
 use Rattle.std.specs.Prelude.{All, IfSome, unwrap_or, option_map}
 use Rattle.std.specs.Fmt.{decimal}
 use Rattle.std.specs.List.{flat_map, slice_get}
-use Rattle.std.proofs.lemmas.List.{append-nil, take_all, drop_all}
+use Rattle.std.proofs.lemmas.List.{append-nil, take_all}
 use Rattle.std.proofs.lemmas.List.Elements.{All-get_or}
 use Rattle.std.proofs.lemmas.Option.{slice_get_cases}
 use Rattle.msf_blocks.specs.BlockNumber.{blocks_for}
@@ -22,12 +22,6 @@ take_next {X = X} (y ∷ ys) f (suc k) x there =
     let one : suc k + 1 ≡ suc (k + 1) = omega arith in
     rw one (ap (λ (rest : List X). f y ++ rest) (take_next ys f k x there) ∙ sym (append_assoc (f y) (flat_map f (take k ys)) (f x)))
 
-take_past : (xs : List ℕ) (k count : ℕ) → slice_get xs k ≡ None → k ≤ count → take count xs ≡ take k xs
-take_past [] k count none le = take_all count [] (omega arith) ∙ sym (take_all k [] (omega arith))
-take_past (y ∷ ys) zero count none le = absurd cc
-take_past (y ∷ ys) (suc k) zero none le = absurd (omega arith)
-take_past (y ∷ ys) (suc k) (suc count) none le = ap (λ (rest : List ℕ). y ∷ rest) (take_past ys k count none (omega arith))
-
 listed_block : (stream : Option Listed) (k : ℕ) → block_in stream k ≡ slice_get (blocks_in stream) k
 listed_block None k = refl
 listed_block (Some stream) k = refl
@@ -38,11 +32,6 @@ pub blocks_more : (text new before : List ℕ) (stream : Option Listed) (k block
 blocks_more text new before stream k block there so_far added =
     let next = take_next (blocks_in stream) blank_number k block (sym (listed_block stream k) ∙ there) in
     added ∙ rw (so_far, next) (append_assoc before (flat_map blank_number (take k (blocks_in stream))) (blank_number block))
-
--- where the list ends, no blocks are left
-pub blocks_end : (text before : List ℕ) (stream : Option Listed) (k count : ℕ) → block_in stream k ≡ None → k ≤ count → text ≡ before ++ flat_map blank_number (take k (blocks_in stream))
-    → text ≡ before ++ flat_map blank_number (take count (blocks_in stream))
-blocks_end text before stream k count none le so_far = rw (take_past (blocks_in stream) k count (sym (listed_block stream k) ∙ none) le) so_far
 
 -- five parts that are appended one after the other
 pub five_parts : (t0 t1 t2 t3 t4 t5 a b c d e : List ℕ) → t1 ≡ t0 ++ a → t2 ≡ t1 ++ b → t3 ≡ t2 ++ c → t4 ≡ t3 ++ d → t5 ≡ t4 ++ e → t5 ≡ t0 ++ (a ++ b ++ c ++ d ++ e)
@@ -84,8 +73,3 @@ line_more streams s text new all below so_far added =
           rw more (append_assoc text (stream_line s stream) (stream_lines (s + 1) (drop (s + 1) streams))) ∙ before
       | inr (past, none) ↦ absurd (omega (arith, past))
     ]
-
--- all lines
-pub lines_all : (streams : List Listed) (s : ℕ) (text all : List ℕ) → length streams ≤ s → text ++ stream_lines s (drop s streams) ≡ all → text ≡ all
-unfolding stream_lines
-lines_all streams s text all past so_far = sym (append-nil text) ∙ rw (drop_all s streams past) at so_far

@@ -7,9 +7,10 @@ ghost use Rattle.type_difference.specs.Difference.{HaveStandings};
 ghost use Rattle.command_texts.specs.Difference.{IsSignedLine, AreLinesWhere, IsShown, ShowsStanding, ShowsDifference};
 
 use crate::types::push_type_line;
+use checked_types::Types;
 use std::alloc::{AllocError, Allocator};
 use tpi_records::FIRST_INDEX;
-use type_trees::{Difference, Standing, Types};
+use type_difference::{Difference, Standing};
 
 /// Which of the types that only one of two lists has are shown.
 #[derive(Clone, Copy, Debug, PartialEq, Eq)]

@@ -1,5 +1,5 @@
 -- The difference of two inputs: what its text tells, and why they are refused.
-use Rattle.std.proofs.Common.{◌≡◌, ◌<◌, ◌+◌, ◌↔◌, ◌==◌, ℕ, Bool, IsTrue, List, [], ◌∷◌, length, get_or, refl, sym, ap, ◌∙◌, subst, arith, inl, inr}
+use Rattle.std.proofs.Common.{◌≡◌, ◌+◌, ◌↔◌, ◌==◌, ℕ, Bool, IsTrue, List, [], ◌∷◌, length, get_or, refl, sym, ap, ◌∙◌, subst, arith, inl, inr}
 use Rattle.std.proofs.lemmas.Bool.{eqb-true, eq-eqb}
 use Rattle.std.proofs.lemmas.List.{nil_from_length}
 use Rattle.std.specs.Prelude.{◌≢◌, Option, Some, None, Result, IfSome}
@@ -86,16 +86,6 @@ empty_text text empty len said long = (
 )
 
 -- ---- two inputs
-
--- the first of two inputs is inside
-pub first_inside : (known : Option (List (Result (List ℕ) InputFault))) → IfSome known (λ each. length each ≡ 2) → IfSome known (λ each. 0 < length each)
-first_inside None two = tt
-first_inside (Some each) two = omega (arith, two)
-
--- so is the second
-pub second_inside : (known : Option (List (Result (List ℕ) InputFault))) → IfSome known (λ each. length each ≡ 2) → IfSome known (λ each. 1 < length each)
-second_inside None two = tt
-second_inside (Some each) two = omega (arith, two)
 
 -- all inputs are read, if two are
 pub both_read : (known : Option (List (Result (List ℕ) InputFault))) → IfSome known (λ each. length each ≡ 2) → IfSome known (λ each. CanRead each (1 + 1)) → IfSome known (λ each. CanRead each (length each))

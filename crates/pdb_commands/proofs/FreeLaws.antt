@@ -105,10 +105,6 @@ count_push_no marks =
     let here : get_or all (length marks) false ≡ false = rw end at (get_or-append-add marks (false ∷ []) 0 false) in
     rw (whole, front) at (count_by_more_no (λ mark. mark) all (length marks) false (omega (arith, long)) here)
 
--- no block was looked at
-pub none_free : (bytes : Bytes) (fields : Fields) → IsFreeCount bytes fields 0 0
-none_free bytes fields = record { marks = []; count = refl; given = λ block lt. absurd (omega (arith, lt)); free_is = refl }
-
 -- one more block is free
 pub one_free : (bytes : Bytes) (fields : Fields) (block free : ℕ) (mark : Bool) → IsFreeCount bytes fields block free → IsMark bytes fields block mark → mark ≡ true → IsFreeCount bytes fields (block + 1) (free + 1)
 one_free bytes fields block free mark before is set = record {

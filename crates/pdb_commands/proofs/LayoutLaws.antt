@@ -8,7 +8,7 @@ use Rattle.msf_blocks.specs.declared.fault.MsfFault.TheVariants as msf
 use Rattle.byte_fields.specs.Check.{Refuses, first_failing}
 use Rattle.msf_blocks.specs.Layout.{TextsRefuse, layout_checks}
 use Rattle.pdb_merge.specs.Fault.{pdb_from_msf}
-use Rattle.pdb_merge.specs.Read.{HasPdbFault}
+use Rattle.pdb_merge.specs.Read.{HasPdbFault, IsLayoutFault}
 use Rattle.pdb_merge.specs.declared.fault.PdbFault.{PdbFault}
 use Rattle.pdb_merge.specs.declared.fault.PdbFault.TheVariants as pdb
 use Rattle.pdb_commands.specs.Check.{RefusesCheck}
@@ -16,7 +16,8 @@ use Rattle.pdb_commands.specs.Fault.{run_from_pdb}
 use Rattle.pdb_commands.specs.Info.{RefusesInfoWithin}
 use Rattle.pdb_commands.specs.Record.{RefusesRecord}
 use Rattle.pdb_commands.specs.Records.{RefusesRecords}
-use Rattle.pdb_commands.specs.Streams.{HasLayoutFault, RefusesStreams, RefusesLayout}
+use Rattle.pdb_commands.specs.Streams.{RefusesStreams, RefusesLayout}
+use Rattle.pdb_merge.proofs.ReadLaws.{layout_refused}
 use Rattle.pdb_commands.specs.Types.{RefusesTypes}
 use Rattle.pdb_commands.specs.Shown.{ReadsTooLong, RefusesIt, RefusesWithin}
 use Rattle.pdb_commands.specs.declared.fault.RunFault.{RunFault}
@@ -24,15 +25,9 @@ use Rattle.pdb_commands.specs.declared.fault.RunFault.TheVariants.{Pdb, Memory}
 use Rattle.pdb_commands.specs.declared.shown.Shown.{Shown}
 use Rattle.pdb_commands.specs.declared.shown.Shown.TheVariants as shown
 
--- a fault of a layout that is read by position is one of the layout
-layout_refused : {A : Type 0} (file : List ℕ) (inner : MsfFault) (outer : PdbFault A) → outer ≡ pdb_from_msf inner → Refuses msf.Memory (first_failing (layout_checks file)) inner → HasLayoutFault file outer ⊎ (outer ≡ pdb.Memory)
-layout_refused file msf.Memory outer made refused = inr made
-layout_refused file inner outer made (inl first) = inl (rw made first)
-layout_refused file inner outer made (inr want) = inr (made ∙ ap pdb_from_msf want.0)
-
 -- what holds of each fault of the container holds of the refusal by it
 refused_by : {A : Type 0} (P : RunFault A → Type 0) (file : List ℕ) (inner : PdbFault A) (outer : RunFault A) → outer ≡ run_from_pdb inner
-    → ((fault : MsfFault) → first_failing (layout_checks file) ≡ Some fault → P (Pdb (pdb.Msf fault))) → HasLayoutFault file inner ⊎ (inner ≡ pdb.Memory) → P outer ⊎ (outer ≡ Memory)
+    → ((fault : MsfFault) → first_failing (layout_checks file) ≡ Some fault → P (Pdb (pdb.Msf fault))) → IsLayoutFault file inner ⊎ (inner ≡ pdb.Memory) → P outer ⊎ (outer ≡ Memory)
 refused_by P file (pdb.Msf fault) outer made each (inl first) = inl (rw made (each fault first))
 refused_by P file inner outer made each (inl first) = absurd first
 refused_by P file inner outer made each (inr want) = inr (made ∙ ap run_from_pdb want)

@@ -1,6 +1,6 @@
 -- The faults of merging.
-use Rattle.std.proofs.Common.{◌≡◌, ◌⊎◌, refl, ap, inl, inr}
-use Rattle.std.specs.Prelude.{Result, Ok, Err, IfErr}
+use Rattle.std.proofs.Common.{◌≡◌, refl, ap}
+use Rattle.std.specs.Prelude.{Result, Err}
 use Rattle.pdb_merge.specs.declared.fault.MergeFault.{MergeFault}
 use Rattle.pdb_merge.specs.declared.fault.MergeFault.TheVariants as merges
 use Rattle.pdb_merge.specs.declared.fault.OutFault.{OutFault}
@@ -9,7 +9,7 @@ use Rattle.pdb_merge.specs.Fault.{NamesFault}
 use Rattle.pdb_commands.specs.Fault.{run_from_out}
 use Rattle.pdb_commands.specs.Merge.{IsOfMerging}
 use Rattle.pdb_commands.specs.declared.fault.RunFault.{RunFault}
-use Rattle.pdb_commands.specs.declared.fault.RunFault.TheVariants.{Merge, Memory, Write}
+use Rattle.pdb_commands.specs.declared.fault.RunFault.TheVariants.{Merge, Write}
 
 one_inside : {A : Type 0} (a b : MergeFault A) → Merge a ≡ Merge b → a ≡ b
 one_inside a b same = cc
@@ -40,9 +40,3 @@ of_merging (outs.Merge (merges.TooLarge file bytes)) named = (λ memory. cc, tt)
 of_merging (outs.Merge merges.Memory) named = tt
 of_merging outs.Memory named = tt
 of_merging outs.Write named = tt
-
--- so is a fault of the report
-pub of_report : {T A : Type 0} (answer : Result T (RunFault A)) → IfErr answer (λ fault. (fault ≡ Memory) ⊎ (fault ≡ Write)) → IfErr answer IsOfMerging
-of_report (Ok value) is = tt
-of_report (Err fault) (inl is) = rw is tt
-of_report (Err fault) (inr is) = rw is tt

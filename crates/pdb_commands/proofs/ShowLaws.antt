@@ -1,8 +1,9 @@
 -- A command whose read by position failed.
-use Rattle.std.proofs.Common.{◌≡◌, ◌⊎◌, ℕ, ◌≤◌, Bool, List, Option, ap, inl, inr}
+use Rattle.std.proofs.Common.{◌≡◌, ◌⊎◌, ℕ, ◌-◌, ◌^◌, ◌≤◌, Bool, List, Option, arith, refl, ap, inl, inr}
 use Rattle.std.specs.Prelude.{Result, Ok, Err, IfErr}
 use Rattle.std.proofs.lemmas.Bool.{cases_lt}
 use Rattle.byte_io.specs.At.{Breaks, Bytes, IfKnown, IfOf}
+use Rattle.byte_io.specs.Input.{GivesAll}
 use Rattle.byte_io.specs.declared.at.AtFault.{AtFault}
 use Rattle.byte_io.specs.declared.at.AtFault.TheVariants as at
 use Rattle.byte_io.specs.declared.input.ReadFault.TheVariants as reads
@@ -10,7 +11,7 @@ use Rattle.msf_blocks.specs.Layout.{LayoutView, HasLongDirectory, TextsRefuse, T
 use Rattle.msf_blocks.specs.declared.fault.MsfFault.{MsfFault}
 use Rattle.msf_blocks.specs.declared.fault.WithinFault.{WithinFault}
 use Rattle.msf_blocks.specs.declared.fault.WithinFault.TheVariants as within
-use Rattle.pdb_commands.specs.Show.{Answers, AnswersAt, GivesRefused, IfOfFile, PrintsPart, RefusesBounded}
+use Rattle.pdb_commands.specs.Show.{Answers, AnswersAt, GivesRefused, IfOfFile, IsOfText, PrintsPart, RefusesBounded, ShowsBounded}
 use Rattle.pdb_commands.specs.declared.fault.RunFault.{RunFault}
 use Rattle.pdb_commands.specs.declared.fault.RunFault.TheVariants.{Read, Memory, Write}
 
@@ -85,3 +86,43 @@ answers_more Shows Shows' Refuses Refuses' limit left_before left_after broken t
   write = λ is. (let w = a.write is in (w.0, part_more Shows Shows' limit left_before left_after (taken before) (taken after) shows w.1));
   untouched = a.untouched;
 }
+
+-- ---- a file that was read, and of which no text is made
+
+pub text_refused : {A W T : Type 0} (Shows : List ℕ → List ℕ → Type 0)
+    (Refuses : List ℕ → RunFault A → Type 0) (limit : ℕ) (left_before left_after : Option (List ℕ))
+    (broken : Bool) (taken : W → Option (List ℕ)) (is_broken : W → Bool) (before : W)
+    (file : List ℕ) (fault : RunFault A) → GivesAll left_before left_after limit file
+    → Refuses file fault ⊎ (fault ≡ Memory) → IsOfText fault
+    → Answers {T = T} Shows Refuses limit left_before left_after broken taken is_broken before before
+    (Err fault)
+text_refused Shows Refuses limit left_before left_after broken taken is_broken before file (Read fault) gives is pure = absurd pure
+text_refused Shows Refuses limit left_before left_after broken taken is_broken before file Write gives is pure = absurd pure
+text_refused Shows Refuses limit left_before left_after broken taken is_broken before file Memory gives is pure = record {
+  value = tt;
+  read = tt;
+  first = tt;
+  memory = λ want. (file, gives.short, gives.came);
+  write = λ write. absurd cc;
+  untouched = inr refl;
+}
+text_refused Shows Refuses limit left_before left_after broken taken is_broken before file fault gives (inl refused) pure = record {
+  value = tt;
+  read = tt;
+  first = (file, gives, refused);
+  memory = λ want. (file, gives.short, gives.came);
+  write = λ write. absurd cc;
+  untouched = inr refl;
+}
+text_refused Shows Refuses limit left_before left_after broken taken is_broken before file fault gives (inr want) pure = absurd cc
+
+-- ---- the greatest number of four bytes is no limit on the directory
+
+pub shows_unbounded : (Shows : List ℕ → List ℕ → Type 0) (file text : List ℕ)
+    → ShowsBounded (2 ^ 32 - 1) Shows file text → Shows file text
+shows_unbounded Shows file text shows = shows.1
+
+pub refuses_unbounded : {A : Type 0} (Refuses : List ℕ → RunFault A → Type 0) (file : List ℕ)
+    (fault : RunFault A) → RefusesBounded (2 ^ 32 - 1) Refuses file fault → Refuses file fault
+refuses_unbounded Refuses file fault (inl (is, long)) = absurd (omega (arith, long.limited))
+refuses_unbounded Refuses file fault (inr (short, own)) = own

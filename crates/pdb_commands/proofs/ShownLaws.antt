@@ -5,18 +5,10 @@ use Rattle.byte_io.specs.At.{Bytes, IfKnown, IfOf}
 use Rattle.byte_io.specs.declared.at.AtFault.{AtFault}
 use Rattle.byte_io.specs.declared.at.AtFault.TheVariants as at
 use Rattle.msf_blocks.specs.Layout.{LayoutView}
-use Rattle.pdb_commands.specs.Record.{ShowsRecord}
 use Rattle.pdb_commands.specs.Shown.{HasLongStream, ListsLongStream, ReadsTooLong, ListsTooLong, ShowsIt, ShowsItRead, RefusesIt, RefusesItRead, ShowsWithin, ShowsWithinRead, RefusesWithin, RefusesWithinRead, stream_of}
 use Rattle.pdb_commands.specs.declared.fault.RunFault.{RunFault}
 use Rattle.pdb_commands.specs.declared.fault.RunFault.TheVariants.{Memory}
 use Rattle.pdb_commands.specs.declared.shown.Shown.{Shown}
-use Rattle.pdb_commands.specs.declared.shown.Shown.TheVariants.{Record}
-
--- the text of a record whose stream is within the limit
-pub record_within : {T F : Type 0} (bytes_of : T → List ℕ) (command : Shown) (limit index : ℕ) (file : List ℕ) (answer : Result T F) → command ≡ Record index
-    → (ReadsTooLong command limit file → ⊥) → IfOk answer (λ text. ShowsRecord index file (bytes_of text)) → IfOk answer (λ text. ShowsWithin command limit file (bytes_of text))
-record_within bytes_of command limit index file (Ok text) is short shows = (short, rw is shows)
-record_within bytes_of command limit index file (Err fault) is short shows = tt
 
 -- the stream that a command reads is the one that was held against the limit
 pub reads_short : {T F : Type 0} (answer : Result T F) (command : Shown) (limit s : ℕ) (file : List ℕ) → stream_of command ≡ Some s → OnOk answer (HasLongStream limit s file → ⊥) → OnOk answer (ReadsTooLong command limit file → ⊥)

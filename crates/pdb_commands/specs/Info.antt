@@ -7,10 +7,10 @@ use Rattle.msf_blocks.specs.Layout.{LayoutView, HasLayout}
 use Rattle.msf_streams.specs.Streams.{WasRead, stream_contents}
 use Rattle.msf_streams.specs.declared.fault.StreamFault.TheVariants.{NoStream}
 use Rattle.pdb_info.specs.Info.{InfoView, HasInfo, info_checks}
+use Rattle.pdb_merge.specs.Read.{IsLayoutFault}
 use Rattle.pdb_merge.specs.declared.fault.PdbFault.{PdbFault}
 use Rattle.pdb_merge.specs.declared.fault.PdbFault.TheVariants as pdb
 use Rattle.command_texts.specs.Info.{header_lines, name_line, feature_line}
-use Rattle.pdb_commands.specs.Streams.{HasLayoutFault}
 use Rattle.pdb_commands.specs.declared.fault.RunFault.{RunFault}
 use Rattle.pdb_commands.specs.declared.fault.RunFault.TheVariants.{Info, Pdb, TooLong}
 
@@ -70,7 +70,7 @@ IsInfoFault limit stream _ = ⊥
 -- this is the first fault of the file on the way to the bytes of its info stream: a fault of its layout, else that it has no stream 1
 abbrev pub HasNoInfoStream : {A : Type 0} → List ℕ → PdbFault A → Type 0
 HasNoInfoStream file (pdb.Stream fault) = (layout : LayoutView) × HasLayout file layout × (length layout.streams ≤ 1) × (fault ≡ NoStream 1)
-HasNoInfoStream file fault = HasLayoutFault file fault
+HasNoInfoStream file fault = IsLayoutFault file fault
 
 -- this is the first fault of the file on the way to its info stream: a fault of its layout, else that it has no stream 1, else a fault of that stream
 abbrev pub RefusesInfo : {A : Type 0} → List ℕ → RunFault A → Type 0

@@ -1,9 +1,13 @@
 -- What the command `merge` writes and reports.
-use Rattle.std.specs.Prelude.{ℕ, ◌≢◌, List, ◌++◌, Option, codes}
+use Rattle.std.specs.Prelude.{ℕ, ◌≡◌, ◌≢◌, ◌⊎◌, Bool, true, List, ◌++◌, Option, Result, Err, OnOk, IfErr, codes}
 use Rattle.std.specs.Io.KnownBytes.{Appends}
+use Rattle.byte_io.specs.Inputs.{Give}
+use Rattle.byte_io.specs.declared.inputs.InputFault.{InputFault}
 use Rattle.msf_streams.specs.Put.{AppendsPart}
+use Rattle.pdb_merge.specs.Answer.{AcceptsFiles, RefusesFiles, Writes, WritesPart}
 use Rattle.pdb_merge.specs.Fault.{NamesFault}
 use Rattle.pdb_merge.specs.declared.summary.Summary.{Summary}
+use Rattle.pdb_merge.specs.declared.fault.MergeFault.{MergeFault}
 use Rattle.pdb_merge.specs.declared.fault.MergeFault.TheVariants as merge
 use Rattle.command_texts.specs.Text.{named_line}
 use Rattle.pdb_commands.specs.declared.fault.RunFault.{RunFault}
@@ -12,10 +16,6 @@ use Rattle.pdb_commands.specs.declared.fault.RunFault.TheVariants.{Merge, Memory
 -- the report on a written file: how many types it has, how many bytes they have together, and how long the file is
 unfoldable pub summary_lines : Summary → List ℕ
 summary_lines summary = named_line (codes "types") summary.types ++ named_line (codes "bytes") summary.bytes ++ named_line (codes "file") summary.length
-
--- what a merge wrote: the bytes of its sink before and after, and what it says of the file
-abbrev pub Writes : Type 1
-Writes = Option (List ℕ) → Option (List ℕ) → Summary → Type 0
 
 -- a sink took the whole file
 abbrev pub WroteWhole : Writes → Option (List ℕ) → Option (List ℕ) → Type 0
@@ -37,3 +37,35 @@ IsOfMerging (Merge inner) = (inner ≢ merge.Memory) × NamesFault inner
 IsOfMerging Memory = Unit {0}
 IsOfMerging Write = Unit {0}
 IsOfMerging _ = ⊥
+
+-- how a command that merges answers: `wrote` says what it wrote for which files, and `part` what it
+-- wrote of that before its sink broke
+pub record MergesInto {A W V T : Type 0} (known : Option (List (Result (List ℕ) InputFault)))
+    (limit : ℕ) (wrote : List (List ℕ) → Writes) (part : List (List ℕ) → WritesPart)
+    (taken : W → Option (List ℕ)) (is_broken : W → Bool) (before after : W)
+    (told : V → Option (List ℕ)) (is_dumb : V → Bool) (report_before report_after : V)
+    (result : Result T (RunFault A)) : Type 0 where
+  -- the command has no other fault, whatever is known of the inputs
+  pub own : IfErr result IsOfMerging
+  pub value : (given : List (List ℕ)) → Give known given →
+      OnOk result (WroteAndReported (wrote given) (taken before) (taken after)
+      (told report_before) (told report_after))
+  pub accepts : OnOk result (AcceptsFiles known limit)
+  pub refuses : IfErr result (λ fault. (inner : MergeFault A) → fault ≡ Merge inner →
+      RefusesFiles known limit inner)
+  -- something may have been written only after every file was read, and only if all of them can be
+  -- merged
+  pub late : result ≡ Err Write → AcceptsFiles known limit
+  pub kept : result ≡ Err Memory → (after ≡ before) ⊎ AcceptsFiles known limit
+  pub write : (given : List (List ℕ)) → Give known given → result ≡ Err Write →
+      ((is_broken after ≡ true) × part given (taken before) (taken after)
+      × (report_after ≡ report_before))
+      ⊎ ((is_dumb report_after ≡ true) × WroteAndBrokeOff (wrote given) (taken before) (taken after)
+      (told report_before) (told report_after))
+  -- after `Memory`, nothing was written, or `out` took the whole file
+  pub memory : (given : List (List ℕ)) → Give known given → result ≡ Err Memory →
+      (after ≡ before) ⊎ WroteWhole (wrote given) (taken before) (taken after)
+  pub broken : result ≡ Err Write → (is_broken after ≡ true) ⊎ (is_dumb report_after ≡ true)
+  pub untold : result ≡ Err Memory → report_after ≡ report_before
+  pub untouched : IfErr result (λ fault. (inner : MergeFault A) → fault ≡ Merge inner →
+      (after ≡ before) × (report_after ≡ report_before))

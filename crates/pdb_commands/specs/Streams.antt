@@ -1,13 +1,10 @@
 -- What the command `streams` prints.
-use Rattle.std.specs.Prelude.{ℕ, ◌≡◌, ◌*◌, ◌/◌, ◌%◌, ◌^◌, ◌<◌, ◌==◌, ◌&&◌, nat_lt, slice_index, get_or, Bool, false, count_by, List, ◌++◌, length, Some}
-use Rattle.byte_fields.specs.Check.{first_failing}
+use Rattle.std.specs.Prelude.{ℕ, ◌≡◌, ◌*◌, ◌/◌, ◌%◌, ◌^◌, ◌<◌, ◌==◌, ◌&&◌, nat_lt, slice_index, get_or, Bool, false, count_by, List, ◌++◌, length}
 use Rattle.msf_blocks.specs.Superblock.{Fields}
 use Rattle.byte_io.specs.At.{AreGiven, Bytes, StandsAt}
 use Rattle.msf_blocks.specs.FreeMap.{free_blocks, map_block_of, blocks_per_map_block}
-use Rattle.msf_blocks.specs.Layout.{LayoutView, HasLayout, layout_checks}
-use Rattle.pdb_merge.specs.Read.{IsLayoutFaultRead}
-use Rattle.pdb_merge.specs.declared.fault.PdbFault.{PdbFault}
-use Rattle.pdb_merge.specs.declared.fault.PdbFault.TheVariants as pdb
+use Rattle.msf_blocks.specs.Layout.{LayoutView, HasLayout}
+use Rattle.pdb_merge.specs.Read.{IsLayoutFault, IsLayoutFaultRead}
 use Rattle.command_texts.specs.Streams.{container_with, stream_lines}
 use Rattle.pdb_commands.specs.declared.fault.RunFault.{RunFault}
 use Rattle.pdb_commands.specs.declared.fault.RunFault.TheVariants.{Pdb}
@@ -60,14 +57,9 @@ pub record IsFreeCount (bytes : Bytes) (fields : Fields) (end free : ℕ) : Type
 abbrev pub ShowsStreamsRead : Bytes → LayoutView → List ℕ → Type 0
 ShowsStreamsRead bytes layout text = (free : ℕ) × IsFreeCount bytes layout.superblock layout.superblock.num_blocks free × (text ≡ container_with free layout ++ stream_lines 0 layout.streams)
 
--- this is the first fault of the file on the way to its layout
-abbrev pub HasLayoutFault : {A : Type 0} → List ℕ → PdbFault A → Type 0
-HasLayoutFault file (pdb.Msf fault) = first_failing (layout_checks file) ≡ Some fault
-HasLayoutFault file _ = ⊥
-
 -- this is the first fault of the file on the way to its layout, as a fault of the command
 abbrev pub RefusesStreams : {A : Type 0} → List ℕ → RunFault A → Type 0
-RefusesStreams file (Pdb fault) = HasLayoutFault file fault
+RefusesStreams file (Pdb fault) = IsLayoutFault file fault
 RefusesStreams file _ = ⊥
 
 -- reads gave bytes of a container, and its layout has this fault

@@ -3,35 +3,20 @@
 ghost use Rattle.std.specs.Prelude.{◌≡◌, ◌⊎◌, ℕ, List, OnOk, IfErr};
 ghost use Rattle.byte_fields.specs.Bytes.{AreBytes};
 ghost use Rattle.byte_io.specs.At.{Breaks, IfKnown, IfOf};
-ghost use Rattle.msf_blocks.specs.Layout.{HasLayout, HasLongDirectory};
+ghost use Rattle.msf_blocks.specs.Layout.{HasLayout};
 ghost use Rattle.pdb_commands.specs.Shown.{HasLongPart, HasLongStream, ListsLongStream, MayRunOut};
 
 use crate::fault::RunFault;
 use byte_io::{AtFault, ReadAt};
-use msf_blocks::{Layout, MsfFault, Superblock, WithinFault};
+use msf_blocks::{Layout, MsfFault, WithinFault};
 use std::alloc::Allocator;
 
 /// The stream that holds the type records.
 pub(crate) const TPI_STREAM: u32 = 2;
 
-/// Checks that the directory of a file has at most `limit` bytes. A superblock that is not sound is
-/// left to the reader that comes next.
-///
-/// `TooLong` where the superblock is sound and says that the directory has more bytes. Nothing but
-/// the superblock is read.
-pub(crate) fn check_directory<A: Allocator>(file: &[u8], limit: u32) -> Result<(), RunFault<A>>
-    ensures value { OnOk result (HasLongDirectory limit file.now → ⊥) }
-    ensures first { IfErr result (λ fault.
-        (fault ≡ RunFault.TooLong) × HasLongDirectory limit file.now) }
-{
-    match Superblock::read(file) {
-        Ok(superblock) if limit < superblock.directory_bytes() => Err(RunFault::TooLong),
-        _ => Ok(()),
-    }
-}
-
-/// Checks that a stream of a file with this layout has at most `limit` bytes. A stream that is not
-/// there is left to the reader that comes next.
+/// Checks that a stream of a file with this layout has at most `limit` bytes. A stream may list a
+/// block many times, so it may have more bytes than its file. A stream that is not there is left to
+/// the reader that comes next. `u32::MAX` is no limit.
 pub(crate) fn check_size<L: Allocator, A: Allocator>(
     layout: &Layout<L>,
     stream: u32,
@@ -51,37 +36,6 @@ pub(crate) fn check_size<L: Allocator, A: Allocator>(
     }
 }
 
-/// Checks that a stream of a file has at most `limit` bytes. A stream may list a block many times,
-/// so it may have more bytes than its file.
-///
-/// `TooLong` where the container is sound and the stream has more bytes. A container that is not
-/// sound, or that has no such stream, is left to the reader that comes next. `Memory` is out of
-/// memory for the layout of a sound container. Nothing is reserved for the stream itself.
-/// `u32::MAX` is no limit, and needs no memory.
-pub(crate) fn check_stream<A: Allocator + Copy>(
-    alloc: A,
-    file: &[u8],
-    stream: u32,
-    limit: u32,
-) -> Result<(), RunFault<A>>
-    ensures value { OnOk result (HasLongStream limit stream file.now → ⊥) }
-    ensures first { IfErr result (λ fault.
-        ((fault ≡ RunFault.TooLong) × HasLongStream limit stream file.now)
-        ⊎ (fault ≡ RunFault.Memory)) }
-    ensures memory { IfErr result (λ fault. fault ≡ RunFault.Memory → MayRunOut limit file.now) }
-{
-    if limit == u32::MAX {
-        return Ok(());
-    }
-    match Layout::read(alloc, file) {
-        Ok(layout) => check_size(&layout, stream, limit),
-        Err(fault) => match fault {
-            MsfFault::Memory => Err(RunFault::Memory),
-            _ => Ok(()),
-        },
-    }
-}
-
 /// Checks that the directory and the stream of type records have at most `limit` bytes each, as
 /// [`run_shown`] does for each command that reads this stream. `TooLong` where one has more, first
 /// of the directory. `Memory` when out of memory, and only where there is a limit and the container
@@ -98,8 +52,12 @@ pub fn check_type_stream<A: Allocator + Copy>(
         ((fault ≡ RunFault.TooLong) × HasLongPart limit 2 file.now) ⊎ (fault ≡ RunFault.Memory)) }
     ensures memory { IfErr result (λ fault. fault ≡ RunFault.Memory → MayRunOut limit file.now) }
 {
-    check_directory(file, limit)?;
-    check_stream(alloc, file, TPI_STREAM, limit)
+    let mut bytes = file;
+    match check_type_stream_at(alloc, &mut bytes, limit) {
+        Ok(()) => Ok(()),
+        Err(AtFault::Of(fault)) => Err(fault),
+        Err(AtFault::Read) => unreachable!(),
+    }
 }
 
 /// Checks that the directory and the stream of type records have at most `limit` bytes each, by

@@ -1,6 +1,6 @@
 //! The command `check`: whether the types of a file can be trusted.
 
-ghost use Rattle.std.specs.Prelude.{◌≡◌, true, ℕ, List, IfOk, IfErr, string_bytes};
+ghost use Rattle.std.specs.Prelude.{◌≡◌, ℕ, List, IfOk, IfErr, string_bytes};
 ghost use Rattle.byte_io.specs.At.{Bytes};
 ghost use Rattle.msf_blocks.specs.Layout.{LayoutView};
 ghost use Rattle.pdb_commands.specs.Check.{ShowsChecked, ShowsCheckedRead, RefusesCheck, RefusesCheckRead};
@@ -10,11 +10,11 @@ ghost use Rattle.pdb_merge.specs.Read.{IsAccepted, TypesWereRead};
 use crate::command::{Show, ShowAt, run};
 use crate::fault::RunFault;
 use byte_io::{AtFault, ReadAt, Sink, Source};
+use checked_types::Types;
 use command_texts::push_checked;
 use msf_blocks::{Layout, MsfFault};
-use pdb_merge::{Buffer, PdbFault, read_types, read_types_of};
+use pdb_merge::{Buffer, PdbFault, read_types_of};
 use std::alloc::Allocator;
-use type_trees::Types;
 
 /// The text of types.
 fn types_text<A: Allocator + Copy>(alloc: A, types: &Types<'_, A>) -> Result<String<A>, RunFault<A>>
@@ -43,12 +43,6 @@ impl<A: Allocator + Copy> Show<A> for Check {
     ghost shows = { λ _. ShowsChecked };
 
     ghost refuses = { λ _. RefusesCheck };
-
-    fn text(&self, alloc: A, file: &[u8]) -> Result<String<A>, RunFault<A>> {
-        let mut buffer = Buffer::new(alloc);
-        let types = read_types(alloc, file, &mut buffer)?;
-        types_text(alloc, &types)
-    }
 }
 
 impl<A: Allocator + Copy> ShowAt<A> for Check {

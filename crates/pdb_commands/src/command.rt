@@ -1,6 +1,6 @@
 //! How a command that shows a file runs.
 
-ghost use Rattle.std.specs.Prelude.{◌≡◌, ◌⊎◌, ℕ, List, true, OnOk, IfOk, IfErr, string_bytes};
+ghost use Rattle.std.specs.Prelude.{◌≡◌, ◌⊎◌, ℕ, List, IfOk, IfErr, string_bytes};
 ghost use Rattle.byte_fields.specs.Bytes.{AreBytes};
 ghost use Rattle.byte_fields.specs.Check.{Refuses, first_failing};
 ghost use Rattle.byte_io.specs.At.{Breaks, Bytes, IfKnown, IfOf};
@@ -14,21 +14,13 @@ use byte_io::{AtFault, ReadAt, ReadFault, Sink, Source, put_all, read_all};
 use msf_blocks::{Layout, MsfFault, WithinFault};
 use std::alloc::Allocator;
 
-/// A command that shows a file: it makes a text from the file's bytes.
+/// What a command that shows a file prints and refuses.
 pub trait Show<A: Allocator + Copy> {
     /// The command prints this text for this file.
     ghost shows: { Self → List ℕ → List ℕ → Type 0 };
 
     /// The command refuses this file with this fault, which is the first that it meets.
     ghost refuses: { Self → List ℕ → RunFault A → Type 0 };
-
-    /// Makes the whole text.
-    fn text(&self, alloc: A, file: &[u8]) -> Result<String<A>, RunFault<A>>
-        ensures value { IfOk result (λ text. shows self.now file.now (string_bytes text)) }
-        ensures first { IfErr result (λ fault.
-            refuses self.now file.now fault ⊎ (fault ≡ RunFault.Memory)) }
-        // This neither reads nor writes, so it has no fault of reading or of writing.
-        ensures pure { IfErr result IsOfText };
 }
 
 /// A command that shows a file, and reads by position only the parts of it that it needs.
@@ -138,13 +130,55 @@ pub fn run_at<C: ShowAt<A>, R: ReadAt, W: Sink, A: Allocator + Copy>(
     Ok(())
 }
 
+/// Makes the whole text of a file in memory, whose directory may have at most `bound` bytes.
+fn text_in<C: ShowAt<A>, A: Allocator + Copy>(
+    alloc: A,
+    command: &C,
+    file: &[u8],
+    bound: u32,
+) -> Result<String<A>, RunFault<A>>
+    ensures value { IfOk result (λ text.
+        ShowsBounded bound (C.shows command.now) file.now (string_bytes text)) }
+    ensures first { IfErr result (λ fault.
+        RefusesBounded bound (C.refuses command.now) file.now fault
+        ⊎ (fault ≡ RunFault.Memory)) }
+    ensures pure { IfErr result IsOfText }
+{
+    let mut bytes = file;
+    match text_at(alloc, command, &mut bytes, bound) {
+        Ok(text) => Ok(text),
+        Err(AtFault::Of(fault)) => Err(fault),
+        Err(AtFault::Read) => unreachable!(),
+    }
+}
+
 /// Runs a command: reads the whole input, makes the whole text, then writes the text.
 ///
-/// `limit` is the greatest number of bytes that the input may have. The faults come in this order:
-/// those of reading, those of the command for this file, and `Write` where the sink did not take
-/// the whole text. After `Write` the sink is broken and took the first bytes of the text. After any
-/// other fault it took nothing.
-pub fn run<C: Show<A>, R: Source, W: Sink, A: Allocator + Copy>(
+/// `limit` is the greatest number of bytes that the input may have, and `bound` that of its
+/// directory. The faults come in this order: those of reading; those of the superblock; `TooLong`,
+/// if it says that the directory has more bytes; those of the command for this file; and `Write`,
+/// where the sink did not take the whole text. After `Write` the sink is broken and took the first
+/// bytes of the text. After any other fault it took nothing.
+pub fn run_bounded<C: ShowAt<A>, R: Source, W: Sink, A: Allocator + Copy>(
+    alloc: A,
+    command: &C,
+    input: &mut R,
+    limit: u32,
+    bound: u32,
+    out: &mut W,
+) -> Result<(), RunFault<A>>
+    ensures { Answers (ShowsBounded bound (C.shows command.now))
+        (RefusesBounded bound (C.refuses command.now)) limit (R.left input.old) (R.left input.new)
+        (R.is_broken input.new) W.taken W.is_broken out.old out.new result }
+{
+    let file = read_all(alloc, input, limit)?;
+    let text = text_in(alloc, command, &file, bound)?;
+    put_all(out, text.as_bytes())?;
+    Ok(())
+}
+
+/// Runs a command, as [`run_bounded`] does, with no limit on the directory.
+pub fn run<C: ShowAt<A>, R: Source, W: Sink, A: Allocator + Copy>(
     alloc: A,
     command: &C,
     input: &mut R,
@@ -154,8 +188,5 @@ pub fn run<C: Show<A>, R: Source, W: Sink, A: Allocator + Copy>(
     ensures { Answers (C.shows command.now) (C.refuses command.now) limit (R.left input.old)
         (R.left input.new) (R.is_broken input.new) W.taken W.is_broken out.old out.new result }
 {
-    let file = read_all(alloc, input, limit)?;
-    let text = command.text(alloc, &file)?;
-    put_all(out, text.as_bytes())?;
-    Ok(())
+    run_bounded(alloc, command, input, limit, u32::MAX, out)
 }

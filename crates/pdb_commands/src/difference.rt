@@ -1,6 +1,6 @@
 //! The command `diff`: shows the types that only one of two files has.
 
-ghost use Rattle.std.specs.Prelude.{◌≡◌, ◌≢◌, true, ℕ, List, OnOk, IfOk, IfErr, IfSome, length, string_bytes};
+ghost use Rattle.std.specs.Prelude.{◌≡◌, ◌≢◌, true, OnOk, IfOk, IfErr, IfSome, length, string_bytes};
 ghost use Rattle.byte_io.specs.Inputs.{CanRead};
 ghost use Rattle.pdb_merge.specs.Answer.{RefusesReading};
 ghost use Rattle.pdb_merge.specs.declared.fault.MergeFault.{MergeFault};
@@ -13,7 +13,7 @@ use command_texts::{Scope, push_difference};
 use pdb_merge::{InputBuffer, read_input_types};
 use std::alloc::Allocator;
 use std::hash::BuildHasher;
-use type_trees::compare;
+use type_difference::compare;
 
 /// Reads the types of two inputs, and makes the text of their difference.
 fn difference_text<I: Inputs, S: BuildHasher + Drop, A: Allocator + Copy>(

@@ -1,6 +1,6 @@
 //! The command `info`: what identifies a file.
 
-ghost use Rattle.std.specs.Prelude.{◌≡◌, ◌⊎◌, Some, true, OnOk, IfOk, IfErr, string_bytes};
+ghost use Rattle.std.specs.Prelude.{◌≡◌, ◌⊎◌, Some, OnOk, IfOk, IfErr, string_bytes};
 ghost use Rattle.byte_io.specs.At.{Breaks, IfKnown, IfOf};
 ghost use Rattle.msf_blocks.specs.Layout.{LayoutView, HasLayout};
 ghost use Rattle.msf_streams.specs.Streams.{WasRead, stream_contents};
@@ -9,32 +9,13 @@ ghost use Rattle.pdb_commands.specs.Info.{ShowsInfo, ShowsInfoRead, ShowsInfoWit
 
 use crate::command::{Show, ShowAt, run};
 use crate::fault::RunFault;
-use crate::streams::read_layout;
 use byte_io::{AtFault, ReadAt, Sink, Source};
 use command_texts::{push_features, push_info_header, push_names};
 use msf_blocks::{Layout, MsfFault};
-use msf_streams::{contents, gather_at};
+use msf_streams::gather_at;
 use pdb_info::{info_stream, names_length};
 use pdb_merge::PdbFault;
 use std::alloc::Allocator;
-
-/// The bytes of stream 1 of a file. They are lent from the file where its blocks are consecutive,
-/// and gathered into the buffer otherwise.
-fn stream_bytes<'a, A: Allocator + Copy>(
-    alloc: A,
-    file: &'a [u8],
-    buffer: &'a mut Vec<u8, A>,
-) -> Result<&'a [u8], PdbFault<A>>
-    ensures value { IfOk result (λ stream.
-        (layout : LayoutView) × HasLayout file.now layout
-        × (stream_contents file.now layout 1 ≡ Some stream.now)) }
-    ensures first { IfErr result (λ fault.
-        HasNoInfoStream file.now fault ⊎ (fault ≡ PdbFault.Memory)) }
-{
-    let layout = read_layout(alloc, file)?;
-    let stream = info_stream(&layout)?;
-    Ok(contents(alloc, file, &layout, stream, buffer)?)
-}
 
 /// Reads stream 1 of a file with this layout by position into the buffer.
 fn stream_bytes_of<R: ReadAt, L: Allocator, A: Allocator>(
@@ -114,13 +95,6 @@ impl<A: Allocator + Copy> Show<A> for Info {
     ghost shows = { λ s. ShowsInfoWithin s.limit };
 
     ghost refuses = { λ s. RefusesInfoWithin s.limit };
-
-    fn text(&self, alloc: A, file: &[u8]) -> Result<String<A>, RunFault<A>> {
-        let mut buffer = Vec::new(alloc);
-        let stream = stream_bytes(alloc, file, &mut buffer)?;
-        let text = stream_text(alloc, stream, self.limit)?;
-        Ok(text)
-    }
 }
 
 impl<A: Allocator + Copy> ShowAt<A> for Info {

@@ -1,15 +1,12 @@
 //! The command `merge`: writes one file with the types of all files, each once.
 
-ghost use Rattle.std.specs.Prelude.{◌≡◌, ◌⊎◌, ◌++◌, true, ℕ, List, OnOk, IfErr, string_bytes};
+ghost use Rattle.std.specs.Prelude.{◌≡◌, ◌⊎◌, ◌++◌, true, OnOk, IfErr, string_bytes};
 ghost use Rattle.std.specs.Io.KnownBytes.{Appends};
-ghost use Rattle.byte_io.specs.Inputs.{Give};
 ghost use Rattle.msf_streams.specs.Put.{AppendsPart};
 ghost use Rattle.pdb_info.specs.Settings.{record_limit};
-ghost use Rattle.pdb_merge.specs.Answer.{AcceptsFiles, RefusesFiles};
 ghost use Rattle.pdb_merge.specs.Merged.{Wrote, WrotePart};
 ghost use Rattle.types_guid.specs.Merge.{WroteByTypes, WrotePartByTypes};
-ghost use Rattle.pdb_merge.specs.declared.fault.MergeFault.{MergeFault};
-ghost use Rattle.pdb_commands.specs.Merge.{summary_lines, IsOfMerging, WroteWhole, WroteAndReported, WroteAndBrokeOff};
+ghost use Rattle.pdb_commands.specs.Merge.{summary_lines, MergesInto};
 
 use crate::fault::RunFault;
 use byte_io::{Inputs, Sink, put_all};
@@ -71,41 +68,9 @@ pub fn run_merge<I: Inputs + Drop, W: Sink, V: Sink, S: BuildHasher + Drop, A: A
     report: &mut V,
     hasher: S,
 ) -> Result<(), RunFault<A>>
-    // The command has no other fault, whatever is known of the inputs.
-    ensures own { IfErr result IsOfMerging }
-    ensures value { (given : List (List ℕ)) → Give (I.known files) given →
-        OnOk result
-        (WroteAndReported (Wrote given settings.now) (W.taken out.old) (W.taken out.new)
-        (V.taken report.old) (V.taken report.new)) }
-    ensures accepts { OnOk result (AcceptsFiles (I.known files) (record_limit settings.now)) }
-    ensures refuses { IfErr result (λ fault.
-        (inner : MergeFault A) → fault ≡ RunFault.Merge inner →
-        RefusesFiles (I.known files) (record_limit settings.now) inner) }
-    // Something may have been written only after every file was read, and only if all of them can
-    // be merged.
-    ensures late { result ≡ Err RunFault.Write →
-        AcceptsFiles (I.known files) (record_limit settings.now) }
-    ensures kept { result ≡ Err RunFault.Memory →
-        (out.new ≡ out.old) ⊎ AcceptsFiles (I.known files) (record_limit settings.now) }
-    ensures write { (given : List (List ℕ)) → Give (I.known files) given →
-        result ≡ Err RunFault.Write →
-        ((W.is_broken out.new ≡ true)
-        × WrotePart given settings.now (W.taken out.old) (W.taken out.new)
-        × (report.new ≡ report.old))
-        ⊎ ((V.is_broken report.new ≡ true)
-        × WroteAndBrokeOff (Wrote given settings.now) (W.taken out.old) (W.taken out.new)
-        (V.taken report.old) (V.taken report.new)) }
-    // After `Memory`, nothing was written, or `out` took the whole file.
-    ensures memory { (given : List (List ℕ)) → Give (I.known files) given →
-        result ≡ Err RunFault.Memory →
-        (out.new ≡ out.old)
-        ⊎ WroteWhole (Wrote given settings.now) (W.taken out.old) (W.taken out.new) }
-    ensures broken { result ≡ Err RunFault.Write →
-        (W.is_broken out.new ≡ true) ⊎ (V.is_broken report.new ≡ true) }
-    ensures untold { result ≡ Err RunFault.Memory → report.new ≡ report.old }
-    ensures untouched { IfErr result (λ fault.
-        (inner : MergeFault A) → fault ≡ RunFault.Merge inner →
-        (out.new ≡ out.old) × (report.new ≡ report.old)) }
+    ensures { MergesInto (I.known files) (record_limit settings.now)
+        (λ given. Wrote given settings.now) (λ given. WrotePart given settings.now)
+        W.taken W.is_broken out.old out.new V.taken V.is_broken report.old report.new result }
 {
     let summary = merge_to(alloc, files, settings, out, hasher)?;
     report_on(alloc, &summary, report)
@@ -129,41 +94,9 @@ pub fn run_merge_by_types<
     report: &mut V,
     hasher: S,
 ) -> Result<(), RunFault<A>>
-    // The command has no other fault, whatever is known of the inputs.
-    ensures own { IfErr result IsOfMerging }
-    ensures value { (given : List (List ℕ)) → Give (I.known files) given →
-        OnOk result
-        (WroteAndReported (WroteByTypes given settings.now) (W.taken out.old) (W.taken out.new)
-        (V.taken report.old) (V.taken report.new)) }
-    ensures accepts { OnOk result (AcceptsFiles (I.known files) (record_limit settings.now)) }
-    ensures refuses { IfErr result (λ fault.
-        (inner : MergeFault A) → fault ≡ RunFault.Merge inner →
-        RefusesFiles (I.known files) (record_limit settings.now) inner) }
-    // Only after every file was read may something have been written, and only where all of them
-    // can be merged.
-    ensures late { result ≡ Err RunFault.Write →
-        AcceptsFiles (I.known files) (record_limit settings.now) }
-    ensures kept { result ≡ Err RunFault.Memory →
-        (out.new ≡ out.old) ⊎ AcceptsFiles (I.known files) (record_limit settings.now) }
-    ensures write { (given : List (List ℕ)) → Give (I.known files) given →
-        result ≡ Err RunFault.Write →
-        ((W.is_broken out.new ≡ true)
-        × WrotePartByTypes given settings.now (W.taken out.old) (W.taken out.new)
-        × (report.new ≡ report.old))
-        ⊎ ((V.is_broken report.new ≡ true)
-        × WroteAndBrokeOff (WroteByTypes given settings.now) (W.taken out.old) (W.taken out.new)
-        (V.taken report.old) (V.taken report.new)) }
-    // After `Memory`, nothing was written, or `out` took the whole file.
-    ensures memory { (given : List (List ℕ)) → Give (I.known files) given →
-        result ≡ Err RunFault.Memory →
-        (out.new ≡ out.old)
-        ⊎ WroteWhole (WroteByTypes given settings.now) (W.taken out.old) (W.taken out.new) }
-    ensures broken { result ≡ Err RunFault.Write →
-        (W.is_broken out.new ≡ true) ⊎ (V.is_broken report.new ≡ true) }
-    ensures untold { result ≡ Err RunFault.Memory → report.new ≡ report.old }
-    ensures untouched { IfErr result (λ fault.
-        (inner : MergeFault A) → fault ≡ RunFault.Merge inner →
-        (out.new ≡ out.old) × (report.new ≡ report.old)) }
+    ensures { MergesInto (I.known files) (record_limit settings.now)
+        (λ given. WroteByTypes given settings.now) (λ given. WrotePartByTypes given settings.now)
+        W.taken W.is_broken out.old out.new V.taken V.is_broken report.old report.new result }
 {
     let summary = merge_by_types(alloc, files, settings, out, hasher)?;
     report_on(alloc, &summary, report)

@@ -1,10 +1,10 @@
 //! The command `record`: one type record of a file, with the types that it names.
 
-ghost use Rattle.std.specs.Prelude.{◌≡◌, ◌≤◌, ◌^◌, ◌⊎◌, List, ℕ, true, IfOk, IfErr, IfSome, option_map, string_bytes, length};
+ghost use Rattle.std.specs.Prelude.{◌≡◌, ◌≤◌, ◌^◌, ◌⊎◌, List, ℕ, IfOk, IfErr, IfSome, option_map, string_bytes, length};
 ghost use Rattle.byte_io.specs.At.{Bytes};
 ghost use Rattle.msf_blocks.specs.Layout.{LayoutView};
 ghost use Rattle.pdb_commands.specs.Record.{ShowsRecord, ShowsRecordRead, RefusesRecord, RefusesRecordRead, record_of};
-ghost use Rattle.pdb_commands.specs.Show.{Answers, AnswersAt, IsOfText};
+ghost use Rattle.pdb_commands.specs.Show.{Answers, IsOfText};
 ghost use Rattle.pdb_merge.specs.Read.{HasTypeRecords, RecordsWereRead};
 
 use crate::command::{Show, ShowAt, run};
@@ -13,7 +13,7 @@ use byte_io::{AtFault, ReadAt, Sink, Source};
 use command_texts::record_text;
 use cv_leaves::check;
 use msf_blocks::{Layout, MsfFault};
-use pdb_merge::{Buffer, PdbFault, read_records, read_records_of};
+use pdb_merge::{Buffer, PdbFault, read_records_of};
 use std::alloc::Allocator;
 use tpi_records::{FIRST_INDEX, Records};
 
@@ -66,12 +66,6 @@ impl<A: Allocator + Copy> Show<A> for Record {
     ghost shows = { λ c. ShowsRecord c.index };
 
     ghost refuses = { λ c. RefusesRecord c.index };
-
-    fn text(&self, alloc: A, file: &[u8]) -> Result<String<A>, RunFault<A>> {
-        let mut buffer = Buffer::new(alloc);
-        let records = read_records(alloc, file, &mut buffer)?;
-        indexed_text(alloc, &records, self.index)
-    }
 }
 
 impl<A: Allocator + Copy> ShowAt<A> for Record {

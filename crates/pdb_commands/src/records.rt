@@ -1,6 +1,5 @@
 //! The command `records`: a line for each type record of a file.
 
-ghost use Rattle.std.specs.Prelude.{true};
 ghost use Rattle.pdb_commands.specs.Records.{ShowsRecords, ShowsRecordsRead, RefusesRecords, RefusesRecordsRead};
 ghost use Rattle.pdb_commands.specs.Show.{Answers};
 
@@ -9,7 +8,7 @@ use crate::fault::RunFault;
 use byte_io::{AtFault, ReadAt, Sink, Source};
 use command_texts::record_lines;
 use msf_blocks::{Layout, MsfFault};
-use pdb_merge::{Buffer, PdbFault, read_records, read_records_of};
+use pdb_merge::{Buffer, PdbFault, read_records_of};
 use std::alloc::Allocator;
 
 /// The command `records`.
@@ -20,12 +19,6 @@ impl<A: Allocator + Copy> Show<A> for Records {
     ghost shows = { λ _. ShowsRecords };
 
     ghost refuses = { λ _. RefusesRecords };
-
-    fn text(&self, alloc: A, file: &[u8]) -> Result<String<A>, RunFault<A>> {
-        let mut buffer = Buffer::new(alloc);
-        let records = read_records(alloc, file, &mut buffer)?;
-        Ok(record_lines(alloc, &records)?)
-    }
 }
 
 impl<A: Allocator + Copy> ShowAt<A> for Records {

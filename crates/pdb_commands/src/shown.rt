@@ -2,14 +2,13 @@
 
 ghost use Rattle.std.specs.Prelude.{◌≡◌, ◌⊎◌, ℕ, List, true, false, Err, OnOk, IfErr};
 ghost use Rattle.byte_fields.specs.Bytes.{AreBytes};
-ghost use Rattle.byte_io.specs.At.{Bytes};
 ghost use Rattle.msf_blocks.specs.Layout.{HasLayout};
 ghost use Rattle.pdb_commands.specs.Show.{Answers, AnswersAt, IsByPosition, IsByWhole, RefusesBounded, ShowsBounded};
 ghost use Rattle.pdb_commands.specs.Shown.{ShowsWithin, ShowsWithinRead, RefusesWithin, RefusesWithinRead, stream_of, ReadsTooLong, ListsTooLong};
 
-use crate::bound::{TPI_STREAM, check_directory, check_size, check_stream};
+use crate::bound::{TPI_STREAM, check_size};
 use crate::check::Check;
-use crate::command::{Show, ShowAt, run, run_at};
+use crate::command::{Show, ShowAt, run_at, run_bounded};
 use crate::fault::RunFault;
 use crate::info::Info;
 use crate::record::Record;
@@ -61,21 +60,6 @@ struct Within {
 }
 
 impl Within {
-    /// Checks the stream that the command reads.
-    fn check<A: Allocator + Copy>(&self, alloc: A, file: &[u8]) -> Result<(), RunFault<A>>
-        ensures value { OnOk result (ReadsTooLong self.now.command self.now.limit file.now → ⊥) }
-        ensures first { IfErr result (λ fault.
-            ((fault ≡ RunFault.TooLong) × ReadsTooLong self.now.command self.now.limit file.now)
-            ⊎ (fault ≡ RunFault.Memory)) }
-    {
-        match self.command.stream() {
-            Some(stream) => check_stream(alloc, file, stream, self.limit),
-            None => Ok(()),
-        }
-    }
-}
-
-impl Within {
     /// Checks the stream that the command reads, of a file with this layout.
     fn check_layout<L: Allocator, A: Allocator>(
         &self,
@@ -100,18 +84,6 @@ impl<A: Allocator + Copy> Show<A> for Within {
     ghost shows = { λ s. ShowsWithin s.command s.limit };
 
     ghost refuses = { λ s. RefusesWithin s.command s.limit };
-
-    fn text(&self, alloc: A, file: &[u8]) -> Result<String<A>, RunFault<A>> {
-        self.check(alloc, file)?;
-        match self.command {
-            Shown::Records => Records.text(alloc, file),
-            Shown::Record(index) => Record { index }.text(alloc, file),
-            Shown::Types => Types.text(alloc, file),
-            Shown::Check => Check.text(alloc, file),
-            Shown::Info => Info { limit: self.limit }.text(alloc, file),
-            Shown::Streams => Streams.text(alloc, file),
-        }
-    }
 }
 
 impl<A: Allocator + Copy> ShowAt<A> for Within {
@@ -141,25 +113,6 @@ impl<A: Allocator + Copy> ShowAt<A> for Within {
     }
 }
 
-/// A command whose directory may have no more bytes than its stream.
-#[derive(Clone, Copy, Debug)]
-struct Bounded {
-    within: Within,
-}
-
-impl<A: Allocator + Copy> Show<A> for Bounded {
-    ghost shows = { λ s. ShowsBounded s.within.limit
-        (ShowsWithin s.within.command s.within.limit) };
-
-    ghost refuses = { λ s. RefusesBounded s.within.limit
-        (RefusesWithin s.within.command s.within.limit) };
-
-    fn text(&self, alloc: A, file: &[u8]) -> Result<String<A>, RunFault<A>> {
-        check_directory(file, self.within.limit)?;
-        self.within.text(alloc, file)
-    }
-}
-
 /// Runs a command that shows a file, as the command's own call does, with more limits.
 ///
 /// The input may have at most `limit` bytes, and so may its directory, the stream that the command
@@ -180,8 +133,7 @@ pub fn run_shown<R: Source, W: Sink, A: Allocator + Copy>(
         (RefusesBounded limit (RefusesWithin command limit)) limit (R.left input.old)
         (R.left input.new) (R.is_broken input.new) W.taken W.is_broken out.old out.new result }
 {
-    let within = Within { command, limit };
-    run(alloc, &Bounded { within }, input, limit, out)
+    run_bounded(alloc, &Within { command, limit }, input, limit, limit, out)
 }
 
 /// Runs a command that shows a file by position, as [`run_shown`] does for a whole file, with the

@@ -1,19 +1,18 @@
 //! The command `streams`: the container of a file, and a line for each stream.
 
-ghost use Rattle.std.specs.Prelude.{◌≡◌, ◌⊎◌, ◌*◌, ◌/◌, ◌%◌, ◌<◌, ◌≤◌, length, true, Some, IfOk, IfErr, IfSome, IfNone};
+ghost use Rattle.std.specs.Prelude.{◌≡◌, ◌*◌, ◌/◌, ◌%◌, ◌<◌, length, Some, IfSome, IfNone};
 ghost use Rattle.byte_io.specs.At.{Breaks, IfKnown};
 ghost use Rattle.msf_blocks.specs.BlockNumber.{IsBlockSize};
 ghost use Rattle.msf_blocks.specs.FreeMap.{free_blocks, is_free, map_block_of, blocks_per_map_block};
-ghost use Rattle.msf_blocks.specs.Layout.{HasLayout};
 ghost use Rattle.msf_blocks.specs.Superblock.{HoldsBlocks};
 ghost use Rattle.pdb_commands.specs.Show.{Answers};
-ghost use Rattle.pdb_commands.specs.Streams.{HasLayoutFault, HasMap, IsFreeCount, IsMapGiven, IsMark, RefusesStreams, RefusesStreamsRead, ShowsStreams, ShowsStreamsRead, bit_of, is_free_by};
+ghost use Rattle.pdb_commands.specs.Streams.{HasMap, IsFreeCount, IsMapGiven, IsMark, RefusesStreams, RefusesStreamsRead, ShowsStreams, ShowsStreamsRead, bit_of, is_free_by};
 
 use crate::command::{Show, ShowAt, run};
 use crate::fault::RunFault;
 use byte_io::{AtFault, ReadAt, Sink, Source};
 use command_texts::layout_text;
-use msf_blocks::{Layout, MsfFault, Superblock, free_blocks};
+use msf_blocks::{Layout, MsfFault, Superblock};
 use pdb_merge::PdbFault;
 use std::alloc::Allocator;
 
@@ -151,15 +150,6 @@ fn free_blocks_at<R: ReadAt>(input: &mut R, superblock: &Superblock, page: &mut 
     Some(free)
 }
 
-/// Reads the layout of a file. The faults are those of its container.
-pub fn read_layout<A: Allocator + Copy>(alloc: A, file: &[u8]) -> Result<Layout<A>, PdbFault<A>>
-    ensures value { IfOk result (HasLayout file.now) }
-    ensures first { IfErr result (λ fault.
-        HasLayoutFault file.now fault ⊎ (fault ≡ PdbFault.Memory)) }
-{
-    Ok(Layout::read(alloc, file)?)
-}
-
 /// The command `streams`.
 #[derive(Clone, Copy, Debug)]
 pub(crate) struct Streams;
@@ -168,12 +158,6 @@ impl<A: Allocator + Copy> Show<A> for Streams {
     ghost shows = { λ _. ShowsStreams };
 
     ghost refuses = { λ _. RefusesStreams };
-
-    fn text(&self, alloc: A, file: &[u8]) -> Result<String<A>, RunFault<A>> {
-        let layout = read_layout(alloc, file)?;
-        let free = free_blocks(file, layout.superblock());
-        Ok(layout_text(alloc, free, &layout)?)
-    }
 }
 
 impl<A: Allocator + Copy> ShowAt<A> for Streams {

@@ -1,6 +1,6 @@
 //! The command `types`: a line for each type record of a file, with the types that it names.
 
-ghost use Rattle.std.specs.Prelude.{◌≡◌, ◌⊎◌, ◌++◌, List, ℕ, Some, true, OnOk, IfOk, IfErr, string_bytes, length};
+ghost use Rattle.std.specs.Prelude.{◌≡◌, ◌⊎◌, ◌++◌, List, ℕ, Some, OnOk, IfOk, IfErr, string_bytes};
 ghost use Rattle.byte_fields.specs.Check.{first_failing};
 ghost use Rattle.tpi_records.specs.Records.{IsRecord};
 ghost use Rattle.cv_leaves.specs.Checks.{record_checks};
@@ -16,7 +16,7 @@ use byte_io::{AtFault, ReadAt, Sink, Source};
 use command_texts::push_type_line;
 use cv_leaves::check;
 use msf_blocks::{Layout, MsfFault};
-use pdb_merge::{Buffer, PdbFault, read_records, read_records_of};
+use pdb_merge::{Buffer, PdbFault, read_records_of};
 use std::alloc::Allocator;
 use tpi_records::{FIRST_INDEX, Records};
 
@@ -70,12 +70,6 @@ impl<A: Allocator + Copy> Show<A> for Types {
     ghost shows = { λ _. ShowsTypes };
 
     ghost refuses = { λ _. RefusesTypes };
-
-    fn text(&self, alloc: A, file: &[u8]) -> Result<String<A>, RunFault<A>> {
-        let mut buffer = Buffer::new(alloc);
-        let records = read_records(alloc, file, &mut buffer)?;
-        type_lines(alloc, &records)
-    }
 }
 
 impl<A: Allocator + Copy> ShowAt<A> for Types {

@@ -1,9 +1,9 @@
 -- Where names end, by the next NUL.
-use Rattle.std.proofs.Common.{◌≡◌, ◌≤◌, ◌<◌, ◌+◌, ◌-◌, ◌*◌, ◌/◌, ◌^◌, ℕ, suc, true, false, List, [], ◌∷◌, Some, None, length, take, drop, get_or, set, replicate, refl, ◌∙◌, sym, ap, arith, inl, inr}
+use Rattle.std.proofs.Common.{◌≡◌, ◌≤◌, ◌<◌, ◌+◌, ◌-◌, ◌*◌, ◌^◌, ℕ, suc, true, false, List, [], ◌∷◌, Some, None, length, take, drop, get_or, set, refl, ◌∙◌, sym, ap, arith, inl, inr}
 use Rattle.std.specs.Prelude.{◌==◌, nat_lt}
 use Rattle.std.specs.List.{list_any}
 use Rattle.std.proofs.lemmas.Bool.{cases_lt, cases_eq, lt-ltb, le-ltb, false_from_ne_true}
-use Rattle.std.proofs.lemmas.List.{drop-drop, drop_all, length-drop, length-replicate, length-set, length-take, length-take-le, get_or-drop, get_or-take, get_or-set_same, get_or-set_other}
+use Rattle.std.proofs.lemmas.List.{drop-drop, drop_all, length-drop, length-set, length-take, length-take-le, get_or-drop, get_or-take, get_or-set_same, get_or-set_other}
 use Rattle.std.proofs.lemmas.List.Folds.{list_any_at}
 use Rattle.std.proofs.lemmas.List.Sums.{position_or_len_is, fails_before_first, passes_at_first, prefix_len-le-length}
 use Rattle.bstr.specs.Find.{IsFirstByte, IsLastByte, is_byte}
@@ -60,10 +60,6 @@ name_short bytes = prefix_len-le-length _ bytes
 pub end_inside : (buffer : List ℕ) (start : ℕ) → start ≤ length buffer → start + name_len (drop start buffer) ≤ length buffer
 end_inside buffer start inside = omega (arith, inside, name_short (drop start buffer), length-drop start buffer)
 
--- at the end of the buffer there is no byte of a name
-pub end_last : (buffer : List ℕ) → length buffer ≡ length buffer + name_len (drop (length buffer) buffer)
-end_last buffer = let none : drop (length buffer) buffer ≡ [] = drop_all (length buffer) buffer (omega arith) in rw none (omega arith)
-
 -- bytes that are not NUL belong to the name
 name_skips : (bytes : List ℕ) (n : ℕ) → n ≤ length bytes → ((k : ℕ) → k < n → (get_or bytes k 0 == 0) ≡ false) → name_len bytes ≡ n + name_len (drop n bytes)
 name_skips bytes n le none =
@@ -111,16 +107,6 @@ pub record IsEnding (buffer ends : List ℕ) (parts stop end : ℕ) : Type 0 whe
   pub known : end ≡ stop + name_len (drop stop buffer)
   pub all : (part : ℕ) → 64 * part ≤ length buffer → part < length ends
   pub each : (part : ℕ) → parts ≤ part → 64 * part ≤ length buffer → get_or ends part 0 ≡ 64 * part + name_len (drop (64 * part) buffer)
-
--- at the start none is known
-pub ending_starts : (buffer ends : List ℕ) (parts : ℕ) → parts ≡ length buffer / 64 + 1 → ends ≡ replicate parts 0 → IsEnding buffer ends parts (length buffer) (length buffer)
-ending_starts buffer ends parts count zeros = record {
-  inside = omega arith;
-  low = omega (arith, count);
-  known = end_last buffer;
-  all = λ part within. omega (arith, count, within, ap length zeros, length-replicate {A = ℕ} parts 0);
-  each = λ part past within. absurd (omega (arith, count, past, within));
-}
 
 -- the end at one more part
 pub ending_more : (buffer ends : List ℕ) (parts before stop end now : ℕ) → IsEnding buffer ends before stop end → before ≡ parts + 1 → now ≡ 64 * parts + name_len (drop (64 * parts) buffer) → IsEnding buffer (set ends parts now) parts (64 * parts) now

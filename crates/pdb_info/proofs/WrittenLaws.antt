@@ -26,10 +26,6 @@ length-front : (age : ℕ) → length (u32s (front age)) ≡ 12
 unfolding front
 length-front age = length-u32s (front age)
 
-length-back : length (u32s back) ≡ 24
-unfolding back
-length-back = length-u32s back
-
 header_back : (age : ℕ) (guid : List ℕ) → length (stored_guid guid) ≡ 16 → stored_guid (stored_guid guid) ≡ guid → age < 2 ^ 32 → HasInfoHeader (u32s (front age) ++ (stored_guid guid ++ u32s back)) ((info_view age guid).header)
 unfolding front back
 header_back age guid long undone short =

@@ -3,7 +3,7 @@
 ghost use Rattle.std.specs.Prelude.{◌≡◌, ◌≤◌, ◌↔◌, IfSome, IsSome};
 ghost use Rattle.byte_fields.specs.Bytes.{AreBytes};
 ghost use Rattle.msf_blocks.specs.BlockNumber.{IsBlockSize};
-ghost use Rattle.pdb_info.specs.Settings.{SettingsView, AreSettings, RecordsFit, limit_of_records, record_limit, room_for_records};
+ghost use Rattle.pdb_info.specs.Settings.{SettingsView, AreSettings, RecordsFit, record_limit, room_for_records};
 
 use msf_blocks::BlockSize;
 use std::marker::Model;

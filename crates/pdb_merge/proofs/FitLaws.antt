@@ -32,9 +32,6 @@ pub length-stream : (records : List (List ℕ)) → length (type_stream records)
 unfolding type_stream
 length-stream records = length-append (header_bytes (length records) (length (concat records))) (concat records) ∙ ap (λ n. n + length (concat records)) (length-header (length records) (length (concat records)))
 
-stream_short : (records : List (List ℕ)) → length (concat records) ≤ 1073741824 → length (type_stream records) < 2 ^ 32
-stream_short records few = omega (arith, length-stream records, few)
-
 -- the sizes of the streams
 sizes_are : (settings : SettingsView) (records : List (List ℕ)) → AreSettings settings
     → map length (merged_contents settings records) ≡ 0 ∷ 52 ∷ (56 + length (concat records)) ∷ 0 ∷ 0 ∷ []

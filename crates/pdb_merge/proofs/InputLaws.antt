@@ -65,11 +65,6 @@ given_unread known files i inner outer given is made = elim (rw given at is) [
 
 -- ---- reading comes first
 
--- no input is read at first
-pub none_read : (known : Option (List (Result (List ℕ) InputFault))) → IfSome known (λ each. CanRead each 0)
-none_read None = tt
-none_read (Some each) = λ i below. absurd (omega (arith, below))
-
 -- the bytes of an input that is read
 pub some_bytes : (known : Option (List (Result (List ℕ) InputFault))) (i : ℕ) (bytes : List ℕ) → IfSome known (λ each. slice_get each i ≡ Some (Ok bytes)) → IfSome known (λ each. (b : List ℕ) × (slice_get each i ≡ Some (Ok b)))
 some_bytes None i bytes is = tt

@@ -1,13 +1,11 @@
 -- An accepted file has one list of records and no fault.
-use Rattle.std.proofs.Common.{◌≡◌, ◌⊎◌, ℕ, ◌<◌, ◌≤◌, List, Some, None, Bool, length, ap, ◌∙◌, refl, arith, inl, inr}
+use Rattle.std.proofs.Common.{◌≡◌, ◌⊎◌, ℕ, List, Some, None, Bool, length, ap, ◌∙◌, arith, inl, inr}
 use Rattle.std.specs.Prelude.{Result, Ok, Err, IfOk, IfErr}
 use Rattle.byte_io.specs.At.{Breaks, Bytes, IfKnown, IfOf}
 use Rattle.byte_io.specs.declared.at.AtFault.{AtFault}
 use Rattle.byte_io.specs.declared.at.AtFault.TheVariants as at
 use Rattle.msf_blocks.specs.declared.fault.MsfFault.{MsfFault}
 use Rattle.msf_blocks.specs.declared.fault.MsfFault.TheVariants as msf
-use Rattle.msf_streams.specs.declared.fault.StreamFault.{StreamFault}
-use Rattle.msf_streams.specs.declared.fault.StreamFault.TheVariants as streams
 use Rattle.byte_fields.specs.Bytes.{AreBytes}
 use Rattle.byte_fields.specs.Check.{first_failing, Refuses}
 use Rattle.msf_blocks.specs.Layout.{LayoutView, HasLayout, layout_checks}
@@ -23,7 +21,7 @@ use Rattle.checked_types.specs.Check.{IsTypeFault}
 use Rattle.checked_types.specs.declared.fault.TypeFault.{TypeFault}
 use Rattle.checked_types.specs.declared.fault.TypeFault.TheVariants as types
 use Rattle.pdb_merge.specs.Read.{ListsTypes, IsAccepted, HasTypeRecords, ListsRecords, HasLongInfo, HasInfoFault, HasStreamFault, HasRecordsFault, HasPdbFault, IsLayoutFault}
-use Rattle.pdb_merge.specs.Fault.{pdb_from_msf, pdb_from_stream, pdb_from_tpi, pdb_from_type}
+use Rattle.pdb_merge.specs.Fault.{pdb_from_msf, pdb_from_tpi, pdb_from_type}
 use Rattle.pdb_merge.specs.declared.fault.PdbFault.{PdbFault}
 use Rattle.pdb_merge.specs.declared.fault.PdbFault.TheVariants as fault
 use Rattle.msf_blocks.proofs.OneLayoutLaws.{one_layout}
@@ -157,22 +155,10 @@ sound_at bytes (Ok value) none = tt
 sound_at bytes (Err at.Read) none = tt
 sound_at bytes (Err (at.Of e)) none = λ is. none
 
--- it is a fault on the way to the records, and on the way to the types
-pub layout_records : {A : Type 0} (file : List ℕ) (inner : PdbFault A) → IsLayoutFault file inner ⊎ (inner ≡ fault.Memory) → HasRecordsFault file inner ⊎ (inner ≡ fault.Memory)
-layout_records file (fault.Msf inner) (inl first) = inl first
-layout_records file inner (inl first) = absurd first
-layout_records file inner (inr want) = inr want
-
 pub layout_types : {A : Type 0} (file : List ℕ) (inner : PdbFault A) → IsLayoutFault file inner ⊎ (inner ≡ fault.Memory) → HasPdbFault file inner ⊎ (inner ≡ fault.Memory)
 layout_types file (fault.Msf inner) (inl first) = inl first
 layout_types file inner (inl first) = absurd first
 layout_types file inner (inr want) = inr want
-
--- a stream 2 that is not gathered
-pub gather_refused : {A : Type 0} (file : List ℕ) (layout : LayoutView) (inner : StreamFault) (outer : PdbFault A) → outer ≡ pdb_from_stream inner
-    → ((inner ≡ streams.NoStream 2) × (length layout.streams ≤ 2)) ⊎ ((inner ≡ streams.Memory) × (2 < length layout.streams)) → HasStreamFault file layout outer ⊎ (outer ≡ fault.Memory)
-gather_refused file layout inner outer made (inl first) = inl (rw (made, first.0) (first.1, refl))
-gather_refused file layout inner outer made (inr want) = inr (made ∙ ap pdb_from_stream want.0)
 
 -- a fault of stream 2 is one on the way to the records, and on the way to the types
 pub stream_records : {A : Type 0} (file : List ℕ) (layout : LayoutView) (inner : PdbFault A) → HasLayout file layout → HasStreamFault file layout inner ⊎ (inner ≡ fault.Memory) → HasRecordsFault file inner ⊎ (inner ≡ fault.Memory)
@@ -186,16 +172,6 @@ stream_types file layout (fault.Stream inner) has info (inl first) = inl (layout
 stream_types file layout (fault.Tpi inner) has info (inl first) = inl (layout, has, inr (info, first))
 stream_types file layout inner has info (inl first) = absurd first
 stream_types file layout inner has info (inr want) = inr want
-
--- a file that has type records is refused only when out of memory
-pub records_want_at : {T A : Type 0} (bytes : Bytes) (broken : Bool) (answer : Result T (AtFault (PdbFault A))) → IfKnown bytes AreBytes → IfErr answer (IfOf (λ e. IfKnown bytes (λ file. HasRecordsFault file e ⊎ (e ≡ fault.Memory))))
-    → IfErr answer (λ e. e ≡ at.Read → Breaks bytes broken) → IfErr answer (IfOf (λ e. IfKnown bytes (λ file. (records : List (List ℕ)) → HasTypeRecords file records → e ≡ fault.Memory)))
-records_want_at bytes broken (Ok value) small first read = tt
-records_want_at bytes broken (Err at.Read) small first read = tt
-records_want_at bytes broken (Err (at.Of e)) small first read = λ file is records has. elim (first file is) [
-  | inl refused ↦ absurd (records_unrefused file records e (small file is) has refused)
-  | inr want ↦ want
-]
 
 -- an accepted file is refused only when out of memory
 pub wants_memory_at : {T A : Type 0} (bytes : Bytes) (broken : Bool) (answer : Result T (AtFault (PdbFault A))) → IfErr answer (IfOf (λ e. IfKnown bytes (λ file. HasPdbFault file e ⊎ (e ≡ fault.Memory))))

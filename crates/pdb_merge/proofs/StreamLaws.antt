@@ -5,11 +5,12 @@ use Rattle.std.proofs.lemmas.Option.{slice_get_cases}
 use Rattle.std.proofs.lemmas.List.FromFn.{length-map-range_with_len}
 use Rattle.msf_blocks.specs.Directory.{Listed, bytes_of}
 use Rattle.msf_blocks.specs.Layout.{LayoutView}
-use Rattle.msf_streams.specs.Streams.{stream_contents, listed_contents, gathered}
+use Rattle.msf_streams.specs.Streams.{stream_contents, listed_contents}
+use Rattle.msf_blocks.specs.Blocks.{in_blocks}
 use Rattle.pdb_merge.specs.Read.{HasLongInfo, HasShortInfo, ListsLongInfo}
 
 length-text : (file : List ℕ) (block_size : ℕ) (stream : Listed) → length (listed_contents file block_size stream) ≡ bytes_of stream.size
-unfolding gathered
+unfolding in_blocks
 length-text file block_size stream = length-map-range_with_len _ 0 (bytes_of stream.size)
 
 -- a stream that is listed has contents, of the listed size

@@ -158,9 +158,6 @@ added_alone {A = A} before files k limit (add.TooLarge heavy) inside unites acce
     absurd (can_large A files limit k heavy (hindered {A = A} before files k limit (add.TooLarge heavy) (merge.TooLarge k heavy) inside unites accepted within refl hinders) can)
 added_alone {A = A} before files k limit add.Memory inside unites accepted within hinders can = refl
 
-pub within_more : (P : Tree → Type 0) (limit more : ℕ) → limit ≤ more → Within P limit → Within P more
-within_more P limit more le (bytes, weighs, few) = (bytes, weighs, omega (arith, few, le))
-
 -- ---- lists of the same files
 
 first_or_other : (x : List ℕ) (files : List (List ℕ)) (t : Tree) (i : ℕ) → i < length (x ∷ files) → FileHas (get_or (x ∷ files) i []) t → FileHas x t ⊎ HasType files t

@@ -1,6 +1,6 @@
 //! The buffer for the bytes of types while they are read, and what is read into it.
 
-ghost use Rattle.std.specs.Prelude.{◌≡◌, ◌⊎◌, ◌*◌, ◌≤◌, ℕ, List, None, length, OnOk, IfOk, IfErr};
+ghost use Rattle.std.specs.Prelude.{◌≡◌, ◌⊎◌, ℕ, List, None, OnOk, IfOk, IfErr};
 ghost use Rattle.byte_fields.specs.Bytes.{AreBytes};
 ghost use Rattle.byte_fields.specs.Check.{first_failing};
 ghost use Rattle.byte_io.specs.At.{Breaks, IfKnown, IfOf};
@@ -215,34 +215,6 @@ impl<A: Allocator + Copy> Buffer<A> {
     {
         let records = self.stream_records_at(alloc, input, layout)?;
         Ok(records)
-    }
-
-    /// Reads the records of a file by position, and lends them.
-    pub(crate) fn records_at<'a, R: ReadAt>(
-        &'a mut self,
-        alloc: A,
-        input: &mut R,
-    ) -> Result<Records<'a, A>, AtFault<PdbFault<A>>>
-        ensures keeps { R.bytes input.new ≡ R.bytes input.old }
-        ensures small { IfKnown (R.bytes input.old) AreBytes }
-        ensures value { IfOk result (λ records.
-            IfKnown (R.bytes input.old) (λ file. HasTypeRecords file records)) }
-        ensures texts { IfOk result (λ records.
-            (layout : LayoutView) × HasTexts (R.bytes input.old) layout
-            × RecordsWereRead (R.bytes input.old) layout records) }
-        ensures first { IfErr result (IfOf (λ fault. IfKnown (R.bytes input.old) (λ file.
-            HasRecordsFault file fault ⊎ (fault ≡ PdbFault.Memory)))) }
-        ensures refused { IfErr result (IfOf (λ fault.
-            HasFaultOfTexts HasStreamFaultRead (R.bytes input.old) fault
-            ⊎ (fault ≡ PdbFault.Memory))) }
-        ensures memory { IfErr result (IfOf (λ fault.
-            fault ≡ PdbFault.Memory →
-            IfKnown (R.bytes input.old) (λ file. first_failing (layout_checks file) ≡ None))) }
-        ensures read { IfErr result (λ fault.
-            fault ≡ AtFault.Read → Breaks (R.bytes input.old) (R.is_broken input.new)) }
-    {
-        let layout = layout_at(alloc, input)?;
-        self.records_of(alloc, input, &layout)
     }
 
     /// Reads the records of a file with this layout by position, and lends them. They are not

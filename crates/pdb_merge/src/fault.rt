@@ -6,13 +6,14 @@ ghost use Rattle.pdb_merge.specs.declared.fault.PdbFault.TheVariants.{Memory};
 ghost use Rattle.pdb_merge.specs.declared.fault.OutFault.TheVariants as out;
 
 use byte_io::InputFault;
+use checked_types::TypeFault;
 use msf_blocks::MsfFault;
 use msf_streams::StreamFault;
 use pdb_info::InfoFault;
 use std::alloc::{AllocError, Allocator, Global};
 use thiserror::Error;
 use tpi_records::TpiFault;
-use type_trees::{JoinFault, TypeFault};
+use type_table::JoinFault;
 
 /// The first fault of a file on the way to its types.
 ///

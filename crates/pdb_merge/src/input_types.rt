@@ -13,8 +13,8 @@ use crate::merging::merge_files::{at_file, check_rest, input_fault};
 use crate::read::read_types;
 use crate::read_at::read_types_at;
 use byte_io::{AtFault, Inputs, Opened, ReadAt};
+use checked_types::Types;
 use std::alloc::{Allocator, Global};
-use type_trees::Types;
 
 /// The bytes of one file, and those of its TPI stream where the blocks of the stream are not
 /// consecutive.

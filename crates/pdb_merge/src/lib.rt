@@ -9,9 +9,9 @@
 //!   stream are consecutive. Otherwise they are lent from a [`Buffer`], which the caller passes.
 //!   The caller may pass the same buffer for the next file, so the gathered streams of two files
 //!   are never in memory at once. [`PdbFault`] is the first fault on the way.
-//! - [`read_records_at`] and [`read_types_at`] read the type records and the types by position: of
-//!   the file only its directory and the blocks of its TPI stream. [`read_records_of`] and
-//!   [`read_types_of`] do so where the layout of the file was read before.
+//! - [`read_types_at`] reads the types by position: of the file only its directory and the blocks
+//!   of its TPI stream. [`read_records_of`] and [`read_types_of`] read the type records and the
+//!   types where the layout of the file was read before.
 //! - [`read_input_types`] reads the types of one of several inputs, as a merge reads it. They are
 //!   lent from an [`InputBuffer`].
 //! - [`merge_to`] merges files: it writes one file with the types of all of them, each once, into
@@ -70,5 +70,5 @@ pub use merging::merge_files::merge_files;
 pub use merging::merge_to::{merge_to, write_canon};
 pub use merging::write_merged::write_merged;
 pub use read::{read_records, read_types};
-pub use read_at::{read_records_at, read_records_of, read_types_at, read_types_of};
+pub use read_at::{read_records_of, read_types_at, read_types_of};
 pub use summary::Summary;

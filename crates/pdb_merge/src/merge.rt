@@ -20,7 +20,7 @@ use std::alloc::{Allocator, Global};
 use std::hash::BuildHasher;
 use std::marker::Model;
 use tpi_records::Records;
-use type_trees::{Canon, JoinFault, Table};
+use type_table::{Canon, JoinFault, Table};
 
 /// The types of the files so far, and the limit: how many bytes they may have together.
 ///

@@ -1,17 +1,17 @@
 //! The type records of a file, and its types.
 
-ghost use Rattle.std.specs.Prelude.{◌≡◌, ◌⊎◌, ◌*◌, ◌≤◌, ℕ, List, None, length, OnOk, IfOk, IfErr};
+ghost use Rattle.std.specs.Prelude.{◌≡◌, ◌⊎◌, ℕ, List, None, IfOk, IfErr};
 ghost use Rattle.byte_fields.specs.Check.{first_failing};
 ghost use Rattle.byte_io.specs.At.{Bytes};
 ghost use Rattle.msf_blocks.specs.Layout.{LayoutView, layout_checks};
 ghost use Rattle.closed_trees.specs.Types.{AreTypes};
-ghost use Rattle.pdb_merge.specs.Read.{ListsTypes, IsAccepted, HasPdbFault, HasTypeRecords, ListsRecords, HasRecordsFault, HasStreamFault, HasLongInfo, HasInfoFault, RecordsWereRead, HasTypeFaultRead};
+ghost use Rattle.pdb_merge.specs.Read.{ListsTypes, IsAccepted, HasPdbFault, HasTypeRecords, HasRecordsFault, RecordsWereRead, HasTypeFaultRead};
 
 use crate::buffer::Buffer;
 use crate::fault::PdbFault;
+use checked_types::Types;
 use std::alloc::Allocator;
 use tpi_records::Records;
-use type_trees::Types;
 
 /// Checks the records that a file lists.
 pub(crate) fn check_types<'a, A: Allocator + Copy>(

@@ -11,7 +11,7 @@ use Rattle.pdb_merge.specs.declared.fault.PdbFault.{PdbFault}
 use Rattle.pdb_merge.specs.declared.fault.PdbFault.TheVariants.{Memory}
 use Rattle.pdbmerge_c.specs.declared.check.Counts.{Counts}
 use Rattle.pdbmerge_c.specs.declared.fault.Fault.{Fault}
-use Rattle.pdbmerge_c.specs.Fault.{IsTold, no_input}
+use Rattle.pdbmerge_c.specs.Fault.{IsTold, no_number}
 
 -- the file is accepted, and these are its counts
 pub record Checks (file : List ℕ) (counts : Counts) : Type 0 where
@@ -29,4 +29,4 @@ IsFaultOfFile file why = HasPdbFault file why ⊎ ((why ≡ Memory) × (first_fa
 pub record RefusesCheck (file : List ℕ) (fault : Fault) : Type 0 where
   pub why : PdbFault Global
   pub is_fault : IsFaultOfFile file why
-  pub told : IsTold fault (pdb_number why) no_input
+  pub told : IsTold fault (pdb_number why) no_number

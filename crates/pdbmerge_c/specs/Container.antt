@@ -10,7 +10,7 @@ use Rattle.msf_blocks.specs.declared.fault.MsfFault.{MsfFault}
 use Rattle.msf_blocks.specs.declared.fault.MsfFault.TheVariants.{Memory}
 use Rattle.pdbmerge_c.specs.declared.fault.Fault.{Fault}
 use Rattle.pdbmerge_c.specs.declared.layout.ContainerCounts.{ContainerCounts}
-use Rattle.pdbmerge_c.specs.Fault.{IsTold, no_input}
+use Rattle.pdbmerge_c.specs.Fault.{IsTold, no_number}
 
 -- these are the numbers of the container of the file, and the sizes of its streams in bytes
 pub record HasContainer (file : List ℕ) (container : ContainerCounts) (sizes : List ℕ) : Type 0 where
@@ -35,4 +35,4 @@ IsFaultOfContainer file = Refuses Memory (first_failing (layout_checks file))
 pub record RefusesContainer (file : List ℕ) (fault : Fault) : Type 0 where
   pub why : MsfFault
   pub is_fault : IsFaultOfContainer file why
-  pub told : IsTold fault (msf_number why) no_input
+  pub told : IsTold fault (msf_number why) no_number

@@ -2,14 +2,14 @@
 use Rattle.std.specs.Prelude.{ℕ, ◌≡◌, Option, Some, None, slice_get}
 use Rattle.pdbmerge_c.specs.declared.fault.Fault.{Fault}
 
--- the input of a fault that names none: the highest number of eight bytes
-abbrev pub no_input : ℕ
-no_input = 18446744073709551615
+-- what stands for no input, and for the length of no name: the highest number of eight bytes
+abbrev pub no_number : ℕ
+no_number = 18446744073709551615
 
 -- the number for the position of an input, or for none
 abbrev pub input_code : Option ℕ → ℕ
 input_code (Some input) = input
-input_code None = no_input
+input_code None = no_number
 
 -- the fault has this number, and names this input
 pub record IsTold (fault : Fault) (number input : ℕ) : Type 0 where
@@ -19,9 +19,9 @@ pub record IsTold (fault : Fault) (number input : ℕ) : Type 0 where
 -- the fault has the number that was returned; it names no input if all went well, or if the fault is one of the call's own
 pub record IsSaid (fault : Fault) (result : ℕ) : Type 0 where
   pub number_is : fault.number ≡ result
-  pub none : result ≡ 0 → fault.input ≡ no_input
-  pub room : result ≡ 100 → fault.input ≡ no_input
-  pub settings : result ≡ 101 → fault.input ≡ no_input
+  pub none : result ≡ 0 → fault.input ≡ no_number
+  pub room : result ≡ 100 → fault.input ≡ no_number
+  pub settings : result ≡ 101 → fault.input ≡ no_number
 
 -- the last byte of the text is a NUL, so the text ends within its field
 abbrev pub IsEnded : Fault → Type 0

@@ -11,7 +11,7 @@ use Rattle.pdb_merge.specs.declared.fault.PdbFault.{PdbFault}
 use Rattle.pdb_merge.specs.declared.fault.PdbFault.TheVariants as pdb
 use Rattle.pdbmerge_c.specs.declared.fault.Fault.{Fault}
 use Rattle.pdbmerge_c.specs.declared.identify.Identity.{Identity}
-use Rattle.pdbmerge_c.specs.Fault.{IsTold, no_input}
+use Rattle.pdbmerge_c.specs.Fault.{IsTold, no_number}
 
 -- the container has blocks of this size, and its stream 1 begins with a header of this age and this GUID
 pub record Identifies (file : List ℕ) (identity : Identity) : Type 0 where
@@ -35,4 +35,4 @@ IsFaultOfIdentity file inner = (layout : LayoutView) × HasLayout file layout ×
 pub record RefusesIdentity (file : List ℕ) (fault : Fault) : Type 0 where
   pub why : PdbFault Global
   pub is_fault : IsFaultOfIdentity file why
-  pub told : IsTold fault (pdb_number why) no_input
+  pub told : IsTold fault (pdb_number why) no_number

@@ -7,7 +7,7 @@ use Rattle.pdb_info.specs.Info.{InfoView, HasInfo, info_checks}
 use Rattle.pdb_info.specs.declared.fault.InfoFault.{InfoFault}
 use Rattle.pdb_info.specs.declared.fault.InfoFault.TheVariants.{Memory}
 use Rattle.pdbmerge_c.specs.declared.fault.Fault.{Fault}
-use Rattle.pdbmerge_c.specs.Fault.{IsTold, no_input}
+use Rattle.pdbmerge_c.specs.Fault.{IsTold, no_number}
 
 -- these are the numbers of the streams that have a name, in the order of the buckets
 abbrev pub AreNamedStreams : List ℕ → List ℕ → Type 0
@@ -29,4 +29,4 @@ IsFaultOfInfoStream stream = Refuses Memory (first_failing (info_checks stream))
 pub record RefusesInfoStream (stream : List ℕ) (fault : Fault) : Type 0 where
   pub why : InfoFault
   pub is_fault : IsFaultOfInfoStream stream why
-  pub told : IsTold fault (info_number why) no_input
+  pub told : IsTold fault (info_number why) no_number

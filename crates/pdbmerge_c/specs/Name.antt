@@ -5,12 +5,8 @@ use Rattle.tpi_records.specs.Fault.{tpi_number}
 use Rattle.tpi_records.specs.Records.{BeginsWith, IsFlaw}
 use Rattle.tpi_records.specs.declared.fault.TpiFault.{TpiFault}
 use Rattle.pdbmerge_c.specs.declared.fault.Fault.{Fault}
-use Rattle.pdbmerge_c.specs.Fault.{IsTold, no_input}
+use Rattle.pdbmerge_c.specs.Fault.{IsTold, no_number}
 use Rattle.pdbmerge_c.specs.Given.{Fills}
-
--- the length of a name that is not there: the highest number of eight bytes
-abbrev pub no_name : ℕ
-no_name = 18446744073709551615
 
 -- the bytes begin with a record whose type has this name, or none
 abbrev pub IsNamed : List ℕ → Option (List ℕ) → Type 0
@@ -20,10 +16,10 @@ IsNamed bytes name = (r : List ℕ) × BeginsWith bytes r × (name_of r ≡ name
 abbrev pub GivesName : List ℕ → ℕ → List ℕ → List ℕ → Type 0
 GivesName bytes size old new =
     ((name : List ℕ) × IsNamed bytes (Some name) × (size ≡ length name) × Fills name old new)
-    ⊎ (IsNamed bytes None × (size ≡ no_name) × (new ≡ old))
+    ⊎ (IsNamed bytes None × (size ≡ no_number) × (new ≡ old))
 
 -- what is told is the fault of the record at the front of the bytes
 pub record RefusesName (bytes : List ℕ) (index : ℕ) (fault : Fault) : Type 0 where
   pub why : TpiFault
   pub is_fault : IsFlaw bytes index why
-  pub told : IsTold fault (tpi_number why) no_input
+  pub told : IsTold fault (tpi_number why) no_number

@@ -3,7 +3,7 @@ use Rattle.std.specs.Prelude.{ℕ, ◌≡◌, ◌≢◌, ◌<◌, ◌+◌, List,
 use Rattle.tpi_records.specs.Header.{first_index}
 use Rattle.tpi_records.specs.Records.{HasRecords, start_of}
 use Rattle.pdbmerge_c.specs.declared.fault.Fault.{Fault}
-use Rattle.pdbmerge_c.specs.Fault.{IsTold, no_input}
+use Rattle.pdbmerge_c.specs.Fault.{IsTold, no_number}
 
 -- the record with this index begins at this offset: behind the header and the records before it
 pub record BeginsAt (stream : List ℕ) (index offset : ℕ) : Type 0 where
@@ -20,4 +20,4 @@ LacksRecord stream index = (records : List (List ℕ)) × HasRecords stream reco
 
 -- what is told is that no record of the stream has this index
 abbrev pub RefusesIndex : List ℕ → ℕ → Fault → Type 0
-RefusesIndex stream index fault = LacksRecord stream index × IsTold fault 39 no_input
+RefusesIndex stream index fault = LacksRecord stream index × IsTold fault 39 no_number

@@ -5,7 +5,7 @@ use Rattle.tpi_records.specs.Records.{HasRecords, IsFirstFault, start_of}
 use Rattle.tpi_records.specs.declared.fault.TpiFault.{TpiFault}
 use Rattle.tpi_records.specs.declared.fault.TpiFault.TheVariants.{Memory}
 use Rattle.pdbmerge_c.specs.declared.fault.Fault.{Fault}
-use Rattle.pdbmerge_c.specs.Fault.{IsTold, no_input}
+use Rattle.pdbmerge_c.specs.Fault.{IsTold, no_number}
 
 -- there is an offset for each record of the stream, and the record begins there: behind the header and the records before it
 pub record AreOffsets (stream offsets : List ℕ) : Type 0 where
@@ -22,4 +22,4 @@ IsFaultOfRecords stream why = IsFirstFault stream why ⊎ ((why ≡ Memory) × (
 pub record RefusesRecords (stream : List ℕ) (fault : Fault) : Type 0 where
   pub why : TpiFault
   pub is_fault : IsFaultOfRecords stream why
-  pub told : IsTold fault (tpi_number why) no_input
+  pub told : IsTold fault (tpi_number why) no_number

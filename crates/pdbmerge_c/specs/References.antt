@@ -12,7 +12,7 @@ use Rattle.pdb_merge.specs.declared.fault.PdbFault.{PdbFault}
 use Rattle.pdb_merge.specs.declared.fault.PdbFault.TheVariants as pdb
 use Rattle.pdbmerge_c.specs.declared.fault.Fault.{Fault}
 use Rattle.pdbmerge_c.specs.declared.references.Reference.{Reference}
-use Rattle.pdbmerge_c.specs.Fault.{IsTold, no_input}
+use Rattle.pdbmerge_c.specs.Fault.{IsTold, no_number}
 
 -- what a record names at a place
 abbrev pub reference_in : List ℕ → ℕ → Reference
@@ -37,4 +37,4 @@ IsFaultOfRecord bytes index _ = ⊥
 pub record RefusesRecord (bytes : List ℕ) (index : ℕ) (fault : Fault) : Type 0 where
   pub why : PdbFault Global
   pub is_fault : IsFaultOfRecord bytes index why
-  pub told : IsTold fault (pdb_number why) no_input
+  pub told : IsTold fault (pdb_number why) no_number

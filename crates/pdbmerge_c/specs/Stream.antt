@@ -9,7 +9,7 @@ use Rattle.pdb_merge.specs.Fault.{pdb_number}
 use Rattle.pdb_merge.specs.declared.fault.PdbFault.{PdbFault}
 use Rattle.pdb_merge.specs.declared.fault.PdbFault.TheVariants as pdb
 use Rattle.pdbmerge_c.specs.declared.fault.Fault.{Fault}
-use Rattle.pdbmerge_c.specs.Fault.{IsTold, no_input}
+use Rattle.pdbmerge_c.specs.Fault.{IsTold, no_number}
 
 -- these are the bytes of the stream of this number
 pub record IsStreamOf (file : List ℕ) (stream : ℕ) (bytes : List ℕ) : Type 0 where
@@ -28,4 +28,4 @@ IsFaultOfStream file stream _ = ⊥
 pub record RefusesStream (file : List ℕ) (stream : ℕ) (fault : Fault) : Type 0 where
   pub why : PdbFault Global
   pub is_fault : IsFaultOfStream file stream why
-  pub told : IsTold fault (pdb_number why) no_input
+  pub told : IsTold fault (pdb_number why) no_number

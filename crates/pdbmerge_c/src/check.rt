@@ -1,9 +1,7 @@
 //! Whether the types of a file can be trusted.
 
 ghost use Rattle.std.specs.Prelude.{◌≡◌, ◌≢◌, ◌⊎◌, None, ℕ, List, IfOk, IfErr};
-ghost use Rattle.byte_fields.specs.Check.{first_failing};
-ghost use Rattle.msf_blocks.specs.Layout.{layout_checks};
-ghost use Rattle.pdb_merge.specs.Read.{IsAccepted, HasPdbFault};
+ghost use Rattle.pdb_merge.specs.Read.{IsAccepted};
 ghost use Rattle.pdbmerge_c.specs.Fault.{IsEnded, IsSaid};
 ghost use Rattle.pdbmerge_c.specs.Check.{Checks, RefusesCheck, IsFaultOfFile};
 

@@ -1,8 +1,8 @@
 //! The types that only one of two files has.
 
-ghost use Rattle.std.specs.Prelude.{◌≡◌, ◌≢◌, ◌⊎◌, ◌<◌, ◌+◌, ◌^◌, ◌++◌, ◌∷◌, [], ℕ, List, length, OnOk, IfOk, IfErr};
+ghost use Rattle.std.specs.Prelude.{◌≡◌, ◌≢◌, ◌⊎◌, ◌<◌, ◌+◌, ◌^◌, ◌++◌, ℕ, List, length, OnOk, IfOk, IfErr};
 ghost use Rattle.std.specs.declared.alloc.Global.{Global};
-ghost use Rattle.pdb_merge.specs.Read.{IsAccepted, HasPdbFault};
+ghost use Rattle.pdb_merge.specs.Read.{IsAccepted};
 ghost use Rattle.pdb_merge.specs.declared.fault.MergeFault.{MergeFault};
 ghost use Rattle.pdbmerge_c.specs.Fault.{IsEnded, IsSaid};
 ghost use Rattle.pdbmerge_c.specs.Given.{Fills};
@@ -11,11 +11,12 @@ ghost use Rattle.pdbmerge_c.specs.Diff.{AreDifferences, IsFaultOfInput, RefusesD
 use crate::fault::{Fault, refuse};
 use crate::give::give;
 use crate::seed::Seed;
+use checked_types::Types;
 use pdb_merge::{Buffer, MergeFault, PdbFault, read_types};
 use std::alloc::{AllocError, Global};
 use std::hash::RandomState;
 use tpi_records::FIRST_INDEX;
-use type_trees::{Standing, Types, compare};
+use type_difference::{Standing, compare};
 
 /// A type that only one of two files has.
 #[repr(C)]

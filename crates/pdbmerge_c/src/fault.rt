@@ -2,7 +2,7 @@
 
 ghost use Rattle.std.specs.Prelude.{◌≡◌, ◌≢◌, ◌≤◌, ◌<◌};
 ghost use Rattle.pdbmerge_c.specs.Fault.{IsEnded};
-ghost use Rattle.pdbmerge_c.specs.Fault.{IsTold, input_code, no_input};
+ghost use Rattle.pdbmerge_c.specs.Fault.{IsTold, input_code, no_number};
 
 use crate::text::Text;
 use std::fmt::{Display, Write};
@@ -52,7 +52,7 @@ fn input_code(input: Option<usize>) -> u64
 /// Says that all went well.
 pub(crate) fn clear(fault: &mut Fault) -> u32
     ensures done { result ≡ 0 }
-    ensures told { IsTold fault.new result no_input }
+    ensures told { IsTold fault.new result no_number }
     ensures ended { IsEnded fault.new }
 {
     fault.input = input_code(None);

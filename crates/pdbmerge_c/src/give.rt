@@ -1,7 +1,7 @@
 //! What a call gives, in memory that the caller lends.
 
-ghost use Rattle.std.specs.Prelude.{◌≡◌, ◌≢◌, ◌⊎◌, ◌<◌, ◌≤◌, length};
-ghost use Rattle.pdbmerge_c.specs.Fault.{IsEnded, IsTold, no_input};
+ghost use Rattle.std.specs.Prelude.{◌≡◌, ◌≢◌, ◌⊎◌, ◌<◌, length};
+ghost use Rattle.pdbmerge_c.specs.Fault.{IsEnded, IsTold, no_number};
 ghost use Rattle.pdbmerge_c.specs.Given.{Fills};
 
 use crate::fault::{Fault, ROOM, clear, tell};
@@ -13,7 +13,7 @@ pub(crate) fn give<T: Copy>(items: &[T], out: &mut [T], count: &mut u64, fault: 
     ensures status { (result ≡ 0) ⊎ ((result ≡ 100) × (length out.old < length items.now)) }
     ensures done { result ≡ 0 → Fills items.now out.old out.new }
     ensures kept { result ≢ 0 → out.new ≡ out.old }
-    ensures told { IsTold fault.new result no_input }
+    ensures told { IsTold fault.new result no_number }
     ensures ended { IsEnded fault.new }
 {
     *count = items.len() as u64;

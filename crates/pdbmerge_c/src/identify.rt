@@ -1,10 +1,9 @@
 //! What identifies a file.
 
-ghost use Rattle.std.specs.Prelude.{◌≡◌, ◌≢◌, ◌⊎◌, ◌≤◌, Some, None, ℕ, List, length, IfOk, IfErr};
-ghost use Rattle.byte_fields.specs.Check.{first_failing};
-ghost use Rattle.msf_blocks.specs.Layout.{LayoutView, HasLayout, layout_checks};
+ghost use Rattle.std.specs.Prelude.{◌≡◌, ◌≢◌, Some, None, ℕ, List, IfOk, IfErr};
+ghost use Rattle.msf_blocks.specs.Layout.{HasLayout};
 ghost use Rattle.msf_streams.specs.Streams.{stream_contents};
-ghost use Rattle.pdb_info.specs.Header.{HeaderFields, HasInfoHeader};
+ghost use Rattle.pdb_info.specs.Header.{HasInfoHeader};
 ghost use Rattle.pdb_merge.specs.Read.{HasInfoFault};
 ghost use Rattle.pdbmerge_c.specs.Fault.{IsEnded, IsSaid};
 ghost use Rattle.pdbmerge_c.specs.Identify.{Identifies, IsFaultOfIdentity, RefusesIdentity};

@@ -6,7 +6,7 @@ ghost use Rattle.pdb_info.specs.Settings.{SettingsView, record_limit};
 ghost use Rattle.pdb_merge.specs.Merged.{Wrote};
 ghost use Rattle.pdb_merge.specs.Union.{CanMerge};
 ghost use Rattle.pdbmerge_c.specs.Fault.{IsEnded, IsSaid};
-ghost use Rattle.pdbmerge_c.specs.Merge.{AreAllowed, IsRefusal, Merges, LacksRoom, RefusesMerge, bytes_of_files, inputs_of, settings_of};
+ghost use Rattle.pdbmerge_c.specs.Merge.{AreAllowed, IsRefusal, Merges, LacksRoom, RefusesMerge, bytes_of_files, settings_of};
 
 use crate::fault::{Fault, MEMORY, SETTINGS, refuse, tell};
 use crate::give::give;

@@ -1,8 +1,7 @@
 //! The name of the type that a record describes.
 
 ghost use Rattle.std.specs.Prelude.{◌≡◌, ◌≢◌, ◌<◌, ℕ, List, Some, length, option_map, IfOk, IfErr};
-ghost use Rattle.cv_leaves.specs.Name.{name_of};
-ghost use Rattle.tpi_records.specs.Records.{BeginsWith, IsFlaw};
+ghost use Rattle.tpi_records.specs.Records.{IsFlaw};
 ghost use Rattle.pdbmerge_c.specs.Fault.{IsEnded, IsSaid};
 ghost use Rattle.pdbmerge_c.specs.Name.{GivesName, IsNamed, RefusesName};
 

@@ -1,7 +1,7 @@
 //! Where type records begin.
 
 ghost use Rattle.std.specs.Prelude.{◌≡◌, ◌≢◌, ◌⊎◌, ◌<◌, ◌+◌, [], ℕ, List, length, get_or, OnOk, IfOk, IfErr, IfSome, IfNone};
-ghost use Rattle.tpi_records.specs.Records.{HasRecords, start_of};
+ghost use Rattle.tpi_records.specs.Records.{start_of};
 ghost use Rattle.pdbmerge_c.specs.Fault.{IsEnded, IsSaid};
 ghost use Rattle.pdbmerge_c.specs.Given.{Fills};
 ghost use Rattle.pdbmerge_c.specs.Record.{BeginsAt, LacksRecord, RefusesIndex};

@@ -2,18 +2,17 @@
 
 ghost use Rattle.std.specs.Prelude.{◌≡◌, ◌≢◌, ◌≤◌, ◌<◌, ◌+◌, ◌^◌, ◌++◌, ◌∷◌, [], ℕ, List, length, map, OnOk, IfOk, IfErr};
 ghost use Rattle.cv_leaves.specs.Place.{HasPlaces, IsChecked};
-ghost use Rattle.tpi_records.specs.Records.{BeginsWith};
 ghost use Rattle.pdbmerge_c.specs.Fault.{IsEnded, IsSaid};
 ghost use Rattle.pdbmerge_c.specs.Given.{Fills};
 ghost use Rattle.pdbmerge_c.specs.References.{AreReferences, IsFaultOfRecord, RefusesRecord, reference_in};
 
 use crate::fault::{Fault, refuse};
 use crate::give::give;
+use checked_types::TypeFault;
 use cv_leaves::{check, places, ref_at};
 use pdb_merge::PdbFault;
 use std::alloc::{AllocError, Global};
 use tpi_records::first_record;
-use type_trees::TypeFault;
 
 /// A type that a record names.
 #[repr(C)]

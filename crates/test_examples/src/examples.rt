@@ -7,6 +7,7 @@ ghost use Rattle.cv_leaves.specs.Named.{named_places};
 use crate::orders::names_nodes;
 use byte_fields::{u16_at, u32_at};
 use byte_io::{In, InputFault, Out, put_all};
+use checked_types::Types;
 use closed_trees::renumber_into;
 use command_line::push_paths;
 use command_texts::{push_named, push_quoted};
@@ -27,7 +28,8 @@ use test_samples::{CONST, TO_FIRST, TO_INT, VOLATILE, folding, sample, stream_wi
 use text_set::TextSet;
 use topological_order::{Graph, topological_order};
 use tpi_records::{Records, tpi_header_bytes};
-use type_trees::{Canon, Standing, Table, Types, compare};
+use type_difference::{Standing, compare};
+use type_table::{Canon, Table};
 use types_guid::guid_of_types;
 
 /// `byte_fields` reads little-endian numbers.
@@ -195,8 +197,8 @@ fn each_record_once(rt: HostRuntime) -> Result<(), Fail> {
     Ok(())
 }
 
-/// `type_trees` has the names of the crates of types: `checked_types` checks records, and a table of
-/// `type_table` lists the types of several files in canonical order (`canonical_list`).
+/// `checked_types` checks records, and a table of `type_table` lists the types of several files in
+/// canonical order (`canonical_list`).
 #[test]
 fn types_in_canonical_order(rt: HostRuntime) -> Result<(), Fail> {
     let file = sample(rt.alloc())?;

@@ -8,7 +8,7 @@ use pdb_merge::{AddFault, OutFault};
 use std::alloc::Global;
 use std::fmt::Display;
 use std::test::Fail;
-use type_trees::JoinFault;
+use type_table::JoinFault;
 
 /// Whether the text of a fault begins with this number, and no other digit is behind it.
 fn tells<D: Display>(alloc: Global, fault: &D, number: u32) -> Result<bool, Fail> {

@@ -3,6 +3,7 @@
 //! Their contracts say much, and a test needs none of it, since it compares when it runs. So these
 //! functions have no contract, and what calls them is quickly checked.
 
+use checked_types::Types;
 use msf_blocks::{Out, Sink};
 use msf_streams::WriteFault;
 use pdb_info::Settings;
@@ -13,7 +14,7 @@ use pdb_merge::{
 use std::alloc::{Allocator, Global};
 use std::hash::BuildHasher;
 use std::test::Fail;
-use type_trees::{Canon, JoinFault, Types};
+use type_table::{Canon, JoinFault};
 
 /// The types of a file, through a buffer.
 pub fn types_of<'a, A: Allocator + Copy>(

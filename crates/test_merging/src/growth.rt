@@ -13,7 +13,7 @@ use test_samples::{
     CONST, Refusal, TO_FIRST, TO_INT, TO_SECOND, TO_THIRD, TestHeap, VOLATILE, bytes_of, folding,
     pdb_with, refusals_amid, sample, settings,
 };
-use type_trees::Canon;
+use type_table::Canon;
 
 /// What writing a list gives: whether it has the memory that it needs, and the bytes of the file.
 type Given = (bool, Vec<u8>);

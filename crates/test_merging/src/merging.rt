@@ -15,7 +15,7 @@ use test_samples::{
     MEMBER_OF_SECOND, NO_MEMBER, Narrow, TO_FIFTH, TO_FIRST, TO_FOURTH, TO_INT, TO_SECOND,
     TO_THIRD, VOLATILE, bytes_of, folding, pdb_with, settings,
 };
-use type_trees::Canon;
+use type_table::Canon;
 
 /// The records of two files, and the expected records of their merge.
 pub(super) type Row = (

@@ -10,7 +10,7 @@ use pdb_merge::{MergeFault, PdbFault, merge_files};
 use std::alloc::{Allocator, Global};
 use std::test::Fail;
 use test_samples::{LIMIT, Positions, folding, pdb_with, refusals, sample, settings};
-use type_trees::Canon;
+use type_table::Canon;
 
 /// Files that are read by position. In each of them the read with a number fails. Clauses do not
 /// see their bytes.

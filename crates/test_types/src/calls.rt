@@ -3,11 +3,12 @@
 //! Their contracts say much, and a test needs none of it, since it compares when it runs. So these
 //! functions have no contract, and what calls them is quickly checked.
 
+use checked_types::Types;
 use std::alloc::{Allocator, Global};
 use std::hash::BuildHasher;
 use std::test::Fail;
 use tpi_records::Records;
-use type_trees::{Canon, JoinFault, Table, Types};
+use type_table::{Canon, JoinFault, Table};
 
 /// The records of a TPI stream.
 pub fn records_of<A: Allocator + Copy>(alloc: A, stream: &[u8]) -> Result<Records<'_, A>, Fail> {

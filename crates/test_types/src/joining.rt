@@ -3,6 +3,7 @@
 use super::calls::{
     add, add_records, add_stream, copied, empty_table, join, list_of, records_of, types_of,
 };
+use checked_types::Types;
 use linked_list_allocator::LocalHeap;
 use std::alloc::{Allocator, Global};
 use std::hash::BuildHasher;
@@ -13,7 +14,7 @@ use test_samples::{
     refusals_amid, stream_with,
 };
 use tpi_records::Records;
-use type_trees::{Canon, CanonRecords, JoinFault, Table, Types};
+use type_table::{Canon, CanonRecords, JoinFault, Table};
 
 /// A limit that no test reaches.
 const LIMIT: u32 = 1000;

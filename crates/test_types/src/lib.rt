@@ -1,4 +1,4 @@
-//! Tests of `type_trees`: tables, and canonical lists that are joined.
+//! Tests of `type_table`: tables, and canonical lists that are joined.
 //!
 //! They say what no clause says, at public calls. What a run of the program shows is in `tests/rows`.
 #![tactic(auto)]

@@ -1,7 +1,7 @@
 //! A walk along a graph, which puts its nodes in order.
 
-ghost use Rattle.std.specs.Prelude.{◌≡◌, ◌≢◌, ◌≤◌, ◌<◌, ◌+◌, ◌*◌, ◌^◌, ◌++◌, ◌∷◌, [], ℕ, set, take, length, get_or, IfOk, OnOk};
-ghost use Rattle.std.specs.List.{All, Contains};
+ghost use Rattle.std.specs.Prelude.{◌≡◌, ◌≢◌, ◌≤◌, ◌<◌, ◌+◌, ◌*◌, ◌^◌, ◌++◌, ◌∷◌, [], ℕ, set, length, get_or, IfOk, OnOk};
+ghost use Rattle.std.specs.List.{Contains};
 ghost use Rattle.topological_order.specs.Graph.{NamesNodes};
 ghost use Rattle.topological_order.specs.Walk.{mark_at, IsPassed, IsWalk, StayMarked, new_count};
 ghost use Rattle.topological_order.specs.declared.walk.Mark.TheVariants.{New, Met, Placed};

@@ -1,13 +1,12 @@
 -- The records of a stream are unique, and a stream that has records has no fault.
 use Rattle.std.proofs.Common.{◌≡◌, ◌⊎◌, ℕ, None, ◌*◌, ◌≤◌, List, [], length, drop, refl, sym, ap, ◌∙◌, arith, inl, inr}
-use Rattle.std.specs.List.{concat, AllByRecursion}
+use Rattle.std.specs.List.{concat}
 use Rattle.std.proofs.lemmas.List.{append-nil, take-append-drop, take_at, length-append, length-take, length-drop}
 use Rattle.std.proofs.lemmas.Bool.Decides.{nat_tests}
 use Rattle.byte_fields.specs.Check.{first_failing}
 use Rattle.tpi_records.specs.Header.{Header, HasTpiHeader, header_checks}
-use Rattle.tpi_records.specs.Records.{IsRecord, Begins, HasFlaw, IsMiscounted, HasRecords, IsFirstFault, IsFramed, framed_bytes, records_in}
+use Rattle.tpi_records.specs.Records.{Begins, HasFlaw, IsMiscounted, HasRecords, IsFirstFault, IsFramed, framed_bytes, records_in}
 use Rattle.tpi_records.specs.declared.fault.TpiFault.{TpiFault}
-use Rattle.tpi_records.specs.declared.fault.TpiFault.TheVariants.{Memory}
 use Rattle.tpi_records.proofs.FramingLaws.{one_framing, framed_unflawed}
 use Rattle.tpi_records.proofs.CutLaws.{begins_in, few_records}
 

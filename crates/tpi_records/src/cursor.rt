@@ -1,6 +1,6 @@
 //! Records by their positions, quickly where the positions are in order.
 
-ghost use Rattle.std.specs.Prelude.{◌≡◌, ◌^◌, ◌<◌, option_map, slice_get, drop, length, IfSome};
+ghost use Rattle.std.specs.Prelude.{◌≡◌, ◌<◌, option_map, slice_get, drop, IfSome};
 ghost use Rattle.tpi_records.specs.Records.{IsRecord, IsFramed, records_in};
 
 use crate::iter::split_first;

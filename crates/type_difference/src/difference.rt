@@ -4,7 +4,7 @@
 //! its *number*, and two records are of the same type exactly where their numbers are equal. After
 //! that only numbers are compared.
 
-ghost use Rattle.std.specs.Prelude.{◌≡◌, ℕ, List, IfOk, length};
+ghost use Rattle.std.specs.Prelude.{ℕ, List, IfOk, length};
 ghost use Rattle.closed_trees.specs.Depth.{AreBelow};
 ghost use Rattle.type_difference.specs.Difference.{HaveStandings};
 ghost use Rattle.type_difference.specs.Marks.{TellApart, MarkTypesOf};

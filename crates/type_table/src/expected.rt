@@ -4,7 +4,7 @@
 //! copied and hashed, it is compared with one record of the table: the one after the record that
 //! the last record became.
 
-ghost use Rattle.std.specs.Prelude.{◌≡◌, ◌≤◌, ◌<◌, ◌+◌, ◌-◌, ◌^◌, [], ℕ, IsTrue, length, get_or, take, drop};
+ghost use Rattle.std.specs.Prelude.{◌≡◌, ◌≤◌, ◌<◌, ◌+◌, ◌-◌, ◌^◌, [], IsTrue, length, get_or, take, drop};
 ghost use Rattle.tpi_records.specs.Header.{first_index};
 ghost use Rattle.tpi_records.specs.Records.{IsRecord};
 ghost use Rattle.cv_leaves.specs.Place.{IsChecked};

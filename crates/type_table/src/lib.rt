@@ -16,9 +16,8 @@
 //!
 //! # Example
 //!
-//! `type_trees` has the names of the crates of types: `checked_types` checks records, and a table
-//! of `type_table` lists the types of several files in canonical order (`canonical_list`). This is
-//! a test of the crate `test_examples`:
+//! `checked_types` checks records, and a table of `type_table` lists the types of several files in
+//! canonical order (`canonical_list`). This is a test of the crate `test_examples`:
 //!
 //! ```
 //! fn types_in_canonical_order(rt: HostRuntime) -> Result<(), Fail> {

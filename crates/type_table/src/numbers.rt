@@ -1,6 +1,6 @@
 //! The numbers of types: their positions in a set of records.
 
-ghost use Rattle.std.specs.Prelude.{◌≡◌, ◌+◌, ◌^◌, ◌<◌, true, length, IfOk};
+ghost use Rattle.std.specs.Prelude.{◌+◌, ◌^◌, ◌<◌, true, length, IfOk};
 ghost use Rattle.std.specs.List.{concat};
 ghost use Rattle.closed_trees.specs.Table.{IsTable};
 ghost use Rattle.closed_trees.specs.Types.{AreTypes};

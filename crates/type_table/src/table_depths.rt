@@ -1,6 +1,6 @@
 //! The depths of the records of a table, which are kept as the records come.
 
-ghost use Rattle.std.specs.Prelude.{◌≡◌, ◌≤◌, ◌<◌, ◌^◌, length, IfOk};
+ghost use Rattle.std.specs.Prelude.{◌≤◌, ◌<◌, ◌^◌, length, IfOk};
 ghost use Rattle.closed_trees.specs.Depth.{KnowsDepths, HasDepths};
 ghost use Rattle.type_table.specs.Merge.{StartsWith};
 ghost use Rattle.closed_trees.specs.Table.{IsTable};

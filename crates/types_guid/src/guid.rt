@@ -5,7 +5,7 @@ ghost use Rattle.types_guid.specs.Guid.{types_guid};
 
 use sha2::{Digest, Sha256};
 use std::alloc::Allocator;
-use type_trees::Canon;
+use type_table::Canon;
 use uuid::Uuid;
 
 /// The GUID of the types of a canonical list: a UUID of version 8, whose other bits are the first of

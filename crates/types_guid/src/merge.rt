@@ -1,10 +1,8 @@
 //! Merges whose GUID is made of the types.
 
-ghost use Rattle.std.specs.Prelude.{◌≡◌, ◌≢◌, true, ℕ, List, OnOk, IfOk, IfErr};
-ghost use Rattle.byte_io.specs.Inputs.{Give};
+ghost use Rattle.std.specs.Prelude.{◌≡◌};
 ghost use Rattle.pdb_info.specs.Settings.{record_limit};
-ghost use Rattle.pdb_merge.specs.Answer.{AcceptsFiles, RefusesFiles};
-ghost use Rattle.pdb_merge.specs.declared.fault.MergeFault.{MergeFault};
+ghost use Rattle.pdb_merge.specs.Answer.{MergesTo};
 ghost use Rattle.types_guid.specs.Guid.{named};
 ghost use Rattle.types_guid.specs.Merge.{WroteByTypes, WrotePartByTypes};
 
@@ -14,7 +12,7 @@ use pdb_info::Settings;
 use pdb_merge::{OutFault, Summary, merge_files, write_canon};
 use std::alloc::Allocator;
 use std::hash::BuildHasher;
-use type_trees::Canon;
+use type_table::Canon;
 
 /// These settings, with the GUID of the types of a canonical list.
 fn named<A: Allocator>(settings: &Settings, canon: &Canon<A>) -> Settings
@@ -40,22 +38,9 @@ pub fn merge_by_types<I: Inputs + Drop, W: Sink, S: BuildHasher + Drop, A: Alloc
     out: &mut W,
     hasher: S,
 ) -> Result<Summary, OutFault<A>>
-    ensures value { (given : List (List ℕ)) → Give (I.known files) given →
-        IfOk result (WroteByTypes given settings.now (W.taken out.old) (W.taken out.new)) }
-    ensures accepts { OnOk result (AcceptsFiles (I.known files) (record_limit settings.now)) }
-    ensures refuses { IfErr result (λ fault.
-        (inner : MergeFault A) → fault ≡ OutFault.Merge inner →
-        RefusesFiles (I.known files) (record_limit settings.now) inner) }
-    // A fault of writing comes only after every file was read, and where all of them can be merged.
-    ensures late { IfErr result (λ fault.
-        ((inner : MergeFault A) → fault ≢ OutFault.Merge inner) →
-        AcceptsFiles (I.known files) (record_limit settings.now)) }
-    ensures broken { IfErr result (λ fault. fault ≡ OutFault.Write → W.is_broken out.new ≡ true) }
-    ensures write { (given : List (List ℕ)) → Give (I.known files) given →
-        IfErr result (λ fault.
-        fault ≡ OutFault.Write →
-        WrotePartByTypes given settings.now (W.taken out.old) (W.taken out.new)) }
-    ensures untouched { IfErr result (λ fault. fault ≢ OutFault.Write → out.new ≡ out.old) }
+    ensures { MergesTo (I.known files) (record_limit settings.now)
+        (λ given. WroteByTypes given settings.now) (λ given. WrotePartByTypes given settings.now)
+        W.taken W.is_broken out.old out.new result }
 {
     let canon = merge_files(alloc, files, settings, hasher)?;
     let settings = named(settings, &canon);

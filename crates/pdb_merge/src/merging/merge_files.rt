@@ -19,7 +19,7 @@ use byte_io::{AtFault, InputFault, Inputs, Opened, ReadAt, ReadFault};
 use pdb_info::Settings;
 use std::alloc::Allocator;
 use std::hash::BuildHasher;
-use type_trees::Canon;
+use type_table::Canon;
 
 /// The fault of the file at this position.
 pub(crate) fn at_file<A: Allocator>(file: usize, fault: AddFault<A>) -> MergeFault<A>

@@ -1,13 +1,11 @@
 //! The file of the types of several files.
 
-ghost use Rattle.std.specs.Prelude.{◌≡◌, ◌≢◌, ◌⊎◌, ◌≤◌, true, ℕ, List, length, OnOk, IfOk, IfErr};
+ghost use Rattle.std.specs.Prelude.{◌≡◌, ◌≢◌, ◌⊎◌, ◌≤◌, true, length, IfOk, IfErr};
 ghost use Rattle.std.specs.List.{concat};
-ghost use Rattle.byte_io.specs.Inputs.{Give};
 ghost use Rattle.msf_streams.specs.Put.{AppendsPart};
 ghost use Rattle.pdb_info.specs.Settings.{AreSettings, record_limit};
-ghost use Rattle.pdb_merge.specs.Answer.{AcceptsFiles, RefusesFiles};
+ghost use Rattle.pdb_merge.specs.Answer.{MergesTo};
 ghost use Rattle.pdb_merge.specs.Merged.{merged_file, WroteFile, Wrote, WrotePart};
-ghost use Rattle.pdb_merge.specs.declared.fault.MergeFault.{MergeFault};
 
 use crate::fault::OutFault;
 use crate::merging::merge_files::merge_files;
@@ -18,7 +16,7 @@ use msf_streams::WriteFault;
 use pdb_info::Settings;
 use std::alloc::Allocator;
 use std::hash::BuildHasher;
-use type_trees::Canon;
+use type_table::Canon;
 
 /// A fault of writing a file that can be written, as a fault of merging.
 fn out_fault<A: Allocator>(fault: WriteFault) -> OutFault<A>
@@ -82,22 +80,9 @@ pub fn merge_to<I: Inputs + Drop, W: Sink, S: BuildHasher + Drop, A: Allocator +
     out: &mut W,
     hasher: S,
 ) -> Result<Summary, OutFault<A>>
-    ensures value { (given : List (List ℕ)) → Give (I.known files) given →
-        IfOk result (Wrote given settings.now (W.taken out.old) (W.taken out.new)) }
-    ensures accepts { OnOk result (AcceptsFiles (I.known files) (record_limit settings.now)) }
-    ensures refuses { IfErr result (λ fault.
-        (inner : MergeFault A) → fault ≡ OutFault.Merge inner →
-        RefusesFiles (I.known files) (record_limit settings.now) inner) }
-    // A fault of writing comes only after every file was read, and where all of them can be merged.
-    ensures late { IfErr result (λ fault.
-        ((inner : MergeFault A) → fault ≢ OutFault.Merge inner) →
-        AcceptsFiles (I.known files) (record_limit settings.now)) }
-    ensures broken { IfErr result (λ fault. fault ≡ OutFault.Write → W.is_broken out.new ≡ true) }
-    ensures write { (given : List (List ℕ)) → Give (I.known files) given →
-        IfErr result (λ fault.
-        fault ≡ OutFault.Write →
-        WrotePart given settings.now (W.taken out.old) (W.taken out.new)) }
-    ensures untouched { IfErr result (λ fault. fault ≢ OutFault.Write → out.new ≡ out.old) }
+    ensures { MergesTo (I.known files) (record_limit settings.now)
+        (λ given. Wrote given settings.now) (λ given. WrotePart given settings.now)
+        W.taken W.is_broken out.old out.new result }
 {
     let canon = merge_files(alloc, files, settings, hasher)?;
     write_canon(alloc, &canon, settings, out)

@@ -15,7 +15,7 @@ use msf_streams::{WriteFault, write_parts_len};
 use pdb_info::{Settings, info_bytes};
 use std::alloc::Allocator;
 use tpi_records::tpi_header_bytes;
-use type_trees::Canon;
+use type_table::Canon;
 
 /// The header of the TPI stream of a canonical list.
 #[tactic(auto, using(type_table::proofs::CanonTableLaws::canon_short))]

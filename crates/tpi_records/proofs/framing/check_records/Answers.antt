@@ -1,4 +1,4 @@
-use Rattle.std.proofs.Common.{arith, ◌++◌, ◌∷◌, [], ◌∙◌, take, drop, sym, ap, length}
+use Rattle.std.proofs.Common.{arith, ◌++◌, ◌∷◌, [], take, drop, ap, length}
 use Rattle.std.proofs.lemmas.List.{length_push, length-take}
 use Rattle.tpi_records.proofs.FramingLaws.{Begins-more}
 use Rattle.tpi_records.proofs.CutLaws.{ends, framed_in, found_in}

@@ -1,4 +1,4 @@
-use Rattle.std.proofs.Common.{take, drop, sym}
+use Rattle.std.proofs.Common.{drop, sym}
 use Rattle.std.proofs.lemmas.List.{take-append-drop}
 use Rattle.tpi_records.proofs.FramingLaws.{front_unflawed}
 use Rattle.tpi_records.proofs.framing.first_record.Goals as goal

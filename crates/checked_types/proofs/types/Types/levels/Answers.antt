@@ -1,5 +1,3 @@
-use Rattle.std.proofs.Common.{◌≡◌, ◌<◌, ◌^◌, ℕ, List, length}
-use Rattle.closed_trees.specs.Depth.{AreBelow, AreDepths, CountsLevels, HasLevels}
 use Rattle.closed_trees.proofs.TreeLaws.{tree_there}
 use Rattle.closed_trees.proofs.DepthLaws.{levels_counted}
 use Rattle.checked_types.proofs.types.Types.levels.Goals as goal

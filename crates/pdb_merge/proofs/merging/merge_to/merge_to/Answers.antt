@@ -1,12 +1,8 @@
-use Rattle.pdb_merge.proofs.FileLaws.{wrote, wrote_part}
+use Rattle.std.proofs.Common.{rules}
+use Rattle.pdb_merge.proofs.FileLaws.{merges}
 use Rattle.pdb_merge.proofs.merging.merge_to.merge_to.Goals as goal
 
-pub returns-clause-value : goal.returns-clause-value
-returns-clause-value g c = λ given is.
-    wrote given c.args.settings.now c.in_ok-canon.canon (g.W.Sink.taken c.args.out.now) (g.W.Sink.taken c.write_canon.new.out) c.write_canon.result
-    c.write_canon.ensures.settings (c.in_ok-canon.ensures.accepts.can given is).within (c.in_ok-canon.ensures.value given is) c.write_canon.ensures.value
-
-pub returns-clause-write : goal.returns-clause-write
-returns-clause-write g c = λ given is.
-    wrote_part given c.args.settings.now c.in_ok-canon.canon (g.W.Sink.taken c.args.out.now) (g.W.Sink.taken c.write_canon.new.out) _ c.write_canon.result
-    c.write_canon.ensures.settings (c.in_ok-canon.ensures.accepts.can given is).within (c.in_ok-canon.ensures.value given is) c.write_canon.ensures.write
+pub returns : goal.returns
+returns g c =
+    merges (g.I.Inputs.known c.args.files) c.args.settings.now c.in_ok-canon.canon g.W.Sink.taken g.W.Sink.is_broken c.args.out.now c.write_canon.new.out c.write_canon.result
+    (search rules) (search rules) (search rules) (search rules) (search rules) (search rules) (search rules) (search rules)

@@ -1,7 +1,6 @@
-use Rattle.std.proofs.Common.{arith, [], length, refl, sym, ◌∙◌, ◌≡◌, Some, None, ◌/◌}
-use Rattle.std.specs.List.{slice_get}
+use Rattle.std.proofs.Common.{[], refl, sym, ◌∙◌}
 use Rattle.tpi_records.specs.Records.{records_in}
-use Rattle.tpi_records.proofs.CutLaws.{few_records, none_in}
+use Rattle.tpi_records.proofs.CutLaws.{none_in}
 use Rattle.tpi_records.proofs.TableLaws.{is_kept, none_kept, none_framed}
 use Rattle.tpi_records.proofs.records.Records.bytes_from.Goals as goal
 

@@ -1,4 +1,4 @@
-use Rattle.std.proofs.Common.{arith, inl, inr, refl}
+use Rattle.std.proofs.Common.{inl, inr, refl}
 use Rattle.std.proofs.lemmas.Result.{err_from_is_err_and}
 use Rattle.tpi_records.specs.Records.{records_in}
 use Rattle.tpi_records.proofs.StreamLaws.{no_fault, framed_fault, framed_has, framed_few}
