@@ -11,7 +11,6 @@
 #![tactic(auto)]
 
 mod case;
-mod files;
 mod line;
 mod runs;
 

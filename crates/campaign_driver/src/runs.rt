@@ -10,7 +10,6 @@
 //! a file that was not written has no line.
 
 use crate::case::Head;
-use crate::files::Positioned;
 use crate::line::{push_end, push_fault, push_words, push_written};
 use byte_io::{In, Out};
 use pdb_commands::{
@@ -128,7 +127,7 @@ fn push_merge<R: AllocGlobal + RandomSource>(
     let mut report = Vec::new(rt.alloc());
     let merged = run_merge(
         rt.alloc(),
-        Positioned::new(files),
+        files,
         settings,
         &mut Out::new(&mut written),
         &mut Out::new(&mut report),

@@ -62,7 +62,7 @@ pub fn read_records<'a, A: Allocator + Copy>(
 /// The faults come in this order: those of the container; a container without a stream 1; a
 /// stream 1 with fewer bytes than a header; a container without a stream 2; those of that stream;
 /// those of its records, in order, for each record its leaf and then its references; and last a
-/// cycle of references. Of stream 1 only the length is looked at. Out of memory, `Memory`, comes
+/// cycle of references. Of stream 1 only the header is read. Out of memory, `Memory`, comes
 /// only where the container has no fault.
 ///
 /// The old bytes of the buffer are dropped first, so the streams of two files are never in memory

@@ -30,16 +30,16 @@ fn hold_one(rt: &HostRuntime) -> Option<File> {
 /// held while the program runs, by the root folder. A read of it fails, so a closed standard input
 /// is no empty list. A write fails too, and so does creating OUT under a name of the stream.
 #[derive(Drop)]
-pub struct HeldStreams {
+pub struct Held {
     _files: [Option<File>; 3],
 }
 
 /// Holds the numbers of the standard streams that are closed.
-pub fn hold(rt: &HostRuntime) -> HeldStreams {
+pub fn hold(rt: &HostRuntime) -> Held {
     let first = hold_one(rt);
     let second = first.as_ref().and_then(|_| hold_one(rt));
     let third = second.as_ref().and_then(|_| hold_one(rt));
-    HeldStreams {
+    Held {
         _files: [first, second, third],
     }
 }
