@@ -1,5 +1,5 @@
 -- Bytes that are read by position, of a file that may be known.
-use Rattle.std.specs.Prelude.{ℕ, ◌≡◌, ◌+◌, ◌<◌, ◌≤◌, ◌==◌, Bool, true, List, ◌++◌, length, take, drop, get_or, Option, Some, None}
+use Rattle.std.specs.Prelude.{ℕ, ◌≡◌, ◌+◌, ◌<◌, ◌≤◌, ◌==◌, Bool, true, List, ◌++◌, length, take, drop, get_or, Option, Some, None, Result, IfErr}
 use Rattle.byte_io.specs.declared.at.AtFault.{AtFault}
 use Rattle.byte_io.specs.declared.at.AtFault.TheVariants as at
 
@@ -41,6 +41,13 @@ pub record StandsAt (file : List ℕ) (offset : ℕ) (bytes : List ℕ) : Type 0
 abbrev pub Breaks : Bytes → Bool → Type 0
 Breaks bytes broken = broken ≡ true
 
+-- how a call that reads by position leaves its reader: the same is known of its bytes, and after a
+-- read that failed it is broken
+pub record Reads {R T F : Type 0} (bytes : R → Bytes) (is_broken : R → Bool) (before after : R)
+    (result : Result T (AtFault F)) : Type 0 where
+  pub keeps : bytes after ≡ bytes before
+  pub read : IfErr result (λ fault. fault ≡ at.Read → is_broken after ≡ true)
+
 -- if the fault is one of what was read, P holds of it
 abbrev pub IfOf : {F : Type 0} → (F → Type 0) → AtFault F → Type 0
 IfOf P at.Read = Unit {0}
@@ -50,3 +57,8 @@ IfOf P (at.Of fault) = P fault
 abbrev pub map_of : {F G : Type 0} → (F → G) → AtFault F → AtFault G
 map_of other at.Read = at.Read
 map_of other (at.Of fault) = at.Of (other fault)
+
+-- the same, with a fault of what was read that is made of this one
+abbrev pub WidensTo : {F G : Type 0} → (F → G → Type 0) → AtFault F → AtFault G → Type 0
+WidensTo gives at.Read wide = wide ≡ at.Read
+WidensTo {G = G} gives (at.Of fault) wide = (other : G) × gives fault other × (wide ≡ at.Of other)

@@ -1,5 +1,5 @@
 -- What reading each of several inputs gives.
-use Rattle.std.specs.Prelude.{ℕ, ◌≡◌, ◌<◌, List, Option, Some, Result, Ok, Err, map, slice_get}
+use Rattle.std.specs.Prelude.{ℕ, ◌≡◌, ◌<◌, Bool, false, List, Option, Some, Result, Ok, Err, map, slice_get}
 use Rattle.byte_io.specs.At.{Bytes, stable}
 use Rattle.byte_io.specs.declared.inputs.InputFault.{InputFault}
 use Rattle.byte_io.specs.declared.inputs.Opened.{Opened}
@@ -17,12 +17,16 @@ CanRead each end = (i : ℕ) → i < end → (bytes : List ℕ) × (slice_get ea
 abbrev pub IsFirstUnread : List (Result (List ℕ) InputFault) → ℕ → InputFault → Type 0
 IsFirstUnread each input fault = CanRead each input × (slice_get each input ≡ Some (Err fault))
 
+-- what is known of the bytes of an input that was opened
+abbrev pub opened_bytes : {F : Type 0} → (F → Bytes) → Opened F → Bytes
+opened_bytes bytes (Whole file) = stable file.now
+opened_bytes bytes (At input) = bytes input
+
+-- whether a read of an input that was opened failed; those of bytes in memory never fail
+abbrev pub is_opened_broken : {F : Type 0} → (F → Bool) → Opened F → Bool
+is_opened_broken is_broken (Whole file) = false
+is_opened_broken is_broken (At input) = is_broken input
+
 -- an input that was opened has these bytes
 abbrev pub HasBytes : {F : Type 0} → (F → Bytes) → Opened F → List ℕ → Type 0
-HasBytes bytes (Whole file) given = file.now ≡ given
-HasBytes bytes (At input) given = bytes input ≡ stable given
-
--- the input was opened to be read by position
-abbrev pub IsAt : {F : Type 0} → Opened F → Type 0
-IsAt (Whole file) = ⊥
-IsAt (At input) = Unit {0}
+HasBytes bytes opened given = opened_bytes bytes opened ≡ stable given

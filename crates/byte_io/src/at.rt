@@ -1,7 +1,7 @@
 //! Bytes that are read by position.
 
 ghost use Rattle.std.specs.Prelude.{◌≡◌, ◌⊎◌, ◌+◌, ◌<◌, ◌≤◌, ◌++◌, ◌↔◌, ℕ, Option, Some, None, Bool, true, false, IsTrue, length, take, drop, get_or, OnOk, IfErr, IfSome, IfNone};
-ghost use Rattle.byte_io.specs.At.{AreGiven, Breaks, Bytes, GivesBehind, IfKnown, StandsAt, stable, unknown};
+ghost use Rattle.byte_io.specs.At.{AreGiven, Breaks, Bytes, GivesBehind, IfKnown, StandsAt, WidensTo, stable, unknown};
 ghost use Rattle.byte_io.specs.declared.at.AtFault.TheVariants as at;
 
 use crate::input::ReadFault;
@@ -15,6 +15,18 @@ pub enum AtFault<F> {
     Read,
     /// What was read has this fault.
     Of(F),
+}
+
+impl<F> AtFault<F> {
+    /// The same with a fault of what was read that is made of this one.
+    pub fn widen<G: From<F>>(self) -> AtFault<G>
+        ensures { WidensTo G.from_gives self result }
+    {
+        match self {
+            AtFault::Read => AtFault::Read,
+            AtFault::Of(fault) => AtFault::Of(G::from(fault)),
+        }
+    }
 }
 
 impl<F> From<F> for AtFault<F> {
@@ -63,6 +75,18 @@ pub trait ReadAt {
         ensures whole { IfSome result (λ _. is_broken self.new ≡ is_broken self.old) }
         ensures refuses { IfNone result (Breaks (bytes self.old) (is_broken self.new)) }
         ensures stays { is_broken self.old ≡ true → is_broken self.new ≡ true };
+}
+
+/// Gives bytes from any position, and lends them where they are in memory.
+///
+/// What is lent lasts as long as `'a`, and not only as long as the reader. So the caller may read on
+/// while it has the part.
+pub trait Lend<'a>: ReadAt {
+    /// Lends `len` bytes from this offset on. `None` where they are not in memory.
+    fn part(&self, offset: u64, len: u32) -> Option<&'a [u8]>
+        ensures count { IfSome result (λ part. length part.now ≡ len) }
+        ensures given { IfSome result (λ part. AreGiven (Self.bytes self.now) offset part.now) }
+        ensures inside { IfSome result (λ part. offset + len ≤ (Self.bytes self.now).told) };
 }
 
 /// Reads `count` bytes from an offset on, and puts them in place of those that a buffer has from
@@ -148,6 +172,13 @@ impl<'a> ReadAt for &'a [u8] {
     }
 }
 
+impl<'a> Lend<'a> for &'a [u8] {
+    fn part(&self, offset: u64, len: u32) -> Option<&'a [u8]> {
+        let first = offset as usize;
+        self.get(first..first.checked_add(len as usize)?)
+    }
+}
+
 /// A file that is read by position. Each read is a seek, and then as many calls of `read` as it
 /// takes. An error breaks it, and so does an end of the file before the last byte that is wanted.
 #[derive(Debug, Drop)]
@@ -188,5 +219,11 @@ impl<F: Read + Seek> ReadAt for Seeking<F> {
             return None;
         }
         Some(())
+    }
+}
+
+impl<'a, F: Read + Seek> Lend<'a> for Seeking<F> {
+    fn part(&self, _offset: u64, _len: u32) -> Option<&'a [u8]> {
+        None
     }
 }

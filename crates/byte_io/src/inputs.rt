@@ -1,11 +1,11 @@
 //! Several inputs, which are read one after the other.
 
 ghost use Rattle.std.specs.Prelude.{◌≡◌, ◌⊎◌, ◌<◌, ℕ, List, Option, Some, Result, Ok, Err, length, map, slice_get, IfOk, IfErr, IfSome};
-ghost use Rattle.byte_io.specs.Inputs.{HasBytes};
+ghost use Rattle.byte_io.specs.Inputs.{HasBytes, is_opened_broken, opened_bytes};
 ghost use Rattle.byte_io.specs.declared.input.ReadFault.TheVariants as reads;
 ghost use Rattle.byte_io.specs.Fault.{input_number};
 
-use crate::at::ReadAt;
+use crate::at::{Lend, ReadAt};
 use crate::input::ReadFault;
 use std::alloc::Allocator;
 use thiserror::Error;
@@ -40,6 +40,35 @@ pub enum Opened<'a, F> {
     Whole(&'a [u8]),
     /// It can be read by position. Nothing of it was read yet.
     At(F),
+}
+
+impl<'a, F: ReadAt> ReadAt for Opened<'a, F> {
+    ghost bytes = { opened_bytes F.bytes };
+
+    ghost is_broken = { is_opened_broken F.is_broken };
+
+    fn len(&self) -> u64 {
+        match self {
+            Opened::Whole(file) => file.len() as u64,
+            Opened::At(input) => input.len(),
+        }
+    }
+
+    fn read_at(&mut self, offset: u64, into: &mut [u8]) -> Option<()> {
+        match self {
+            Opened::Whole(file) => file.read_at(offset, into),
+            Opened::At(input) => input.read_at(offset, into),
+        }
+    }
+}
+
+impl<'a, F: ReadAt> Lend<'a> for Opened<'a, F> {
+    fn part(&self, offset: u64, len: u32) -> Option<&'a [u8]> {
+        match self {
+            Opened::Whole(file) => file.part(offset, len),
+            Opened::At(_) => None,
+        }
+    }
 }
 
 /// Several inputs, which are read one at a time.

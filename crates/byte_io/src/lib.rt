@@ -8,7 +8,8 @@
 //! - [`Source`] gives bytes. [`In`] makes a source of any `Read`, and [`read_all`] reads a whole
 //!   source.
 //! - [`ReadAt`] gives bytes from any position. [`Seeking`] makes a `ReadAt` of any file that can
-//!   seek. A slice is a `ReadAt` by itself.
+//!   seek. A slice is a `ReadAt` by itself, and so is an input that was [`Opened`]. Each of them may
+//!   [`Lend`] its bytes, where they are in memory.
 //! - [`Inputs`] are several inputs that are read one after the other. An input is [`Opened`] to be
 //!   read by position, or read to its end.
 //!
@@ -37,7 +38,7 @@ mod inputs;
 mod sink;
 mod source;
 
-pub use at::{AtFault, ReadAt, Seeking, read_more, read_over};
+pub use at::{AtFault, Lend, ReadAt, Seeking, read_more, read_over};
 pub use fault::NotTaken;
 pub use input::{ReadFault, read_all, read_into, skip_all};
 pub use inputs::{InputFault, Inputs, Opened};
