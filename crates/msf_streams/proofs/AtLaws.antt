@@ -1,20 +1,20 @@
 -- A stream that is read by position.
-use Rattle.std.proofs.Common.{◌≡◌, ◌∙◌, ℕ, ◌+◌, ◌*◌, ◌<◌, ◌≤◌, List, Option, Some, None, length, get_or, ap, sym, refl, arith}
-use Rattle.std.specs.Prelude.{slice_get, option_map}
-use Rattle.std.proofs.lemmas.Nat.{mul-le}
+use Rattle.std.proofs.Common.{◌≡◌, ◌∙◌, ℕ, ◌+◌, ◌*◌, ◌/◌, ◌%◌, ◌<◌, ◌≤◌, List, Option, Some, None, length, get_or, ap, sym, refl, arith}
+use Rattle.std.specs.Prelude.{IfSome, slice_get, option_map}
+use Rattle.std.proofs.lemmas.Nat.{div-add-mod', mul-le}
 use Rattle.std.proofs.lemmas.List.Elements.{All-get_or}
 use Rattle.std.proofs.lemmas.List.FromFn.{length-map-range_with_len}
 use Rattle.std.proofs.lemmas.Option.{slice_get_within, slice_get-get_or}
-use Rattle.byte_io.specs.At.{Bytes, stable}
+use Rattle.byte_io.specs.At.{AreGiven, Bytes, stable}
 use Rattle.msf_blocks.specs.BlockNumber.{IsOrdinary, blocks_for}
 use Rattle.msf_blocks.specs.Blocks.{AreGivenIn, AreInside, in_blocks}
-use Rattle.msf_blocks.specs.Layout.{LayoutView, HasLayout}
+use Rattle.msf_blocks.specs.Layout.{LayoutView, HasLayout, IsLayout, block_of}
 use Rattle.msf_blocks.specs.Directory.{Listed, IsListed, bytes_of}
 use Rattle.msf_blocks.specs.Superblock.{HoldsBlocks}
-use Rattle.msf_streams.specs.Streams.{WasRead, listed_contents, stream_contents}
+use Rattle.msf_streams.specs.Streams.{AreConsecutive, WasRead, blocks_in, listed_contents, stream_contents}
 use Rattle.msf_blocks.proofs.KnownLaws.{blocks_given, blocks_known}
-use Rattle.msf_blocks.proofs.SizeLaws.{ceil_ge, some_bytes}
-use Rattle.msf_streams.proofs.LentLaws.{IsSized}
+use Rattle.msf_blocks.proofs.SizeLaws.{ceil_ge, place_below, some_bytes}
+use Rattle.msf_streams.proofs.LentLaws.{IsSized, is_sized}
 
 -- the blocks of a stream, and what is in them
 pub record AreBlocks (layout : LayoutView) (s size : ℕ) (blocks : List ℕ) : Type 0 where
@@ -49,6 +49,35 @@ was_read bytes layout s size blocks text sized is long given =
       count = omega (arith, long, sized.is);
       given = rw same at given;
     }
+
+-- bytes that are given from the first of consecutive blocks on are a text of the stream
+pub lent_given : (bytes : Bytes) (layout : LayoutView) (s size first : ℕ) (text : List ℕ) → IsLayout layout → option_map (λ l. bytes_of l.size) (slice_get layout.streams s) ≡ Some size
+    → block_of layout.streams s 0 ≡ Some first → AreConsecutive (blocks_in (slice_get layout.streams s)) → length text ≡ size → AreGiven bytes (first * layout.superblock.block_size) text → WasRead bytes layout s text
+lent_given bytes layout s size first text holds e there each long given =
+    let sized = is_sized layout s size holds e in
+    let b = layout.superblock.block_size in
+    let blocks = sized.stream.blocks in
+    let some = some_bytes b holds.size in
+    let listed : slice_get blocks 0 ≡ Some first = rw sized.here at there in
+    let many : 0 < length blocks = slice_get_within blocks 0 first listed in
+    let both : Some (get_or blocks 0 0) ≡ Some first = sym (slice_get-get_or blocks 0 0 many) ∙ listed in
+    let is : first ≡ get_or blocks 0 0 = cc in
+    let consecutive : AreConsecutive blocks = rw sized.here at each in
+    let count : length blocks ≡ blocks_for b size = sized.fits.count ∙ ap (blocks_for b) sized.is in
+    record {
+      stream = sized.stream;
+      listed = sized.here;
+      count = omega (arith, long, sized.is);
+      given = λ i below.
+          let at = consecutive (i / b) (omega (arith, count, place_below b size i some (omega (arith, below, long)))) in
+          let place : get_or blocks (i / b) 0 * b + i % b ≡ first * b + i = rw (at, ← is) (omega (arith, div-add-mod' i b)) in
+          rw place (given i below);
+    }
+
+-- what two facts of a value give
+pub some_of_both : {T : Type 0} (P Q R : T → Type 0) (found : Option T) → ((value : T) → P value → Q value → R value) → IfSome found P → IfSome found Q → IfSome found R
+some_of_both P Q R None each p q = tt
+some_of_both P Q R (Some value) each p q = each value p q
 
 -- ---- of a file that is known
 

@@ -1,4 +1,4 @@
--- A stream in consecutive blocks is one part of the file.
+-- A stream of a layout, and how many blocks it has.
 use Rattle.std.proofs.Common.{◌≡◌, ℕ, ◌+◌, ◌-◌, ◌*◌, ◌/◌, ◌%◌, ◌<◌, ◌≤◌, List, [], length, take, drop, get_or, Some, None, refl, sym, ap, ◌∙◌, arith, inl, inr}
 use Rattle.std.specs.Prelude.{All, option_map}
 use Rattle.std.proofs.lemmas.Bool.{cases_lt}
@@ -15,29 +15,6 @@ use Rattle.msf_blocks.specs.Blocks.{in_blocks}
 use Rattle.msf_blocks.proofs.RangeLaws.{map-same_ranges, part_by_places}
 use Rattle.msf_blocks.specs.Superblock.{HoldsBlocks}
 use Rattle.msf_streams.proofs.PieceLaws.{none_for, no_stream, stream_at}
-
--- the contents in consecutive blocks are the bytes from the first of them on
-pub consecutive_contents : (file : List ℕ) (b : ℕ) (blocks : List ℕ) (size first : ℕ) → 0 < b → length blocks ≡ blocks_for b size → first ≡ get_or blocks 0 0 → AreConsecutive blocks
-    → first * b + size ≤ length file → in_blocks file b blocks size ≡ take size (drop (first * b) file)
-unfolding in_blocks
-consecutive_contents file b blocks size first some long is each fits =
-    map-same_ranges (λ i. get_or file (get_or blocks (i / b) 0 * b + i % b) 0) (λ i. get_or file (first * b + i) 0) 0 0 size (λ i below.
-    let same : 0 + i ≡ i = omega arith in
-    let at = each (i / b) (omega (arith, long, place_below b size i some below)) in
-    let place : get_or blocks (i / b) 0 * b + i % b ≡ first * b + i = rw (at, ← is) (omega (arith, div-add-mod' i b)) in
-    rw (same, place) refl)
-    ∙ part_by_places file (first * b) size fits
-
--- the last of consecutive blocks is in the file as a whole, so all are
-pub consecutive_fit : (b : ℕ) (blocks : List ℕ) (size first n len : ℕ) → 0 < b → length blocks ≡ blocks_for b size → first ≡ get_or blocks 0 0 → AreConsecutive blocks
-    → All (IsOrdinary n) blocks → 0 < length blocks → n * b ≤ len → first * b + size ≤ len
-consecutive_fit b blocks size first n len some long is each ordinary many fits =
-    let last = length blocks - 1 in
-    let at = each last (omega arith) in
-    let below = (All-get_or (IsOrdinary n) blocks last 0 (omega arith) ordinary).1 in
-    let within : (first + length blocks) * b ≤ n * b = mul-le (first + length blocks) b n b (omega (arith, at, is, below)) (omega arith) in
-    let covers : size ≤ length blocks * b = rw long (ceil_ge b size some) in
-    omega (arith, within, covers)
 
 -- a stream of this size, its blocks, and how many there are
 pub record IsSized (layout : LayoutView) (s size : ℕ) : Type 0 where
@@ -58,41 +35,3 @@ is_sized layout s size holds e = elim (cases_lt s (length layout.streams)) [
       record { inside = below; stream = stream; here = found.here; fits = found.fits; is = is; count = rw (found.here, ← is) found.fits.count }
   | inr past ↦ let none : slice_get layout.streams s ≡ None = slice_get_past layout.streams s past in absurd (let bad = rw none at e in cc)
 ]
-
--- a stream without a first block is empty
-pub empty_lent : (file : List ℕ) (layout : LayoutView) (s size : ℕ) → IsLayout layout → option_map (λ l. bytes_of l.size) (slice_get layout.streams s) ≡ Some size → block_of layout.streams s 0 ≡ None
-    → (stream_contents file layout s ≡ Some []) × (length (blocks_in (slice_get layout.streams s)) ≡ 0)
-unfolding in_blocks
-empty_lent file layout s size holds e none =
-    let sized = is_sized layout s size holds e in
-    let b = layout.superblock.block_size in
-    let past : length sized.stream.blocks ≡ 0 = elim (cases_lt 0 (length sized.stream.blocks)) [
-      | inl below ↦
-          let there : slice_get sized.stream.blocks 0 ≡ None = rw sized.here at none in
-          let both : Some (get_or sized.stream.blocks 0 0) ≡ None = sym (slice_get-get_or sized.stream.blocks 0 0 below) ∙ there in
-          absurd cc
-      | inr le ↦ omega (arith, le)
-    ] in
-    let zero : bytes_of sized.stream.size ≡ 0 = none_for b (bytes_of sized.stream.size) (some_bytes b holds.size) (sym past ∙ sized.fits.count) in
-    (rw (sized.here, zero) refl, rw sized.here past)
-
--- where the contents of a stream in consecutive blocks are
-pub record IsLentAt (file : List ℕ) (layout : LayoutView) (s size first : ℕ) : Type 0 where
-  pub inside : first * layout.superblock.block_size + size ≤ length file
-  pub contents : stream_contents file layout s ≡ Some (take size (drop (first * layout.superblock.block_size) file))
-
-pub is_lent_at : (file : List ℕ) (layout : LayoutView) (s size first : ℕ) → IsLayout layout → HoldsBlocks file layout.superblock
-    → option_map (λ l. bytes_of l.size) (slice_get layout.streams s) ≡ Some size → block_of layout.streams s 0 ≡ Some first → AreConsecutive (blocks_in (slice_get layout.streams s)) → IsLentAt file layout s size first
-is_lent_at file layout s size first holds whole e there each =
-    let sized = is_sized layout s size holds e in
-    let b = layout.superblock.block_size in
-    let blocks = sized.stream.blocks in
-    let some = some_bytes b holds.size in
-    let listed : slice_get blocks 0 ≡ Some first = rw sized.here at there in
-    let many : 0 < length blocks = slice_get_within blocks 0 first listed in
-    let both : Some (get_or blocks 0 0) ≡ Some first = sym (slice_get-get_or blocks 0 0 many) ∙ listed in
-    let is : first ≡ get_or blocks 0 0 = cc in
-    let consecutive : AreConsecutive blocks = rw sized.here at each in
-    let count : length blocks ≡ blocks_for b size = sized.fits.count ∙ ap (blocks_for b) sized.is in
-    let inside = consecutive_fit b blocks size first layout.superblock.num_blocks (length file) some count is consecutive sized.fits.ordinary many whole in
-    record { inside = inside; contents = rw (sized.here, sized.is) (ap (λ (bytes : List ℕ). Some bytes) (consecutive_contents file b blocks size first some count is consecutive inside)) }

@@ -1,13 +1,15 @@
 //! The bytes of one stream, read by position.
 
-ghost use Rattle.std.specs.Prelude.{◌≡◌, ◌⊎◌, ◌≤◌, ◌<◌, length, Some, OnOk, IfErr};
-ghost use Rattle.byte_io.specs.At.{Breaks, IfKnown, IfOf};
+ghost use Rattle.std.specs.Prelude.{IsTrue, ◌≡◌, ◌↔◌, ◌⊎◌, ◌≤◌, ◌<◌, length, slice_get, option_map, Some, OnOk, IfOk, IfErr, IfSome};
+ghost use Rattle.byte_io.specs.At.{IfKnown, IfOf, Reads};
+ghost use Rattle.msf_blocks.specs.Directory.{bytes_of};
+ghost use Rattle.msf_blocks.specs.Layout.{HasLayout, IsLayout, block_of};
 ghost use Rattle.msf_blocks.specs.Superblock.{HoldsBlocks};
-ghost use Rattle.msf_streams.specs.Streams.{WasRead, stream_contents};
+ghost use Rattle.msf_streams.specs.Streams.{AreConsecutive, WasRead, blocks_in, stream_contents};
 
 use crate::fault::StreamFault;
-use byte_io::{AtFault, ReadAt, ReadFault};
-use msf_blocks::{Layout, read_blocks};
+use byte_io::{AtFault, Lend, ReadAt, ReadFault};
+use msf_blocks::{Layout, blocks_for, read_blocks};
 use std::alloc::Allocator;
 
 /// All the bytes of the `s`-th stream, from 0, read by position into a buffer, whose old bytes are
@@ -24,7 +26,7 @@ pub fn gather_at<R: ReadAt, A: Allocator, L: Allocator>(
     buffer: &mut Vec<u8, A>,
 ) -> Result<(), AtFault<StreamFault>>
     requires { IfKnown (R.bytes input.old) (λ file. HoldsBlocks file layout.now.superblock) }
-    ensures keeps { R.bytes input.new ≡ R.bytes input.old }
+    ensures reads { Reads R.bytes R.is_broken input.old input.new result }
     ensures value { OnOk result (IfKnown (R.bytes input.old) (λ file.
         stream_contents file layout.now s ≡ Some buffer.new.items)) }
     // Even if the file's bytes are not known, these are bytes that reads gave.
@@ -34,8 +36,6 @@ pub fn gather_at<R: ReadAt, A: Allocator, L: Allocator>(
     ensures first { IfErr result (IfOf (λ fault.
         ((fault ≡ StreamFault.NoStream s) × (length layout.now.streams ≤ s))
         ⊎ ((fault ≡ StreamFault.Memory) × (s < length layout.now.streams)))) }
-    ensures read { IfErr result (λ fault.
-        fault ≡ AtFault.Read → Breaks (R.bytes input.old) (R.is_broken input.new)) }
 {
     let Some(size) = layout.size(s) else {
         return Err(AtFault::Of(StreamFault::NoStream(s)));
@@ -54,4 +54,78 @@ pub fn gather_at<R: ReadAt, A: Allocator, L: Allocator>(
         Err(ReadFault::Memory) => Err(AtFault::Of(StreamFault::Memory)),
         Err(_) => Err(AtFault::Read),
     }
+}
+
+/// Whether the `count` blocks of the `s`-th stream are consecutive in the file. The first of them is
+/// `first`.
+fn are_consecutive<A: Allocator>(layout: &Layout<A>, s: u32, first: u32, count: u32) -> bool
+    requires first { block_of layout.now.streams s 0 ≡ Some first }
+    requires count { count ≡ length (blocks_in (slice_get layout.now.streams s)) }
+    ensures { IsTrue result ↔ AreConsecutive (blocks_in (slice_get layout.now.streams s)) }
+{
+    for k in 1..count {
+        if layout.block(s, k) != first.checked_add(k) {
+            return false;
+        }
+    }
+    true
+}
+
+/// The first block of the `s`-th stream, and how many bytes the stream has, where its blocks are
+/// consecutive. `None` where they are not, where there are none, and where `s` is not a stream.
+fn run_of<L: Allocator>(layout: &Layout<L>, s: u32) -> Option<(u32, u32)>
+    ensures size { IfSome result (λ run.
+        option_map (λ l. bytes_of l.size) (slice_get layout.now.streams s) ≡ Some run.1) }
+    ensures first { IfSome result (λ run. block_of layout.now.streams s 0 ≡ Some run.0) }
+    ensures run { IfSome result (λ _.
+        AreConsecutive (blocks_in (slice_get layout.now.streams s))) }
+    ensures fits { IfSome result (λ _. IsLayout layout.now) }
+{
+    let size = layout.size(s)?;
+    let first = layout.block(s, 0)?;
+    let block_size = layout.superblock().block_size();
+    if !are_consecutive(layout, s, first, blocks_for(block_size, size)) {
+        return None;
+    }
+    Some((first, size))
+}
+
+/// All the bytes of the `s`-th stream, from 0, lent where its blocks are consecutive and in memory.
+fn lent<'a, R: Lend<'a>, L: Allocator>(input: &R, layout: &Layout<L>, s: u32) -> Option<&'a [u8]>
+    ensures { IfSome result (λ part. WasRead (R.bytes input.now) layout.now s part.now) }
+{
+    let (first, size) = run_of(layout, s)?;
+    let block_size = layout.superblock().block_size();
+    input.part(u64::from(first) * u64::from(block_size), size)
+}
+
+/// All the bytes of the `s`-th stream, from 0: lent where its blocks are consecutive and in memory,
+/// and otherwise gathered into a buffer, whose old bytes are dropped.
+///
+/// `layout` has to be the layout of what is read. The faults are those of [`gather_at`]. ("The MSF
+/// File Format", "The Stream Directory".)
+pub fn contents_at<'a, 'b: 'a, R: Lend<'b>, A: Allocator, L: Allocator>(
+    input: &mut R,
+    layout: &Layout<L>,
+    s: u32,
+    buffer: &'a mut Vec<u8, A>,
+) -> Result<&'a [u8], AtFault<StreamFault>>
+    requires { IfKnown (R.bytes input.old) (λ file. HasLayout file layout.now) }
+    ensures reads { Reads R.bytes R.is_broken input.old input.new result }
+    ensures value { IfOk result (λ bytes. IfKnown (R.bytes input.old) (λ file.
+        stream_contents file layout.now s ≡ Some bytes.now)) }
+    // Even if the file's bytes are not known, these are bytes that reads gave.
+    ensures text { IfOk result (λ bytes.
+        WasRead (R.bytes input.old) layout.now s bytes.now) }
+    ensures found { s < length layout.now.streams →
+        IfErr result (IfOf (λ fault. fault ≡ StreamFault.Memory)) }
+    ensures first { IfErr result (IfOf (λ fault.
+        ((fault ≡ StreamFault.NoStream s) × (length layout.now.streams ≤ s))
+        ⊎ ((fault ≡ StreamFault.Memory) × (s < length layout.now.streams)))) }
+{
+    if let Some(part) = lent(input, layout, s) {
+        return Ok(part);
+    }
+    gather_at(input, layout, s, buffer)?;
+    Ok(buffer)
 }

@@ -6,13 +6,11 @@
 //!
 //! - [`pieces`] lends the contents from the file, in one piece for each block. It does not
 //!   allocate, so it reads streams of any size.
-//! - [`lent`] lends the contents as one part of the file, where the blocks are consecutive. Most
-//!   files keep their long streams so. It does not allocate either.
 //! - [`gather`] copies the contents into one buffer, for a reader of fields that cross from one
 //!   block into the next. It allocates the whole buffer before it copies anything.
-//! - [`contents`] lends the contents where they are one part of the file, and gathers them
-//!   otherwise.
 //! - [`gather_at`] gathers the contents by position, and reads no other byte of the file.
+//! - [`contents_at`] lends the contents where they are in memory and the blocks are consecutive.
+//!   Most files keep their long streams so. Otherwise it gathers them.
 //! - A [`Container`] is a file with its layout, as one value.
 //! - [`write_image`] writes the *image* of five streams: the container that holds just these
 //!   streams. [`write_parts`] does the same for streams that are lent in several parts, and
@@ -68,9 +66,9 @@ pub mod laws;
 mod streams;
 mod write;
 
-pub use at::gather_at;
+pub use at::{contents_at, gather_at};
 pub use container::Container;
 pub use fault::{StreamFault, WriteFault};
 pub use image::image_len;
-pub use streams::{StreamPieces as Pieces, contents, gather, lent, pieces};
+pub use streams::{StreamPieces as Pieces, gather, pieces};
 pub use write::{write_image, write_parts, write_parts_len};

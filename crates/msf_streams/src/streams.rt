@@ -1,13 +1,12 @@
 //! The bytes of one stream, read from a file.
 //!
 //! A stream's bytes are in blocks of the file. [`pieces`] lends the bytes in each of these blocks,
-//! in order; a [`StreamPieces`] is the iterator over them. Where the blocks are consecutive in the
-//! file, [`lent`] lends all the bytes as one part of it. [`gather`] copies all of them into one
-//! buffer. [`contents`] lends where it can, and gathers otherwise.
+//! in order; a [`StreamPieces`] is the iterator over them. [`gather`] copies all of them into one
+//! buffer.
 //!
-//! All take the file and its checked `Layout`. Every block number in a `Layout` is the number of a
-//! block of the file, so nothing here checks it again. Where `s` is not a stream, [`pieces`] and
-//! [`lent`] return `None`, and [`gather`] and [`contents`] return `NoStream`.
+//! Both take the file and its checked `Layout`. Every block number in a `Layout` is the number of a
+//! block of the file, so nothing here checks it again. Where `s` is not a stream, [`pieces`] returns
+//! `None`, and [`gather`] `NoStream`.
 //!
 //! The crate exports `StreamPieces` as `Pieces`. The toolchain refuses two items of one module
 //! whose names differ only in case, as `pieces` and `Pieces`.
@@ -21,9 +20,11 @@ ghost use Rattle.msf_blocks.specs.Layout.{IsLayout, block_of};
 ghost use Rattle.msf_blocks.specs.Superblock.{HoldsBlocks};
 ghost use Rattle.msf_streams.specs.Streams.{AreConsecutive, FirstIsLong, IsOnePart, blocks_in, stream_pieces, stream_contents, pieces_from};
 
+use crate::at::gather_at;
 use crate::container::Container;
 use crate::fault::StreamFault;
-use msf_blocks::{Layout, blocks_for};
+use byte_io::AtFault;
+use msf_blocks::Layout;
 use std::alloc::{Allocator, Global};
 use std::marker::Model;
 
@@ -75,79 +76,13 @@ pub fn gather<A: Allocator + Copy, L: Allocator>(
         ((fault ≡ StreamFault.NoStream s) × (length layout.now.streams ≤ s))
         ⊎ ((fault ≡ StreamFault.Memory) × (s < length layout.now.streams))) }
 {
-    let (Some(size), Some(found)) = (layout.size(s), pieces(file, layout, s)) else {
-        return Err(StreamFault::NoStream(s));
-    };
-    let mut bytes = Vec::with_capacity(alloc, size as usize)?;
-    for piece in found {
-        bytes.extend_from_slice(piece)?;
+    let mut bytes = Vec::new(alloc);
+    let mut input = file;
+    match gather_at(&mut input, layout, s, &mut bytes) {
+        Ok(()) => Ok(bytes),
+        Err(AtFault::Of(fault)) => Err(fault),
+        Err(AtFault::Read) => unreachable!(),
     }
-    Ok(bytes)
-}
-
-/// Whether the `count` blocks of the `s`-th stream are consecutive in the file. The first of them is
-/// `first`.
-fn are_consecutive<A: Allocator>(layout: &Layout<A>, s: u32, first: u32, count: u32) -> bool
-    requires first { block_of layout.now.streams s 0 ≡ Some first }
-    requires count { count ≡ length (blocks_in (slice_get layout.now.streams s)) }
-    ensures { IsTrue result ↔ AreConsecutive (blocks_in (slice_get layout.now.streams s)) }
-{
-    for k in 1..count {
-        if layout.block(s, k) != first.checked_add(k) {
-            return false;
-        }
-    }
-    true
-}
-
-/// All the bytes of the `s`-th stream, from 0, lent as one part of `file`.
-///
-/// `Some` exactly where `s` is a stream and its blocks are consecutive in the file, in the order of
-/// the stream's list. A nil stream and an empty stream give an empty part. `layout` has to be the
-/// layout of `file`. This does not allocate. ("The MSF File Format", "The Stream Directory".)
-pub fn lent<'a, A: Allocator>(file: &'a [u8], layout: &Layout<A>, s: u32) -> Option<&'a [u8]>
-    requires { HoldsBlocks file.now layout.now.superblock }
-    ensures value { IfSome result (λ part. stream_contents file.now layout.now s ≡ Some part.now) }
-    ensures some { IfSome result (λ _. IsOnePart layout.now s) }
-    ensures none { IfNone result (IsOnePart layout.now s → ⊥) }
-{
-    let size = layout.size(s)?;
-    let block_size = layout.superblock().block_size();
-    let Some(first) = layout.block(s, 0) else {
-        return Some(&[]);
-    };
-    if !are_consecutive(layout, s, first, blocks_for(block_size, size)) {
-        return None;
-    }
-    let (_, from_first) = file.split_at(first as usize * block_size as usize);
-    Some(&from_first[..size as usize])
-}
-
-/// All the bytes of the `s`-th stream, from 0: lent from `file` where its blocks are consecutive,
-/// and otherwise gathered into `buffer`, whose old bytes are dropped.
-///
-/// The faults are those of [`gather`]. `layout` has to be the layout of `file`. ("The MSF File
-/// Format", "The Stream Directory".)
-pub fn contents<'a, A: Allocator + Copy, L: Allocator>(
-    alloc: A,
-    file: &'a [u8],
-    layout: &Layout<L>,
-    s: u32,
-    buffer: &'a mut Vec<u8, A>,
-) -> Result<&'a [u8], StreamFault>
-    requires { HoldsBlocks file.now layout.now.superblock }
-    ensures value { IfOk result (λ bytes. stream_contents file.now layout.now s ≡ Some bytes.now) }
-    ensures found { s < length layout.now.streams →
-        IfErr result (λ fault. fault ≡ StreamFault.Memory) }
-    ensures first { IfErr result (λ fault.
-        ((fault ≡ StreamFault.NoStream s) × (length layout.now.streams ≤ s))
-        ⊎ ((fault ≡ StreamFault.Memory) × (s < length layout.now.streams))) }
-{
-    if let Some(part) = lent(file, layout, s) {
-        return Ok(part);
-    }
-    *buffer = gather(alloc, file, layout, s)?;
-    Ok(buffer)
 }
 
 /// The pieces of a stream that are still to come, in order. [`pieces`] makes it.

@@ -16,7 +16,7 @@ use Rattle.closed_trees.specs.Tree.{Tree, tree, nothing, IsTreeAt, blank_of, bra
 use Rattle.closed_trees.specs.Canon.{numbers, text}
 use Rattle.canonical_list.specs.Finish.{IsCanonOf}
 use Rattle.closed_trees.proofs.TreeLaws.{at_position}
-use Rattle.pdb_merge.specs.Read.{IsAccepted}
+use Rattle.file_types.specs.Read.{IsAccepted}
 use Rattle.pdb_merge.specs.Union.{HasType}
 use Rattle.pdb_merge.specs.Merged.{type_stream, merged_contents, merged_file}
 

@@ -9,7 +9,7 @@ use Rattle.closed_trees.specs.Tree.{Tree, IsType}
 use Rattle.closed_trees.specs.Canon.{texts}
 use Rattle.canonical_list.specs.Finish.{IsCanonOf}
 use Rattle.pdb_merge.specs.Answer.{AcceptsFiles, MergesTo, Writes, WritesPart}
-use Rattle.pdb_merge.specs.Read.{IsAccepted}
+use Rattle.file_types.specs.Read.{IsAccepted}
 use Rattle.closed_trees.proofs.WeightLaws.{weight_of_texts}
 use Rattle.closed_trees.proofs.CanonLaws.{one_canonical_list}
 use Rattle.pdb_merge.specs.Union.{HasType, FileHas, SameTypes, Weighs, Within}
@@ -18,7 +18,7 @@ use Rattle.pdb_merge.proofs.UnionLaws.{types_of_first, types_of_both, within_sam
 use Rattle.pdb_merge.proofs.ReadBackLaws.{IsBack, is_back}
 use Rattle.type_table.proofs.CanonTableLaws.{canon_same}
 use Rattle.msf_streams.specs.Put.{AppendsPart}
-use Rattle.pdb_merge.proofs.ReadLaws.{one_list}
+use Rattle.file_types.proofs.ReadLaws.{one_list}
 use Rattle.pdb_merge.specs.Merged.{merged_file, IsFileOf, Merged, WroteFile, Wrote, WrotePart}
 use Rattle.pdb_merge.specs.declared.fault.OutFault.{OutFault}
 use Rattle.pdb_merge.specs.declared.fault.OutFault.TheVariants as outs

@@ -12,17 +12,17 @@ use Rattle.byte_io.specs.declared.inputs.InputFault.TheVariants as inputs
 use Rattle.byte_io.specs.declared.input.ReadFault.TheVariants as reads
 use Rattle.pdb_merge.specs.Fault.{merge_from_input, merge_from_add, add_from_pdb, AddNamesFault, NamesFault}
 use Rattle.pdb_merge.specs.Answer.{RefusesFiles, RefusesReading}
-use Rattle.pdb_merge.specs.Read.{HasPdbFault}
-use Rattle.pdb_merge.specs.Union.{AcceptedBelow, CanMerge, IsMergeFault, IsReadingFault, IsReadingFaultAt, ReadsFirst}
+use Rattle.file_types.specs.Read.{HasPdbFault}
+use Rattle.pdb_merge.specs.Union.{AcceptedBelow, CanMerge, CanMergeBelow, IsMergeFault, IsReadingFault, IsReadingFaultAt, ReadsFirst}
 use Rattle.pdb_merge.proofs.MemoryLaws.{pdb_named}
-use Rattle.pdb_merge.proofs.ReadLaws.{accepted_unrefused}
-use Rattle.pdb_merge.proofs.UnionLaws.{refuses_files}
+use Rattle.file_types.proofs.ReadLaws.{accepted_unrefused}
+use Rattle.pdb_merge.proofs.UnionLaws.{refuses_files, stopped_alone}
 use Rattle.pdb_merge.specs.declared.fault.AddFault.{AddFault}
 use Rattle.pdb_merge.specs.declared.fault.AddFault.TheVariants as add
 use Rattle.pdb_merge.specs.declared.fault.MergeFault.{MergeFault}
 use Rattle.pdb_merge.specs.declared.fault.MergeFault.TheVariants as merge
-use Rattle.pdb_merge.specs.declared.fault.PdbFault.{PdbFault}
-use Rattle.pdb_merge.specs.declared.fault.PdbFault.TheVariants as pdb
+use Rattle.file_types.specs.declared.fault.PdbFault.{PdbFault}
+use Rattle.file_types.specs.declared.fault.PdbFault.TheVariants as pdb
 
 -- ---- files that can all be read
 
@@ -178,22 +178,9 @@ refuses_reading known fault first reads named = record {
   found = λ given gives accepted. reading_alone given fault (first given gives) accepted;
 }
 
--- the fault of an input that is not read, where those before it are, refuses reading
-pub unread_refuses_reading : {A : Type 0} (known : Option (List (Result (List ℕ) InputFault))) (i : ℕ) (inner : InputFault) (outer : MergeFault A) → IfSome known (λ each. CanRead each i)
-    → IsUnread known i inner → outer ≡ merge_from_input i inner → RefusesReading known outer
-unread_refuses_reading known i inner outer before is made =
-    refuses_reading known outer (λ given gives. rw (given_unread known given i inner outer gives is made) tt) (unread_first known i inner outer before is made) (input_named i inner outer made)
-
 -- an input within the inputs is within the files that they give
-given_inside : (known : Option (List (Result (List ℕ) InputFault))) (files : List (List ℕ)) (i : ℕ) → Give known files → IfSome known (λ each. i < length each) → i < length files
+pub given_inside : (known : Option (List (Result (List ℕ) InputFault))) (files : List (List ℕ)) (i : ℕ) → Give known files → IfSome known (λ each. i < length each) → i < length files
 given_inside known files i given inside = rw length-map at (rw given at inside)
-
--- the fault of a file stops the reading, where the files before it are accepted
-file_stops : {A : Type 0} (files : List (List ℕ)) (i : ℕ) (inner : PdbFault A) (outer : MergeFault A) → i < length files → outer ≡ merge_from_add i (add_from_pdb inner)
-    → AcceptedBelow files i × (HasPdbFault (get_or files i []) inner ⊎ (inner ≡ pdb.Memory)) → IsReadingFault files outer
-file_stops files i pdb.Memory outer inside made (below, is) = rw made tt
-file_stops files i inner outer inside made (below, inl refused) = rw made (inside, below, refused)
-file_stops files i inner outer inside made (below, inr memory) = absurd cc
 
 -- the fault of a file is a fault at its position
 pub file_stops_at : {A : Type 0} (files : List (List ℕ)) (i : ℕ) (inner : PdbFault A) (outer : MergeFault A) → outer ≡ merge_from_add i (add_from_pdb inner)
@@ -206,10 +193,27 @@ file_stops_at files i inner outer made (inr memory) = absurd cc
 pub memory_stops_at : {A : Type 0} (files : List (List ℕ)) (i : ℕ) (outer : MergeFault A) → outer ≡ merge.Memory → IsReadingFaultAt files i outer
 memory_stops_at files i outer is = rw is tt
 
--- the fault of a file refuses reading, where all are read, and those before it are accepted
-pub file_refuses_reading : {A : Type 0} (known : Option (List (Result (List ℕ) InputFault))) (i : ℕ) (inner : PdbFault A) (outer : MergeFault A) → IfSome known (λ each. CanRead each (length each))
-    → IfSome known (λ each. i < length each) → outer ≡ merge_from_add i (add_from_pdb inner)
-    → ((given : List (List ℕ)) → Give known given → AcceptedBelow given i × (HasPdbFault (get_or given i []) inner ⊎ (inner ≡ pdb.Memory))) → RefusesReading known outer
-file_refuses_reading known i inner outer all inside made has =
-    refuses_reading known outer (λ given gives. file_stops given i inner outer (given_inside known given i gives inside) made (has given gives))
-    (refused_last known i (add_from_pdb inner) outer all made) (add_named i (add_from_pdb inner) outer (pdb_named inner (add_from_pdb inner) refl) made)
+-- a fault at a position is the first one, where the files before it are accepted
+stops_there : {A : Type 0} (files : List (List ℕ)) (i : ℕ) (fault : MergeFault A) → i < length files → AcceptedBelow files i → IsReadingFaultAt files i fault → IsReadingFault files fault
+stops_there files i (merge.Refused file inner) inside below (is, refused) = rw is (inside, below, refused)
+stops_there files i merge.Memory inside below at = tt
+stops_there files i fault inside below at = absurd at
+
+-- it refuses reading
+pub at_refuses_reading : {A : Type 0} (known : Option (List (Result (List ℕ) InputFault))) (i : ℕ) (fault : MergeFault A) → IfSome known (λ each. i < length each) → IfSome known (λ each. ReadsFirst each fault) → NamesFault fault
+    → ((given : List (List ℕ)) → Give known given → AcceptedBelow given i) → ((given : List (List ℕ)) → Give known given → IsReadingFaultAt given i fault) → RefusesReading known fault
+at_refuses_reading known i fault inside reads named below at =
+    refuses_reading known fault (λ given gives. stops_there given i fault (given_inside known given i gives inside) (below given gives) (at given gives)) reads named
+
+-- it stops a merge, where the files before it can be merged
+stops_merge : {A : Type 0} (files : List (List ℕ)) (i limit : ℕ) (fault : MergeFault A) → i < length files → CanMergeBelow files i limit → IsReadingFaultAt files i fault → IsMergeFault files limit fault
+stops_merge files i limit (merge.Refused file inner) inside below (is, refused) = rw is (inside, below, refused)
+stops_merge files i limit merge.Memory inside below at = tt
+stops_merge files i limit fault inside below at = absurd at
+
+-- so it refuses the files
+pub at_refuses : {A : Type 0} (known : Option (List (Result (List ℕ) InputFault))) (i limit : ℕ) (fault : MergeFault A) → IfSome known (λ each. i < length each) → IfSome known (λ each. ReadsFirst each fault) → NamesFault fault
+    → ((given : List (List ℕ)) → Give known given → CanMergeBelow given i limit) → ((given : List (List ℕ)) → Give known given → IsReadingFaultAt given i fault) → RefusesFiles known limit fault
+at_refuses known i limit fault inside reads named below at =
+    let first : (given : List (List ℕ)) → Give known given → IsMergeFault given limit fault = λ given gives. stops_merge given i limit fault (given_inside known given i gives inside) (below given gives) (at given gives) in
+    refuses_files known limit fault first reads named (λ given gives can. stopped_alone given limit fault (first given gives) can)

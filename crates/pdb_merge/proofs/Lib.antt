@@ -1,5 +1,3 @@
-pub mod StreamLaws
-pub mod ReadLaws
 pub mod MemoryLaws
 pub mod UnionLaws
 pub mod MergingLaws

@@ -8,33 +8,17 @@ use Rattle.msf_blocks.specs.declared.fault.MsfFault.{MsfFault}
 use Rattle.msf_blocks.specs.declared.fault.MsfFault.TheVariants as msf
 use Rattle.msf_blocks.proofs.FoundLaws.{layout_holds}
 use Rattle.msf_blocks.proofs.MemoryLaws.{layout_wants_none}
-use Rattle.pdb_merge.specs.Fault.{pdb_from_msf, add_from_pdb, add_from_join, AddNamesFault}
-use Rattle.pdb_merge.specs.Read.{HasPdbFault}
+use Rattle.file_types.specs.Fault.{pdb_from_msf}
+use Rattle.pdb_merge.specs.Fault.{add_from_pdb, add_from_join, AddNamesFault}
+use Rattle.file_types.specs.Read.{HasPdbFault}
 use Rattle.pdb_merge.specs.Union.{IsAddFault}
 use Rattle.type_table.specs.declared.fault.JoinFault.{JoinFault}
 use Rattle.type_table.specs.declared.fault.JoinFault.TheVariants as join
 use Rattle.pdb_merge.specs.declared.fault.AddFault.{AddFault}
 use Rattle.pdb_merge.specs.declared.fault.AddFault.TheVariants as add
-use Rattle.pdb_merge.specs.declared.fault.PdbFault.{PdbFault}
-use Rattle.pdb_merge.specs.declared.fault.PdbFault.TheVariants.{Memory}
-use Rattle.pdb_merge.specs.declared.fault.PdbFault.TheVariants as pdb
-
--- if a fault of a container becomes out of memory for the file, it was out of memory
-of_msf_want : {A : Type 0} (inner : MsfFault) → ◌≡◌ {A = PdbFault A} (pdb_from_msf inner) Memory → inner ≡ msf.Memory
-of_msf_want msf.Memory is = refl
-of_msf_want inner is = absurd cc
-
--- a container that was refused when out of memory has no fault
-pub layout_want : {A : Type 0} (file : List ℕ) (inner : MsfFault) (fault : PdbFault A) → fault ≡ pdb_from_msf inner → Refuses msf.Memory (first_failing (layout_checks file)) inner → fault ≡ Memory → first_failing (layout_checks file) ≡ None
-layout_want file inner fault made (inr want) is = want.1
-layout_want file inner fault made (inl first) is = absurd (layout_wants_none file (first ∙ ap Some (of_msf_want inner (sym made ∙ is))))
-
--- a container that was read has no fault
-pub layout_sound : {T A : Type 0} (file : List ℕ) (layout : LayoutView) (result : Result T (PdbFault A)) → ((i : ℕ) → get_or file i 0 < 256) → HasLayout file layout → IfErr result (λ fault. fault ≡ Memory → first_failing (layout_checks file) ≡ None)
-layout_sound file layout (Ok value) bytes has = tt
-layout_sound file layout (Err fault) bytes has = λ is. layout_holds file layout bytes has
-
--- ---- the same for a file that is added
+use Rattle.file_types.specs.declared.fault.PdbFault.{PdbFault}
+use Rattle.file_types.specs.declared.fault.PdbFault.TheVariants.{Memory}
+use Rattle.file_types.specs.declared.fault.PdbFault.TheVariants as pdb
 
 -- if a fault of a file becomes out of memory for the merge, it was out of memory
 of_pdb_want : {A : Type 0} (inner : PdbFault A) → ◌≡◌ {A = AddFault A} (add_from_pdb inner) add.Memory → inner ≡ Memory
@@ -57,20 +41,7 @@ added_sound file layout (Err fault) bytes has = λ is. layout_holds file layout 
 
 -- ---- out of memory is never inside another fault
 
--- a fault of a file is not out of memory
-pub file_named : {A : Type 0} (file : List ℕ) (inner : PdbFault A) → HasPdbFault file inner → inner ≡ Memory → ⊥
-file_named file pdb.Memory (layout, has, inl bad) is = bad
-file_named file pdb.Memory (layout, has, inr (info, bad)) is = bad
-file_named file inner has is = absurd cc
-
--- so the fault of a file that hinders a merge is not
-pub hinders_named : {T A : Type 0} (before : List (List ℕ)) (limit : ℕ) (file : List ℕ) (answer : Result T (AddFault A)) → IfErr answer (IsAddFault before limit file) → IfErr answer AddNamesFault
-hinders_named before limit file (Ok value) is = tt
-hinders_named before limit file (Err (add.Refused inner)) is = file_named file inner is
-hinders_named before limit file (Err (add.TooLarge bytes)) is = tt
-hinders_named before limit file (Err add.Memory) is = tt
-
--- nor is a fault that is made of one of the file or of the union
+-- a fault that is made of one of the file or of the union is not out of memory
 pub pdb_named : {A : Type 0} (inner : PdbFault A) (outer : AddFault A) → outer ≡ add_from_pdb inner → AddNamesFault outer
 pdb_named pdb.Memory outer made = rw made tt
 pdb_named inner outer made = rw made (λ is. cc)

@@ -10,16 +10,16 @@ use Rattle.byte_io.specs.At.{Bytes, IfKnown, IfOf}
 use Rattle.byte_io.specs.declared.at.AtFault.{AtFault}
 use Rattle.byte_io.specs.declared.at.AtFault.TheVariants as at
 use Rattle.pdb_merge.specs.Fault.{merge_from_add, add_from_pdb}
-use Rattle.pdb_merge.specs.Read.{HasPdbFault}
-use Rattle.pdb_merge.specs.declared.fault.PdbFault.{PdbFault}
-use Rattle.pdb_merge.specs.declared.fault.PdbFault.TheVariants as pdb
+use Rattle.file_types.specs.Read.{HasPdbFault}
+use Rattle.file_types.specs.declared.fault.PdbFault.{PdbFault}
+use Rattle.file_types.specs.declared.fault.PdbFault.TheVariants as pdb
 use Rattle.pdb_merge.specs.Merging.{MergeView, HasTaken}
 use Rattle.pdb_merge.specs.Union.{HasType, HasTypeBelow, AcceptedBelow, Within, AddsFile, IsAddFault, CanMerge, CanMergeBelow, IsMergeFault, Unites}
 use Rattle.pdb_merge.specs.declared.fault.AddFault.{AddFault}
 use Rattle.pdb_merge.specs.declared.fault.AddFault.TheVariants as add
 use Rattle.pdb_merge.specs.declared.fault.MergeFault.{MergeFault}
 use Rattle.pdb_merge.specs.declared.fault.MergeFault.TheVariants as merge
-use Rattle.pdb_merge.proofs.UnionLaws.{none_within, none_united, none_accepted, united_more, accepted_more, hindered, added_alone, weighs_same, within_same, all_merged}
+use Rattle.pdb_merge.proofs.UnionLaws.{none_within, none_united, none_accepted, united_more, accepted_more, hindered, added_alone, weighs_same, within_same, all_merged, merged_below}
 
 -- ---- files with more files after them
 
@@ -116,30 +116,7 @@ taken_alone before files more file inner hinders taken can =
     let accepted = accepted_still first more (length files) (omega (arith, inside)) (accepted_still files (file ∷ []) (length files) (omega arith) taken.accepted) in
     added_alone before.types all (length files) before.limit inner whole unites accepted taken.within (rw last hinders) can
 
--- ---- after one more file
-
-pub taken_after : {A E : Type 0} (before after : MergeView) (file : List ℕ) (answer : Result A E) → IfOk answer (λ _. AddsFile before.types after.types file)
-    → IfOk answer (λ _. Within (IsType after.types) after.limit) → IfOk answer (λ _. (files : List (List ℕ)) → HasTaken before files → HasTaken after (files ++ file ∷ []))
-taken_after before after file (Ok done) takes within = λ files taken. taken_more before after files file takes within taken
-taken_after before after file (Err fault) takes within = tt
-
-pub stops_after : {T A : Type 0} (before : MergeView) (file : List ℕ) (answer : Result T (AddFault A)) → IfErr answer (IsAddFault before.types before.limit file)
-    → IfErr answer (λ fault. (files : List (List ℕ)) → HasTaken before files → IsMergeFault (files ++ file ∷ []) before.limit (merge_from_add (length files) fault))
-stops_after before file (Ok done) hinders = tt
-stops_after before file (Err fault) hinders = λ files taken. taken_stops before files file fault hinders taken
-
-pub alone_after : {T A : Type 0} (before : MergeView) (file : List ℕ) (answer : Result T (AddFault A)) → IfErr answer (IsAddFault before.types before.limit file)
-    → IfErr answer (λ fault. (files more : List (List ℕ)) → HasTaken before files → CanMerge ((files ++ file ∷ []) ++ more) before.limit → fault ≡ add.Memory)
-alone_after before file (Ok done) hinders = tt
-alone_after before file (Err fault) hinders = λ files more taken can. taken_alone before files more file fault hinders taken can
-
--- ---- one more file that is read by position
-
--- a fault of the file hinders it
-pub pdb_hinders_at : {A : Type 0} (before : List (List ℕ)) (limit : ℕ) (file : List ℕ) (inner : PdbFault A) (outer : AddFault A) → outer ≡ add_from_pdb inner → HasPdbFault file inner ⊎ (inner ≡ pdb.Memory) → IsAddFault before limit file outer
-pdb_hinders_at before limit file pdb.Memory outer made first = rw made tt
-pdb_hinders_at before limit file inner outer made (inl first) = rw made first
-pdb_hinders_at before limit file inner outer made (inr want) = absurd cc
+-- ---- after one more file that is read by position
 
 pub taken_at : {A E : Type 0} (before after : MergeView) (bytes : Bytes) (answer : Result A E) → IfOk answer (λ _. IfKnown bytes (λ file. AddsFile before.types after.types file))
     → IfOk answer (λ _. Within (IsType after.types) after.limit) → IfOk answer (λ _. IfKnown bytes (λ file. (files : List (List ℕ)) → HasTaken before files → HasTaken after (files ++ file ∷ [])))
@@ -183,3 +160,13 @@ pub finished : {E : Type 0} (merge : MergeView) (answer : Result (List (List ℕ
     → IfOk answer (λ canon. (files : List (List ℕ)) → HasTaken merge files → IsCanonOf canon (HasType files))
 finished merge (Ok canon) is = λ files taken. canon_same canon (IsType merge.types) (HasType files) is taken.unites
 finished merge (Err fault) is = tt
+
+-- ---- the files of a list so far
+
+-- the files that a merge has taken can be merged
+pub taken_below : (merge : MergeView) (files : List (List ℕ)) (k : ℕ) → k < length files → HasTaken merge (take k files) → CanMergeBelow files k merge.limit
+taken_below merge files k inside taken =
+    let some = take k files in
+    let many : length some ≡ k = length-take-le k files (omega (arith, inside)) in
+    let below = merged_below merge.types some (length some) merge.limit taken.unites taken.accepted taken.within in
+    rw (take-append-drop k files, many) at (can_still some (drop k files) (length some) merge.limit (omega arith) below)

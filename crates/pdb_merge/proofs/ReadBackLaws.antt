@@ -15,7 +15,7 @@ use Rattle.tpi_records.proofs.CutLaws.{many_bytes}
 use Rattle.closed_trees.specs.Tree.{Tree, IsType, nothing, IsTreeAt, tree}
 use Rattle.closed_trees.specs.Canon.{text, texts, weight, Canonical}
 use Rattle.canonical_list.specs.Finish.{IsCanonOf}
-use Rattle.pdb_merge.specs.Read.{IsAccepted}
+use Rattle.file_types.specs.Read.{IsAccepted}
 use Rattle.closed_trees.specs.Types.{AreTypes}
 use Rattle.closed_trees.proofs.ReadLaws.{canonical_reads_back}
 use Rattle.closed_trees.proofs.WeightLaws.{weight_of_texts, weight_grows}

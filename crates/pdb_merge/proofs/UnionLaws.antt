@@ -11,7 +11,7 @@ use Rattle.closed_trees.specs.Table.{IsUnion}
 use Rattle.type_table.specs.declared.fault.JoinFault.{JoinFault}
 use Rattle.type_table.specs.declared.fault.JoinFault.TheVariants as join
 use Rattle.closed_trees.proofs.WeightLaws.{weight-none, weight_grows}
-use Rattle.pdb_merge.specs.Read.{IsAccepted}
+use Rattle.file_types.specs.Read.{IsAccepted}
 use Rattle.byte_io.specs.Inputs.{Give}
 use Rattle.byte_io.specs.declared.inputs.InputFault.{InputFault}
 use Rattle.pdb_merge.specs.Answer.{RefusesFiles}
@@ -22,7 +22,7 @@ use Rattle.pdb_merge.specs.declared.fault.AddFault.{AddFault}
 use Rattle.pdb_merge.specs.declared.fault.AddFault.TheVariants as add
 use Rattle.pdb_merge.specs.declared.fault.MergeFault.{MergeFault}
 use Rattle.pdb_merge.specs.declared.fault.MergeFault.TheVariants as merge
-use Rattle.pdb_merge.proofs.ReadLaws.{one_list, accepted_unrefused}
+use Rattle.file_types.proofs.ReadLaws.{one_list, accepted_unrefused}
 
 -- ---- weights
 
@@ -60,14 +60,6 @@ union_within before types after limit u same =
 pub not_added : (added : Bool) (before after : List (List ℕ)) → IsTrue added ⊎ (after ≡ before) → added ≡ false → after ≡ before
 not_added added before after (inl is) none = absurd cc
 not_added added before after (inr same) none = same
-
--- a fault of the union is a fault of the file that is added
-pub join_hinders : {A : Type 0} (before types : List (List ℕ)) (limit : ℕ) (file : List ℕ) (inner : JoinFault) (outer : AddFault A) → IsAccepted file types → outer ≡ add_from_join inner
-    → ((bytes : ℕ) → inner ≡ join.TooLarge bytes → (limit < bytes) × ((l : List Tree) × IsUnion l before types × (weight l ≡ bytes))) → IsAddFault before limit file outer
-join_hinders before types limit file (join.TooLarge bytes) outer accepted made large =
-    let u = large bytes refl in
-    rw made (types, accepted, union_weighs before types u.1.0 bytes u.1.1 u.1.2, u.0)
-join_hinders before types limit file join.Memory outer accepted made large = rw made tt
 
 -- ---- one more file
 

@@ -1,5 +1,4 @@
 pub mod Fault
-pub mod Read
 pub mod Laws
 pub mod Union
 pub mod Merged

@@ -9,7 +9,7 @@ use Rattle.pdb_info.specs.Written.{info_contents}
 use Rattle.tpi_records.specs.Written.{header_bytes}
 use Rattle.closed_trees.specs.Tree.{Tree, IsTreeAt, IsType}
 use Rattle.canonical_list.specs.Finish.{IsCanonOf}
-use Rattle.pdb_merge.specs.Read.{IsAccepted}
+use Rattle.file_types.specs.Read.{IsAccepted}
 use Rattle.pdb_merge.specs.Union.{HasType, SameTypes, Weighs, CanMerge}
 use Rattle.pdb_merge.specs.declared.summary.Summary.{Summary}
 

@@ -7,7 +7,7 @@ use Rattle.byte_io.specs.declared.inputs.InputFault.{InputFault}
 use Rattle.closed_trees.specs.Tree.{Tree, IsType}
 use Rattle.closed_trees.specs.Canon.{weight}
 use Rattle.msf_blocks.specs.Layout.{LayoutView, HasTexts}
-use Rattle.pdb_merge.specs.Read.{IsAccepted, TypesWereRead, HasPdbFault, HasPdbFaultRead, IsLayoutFaultRead}
+use Rattle.file_types.specs.Read.{IsAccepted, TypesWereRead, HasPdbFault, HasPdbFaultRead, IsLayoutFaultRead}
 use Rattle.pdb_merge.specs.declared.fault.AddFault.{AddFault}
 use Rattle.pdb_merge.specs.declared.fault.AddFault.TheVariants as add
 use Rattle.pdb_merge.specs.declared.fault.MergeFault.{MergeFault}
@@ -62,13 +62,17 @@ pub record AddsFile (before after : List (List ℕ)) (file : List ℕ) : Type 0 
   pub accepted : IsAccepted file records
   pub types : (t : Tree) → IsType after t ↔ (IsType before t ⊎ IsType records t)
 
--- `after` has the types of `before` and those that reads gave: reads gave a layout, and the records of its stream 2
-pub record AddsTexts (before after : List (List ℕ)) (bytes : Bytes) : Type 0 where
-  pub layout : LayoutView
-  pub has_texts : HasTexts bytes layout
-  pub records : List (List ℕ)
-  pub were_read : TypesWereRead bytes layout records
-  pub types : (t : Tree) → IsType after t ↔ (IsType before t ⊎ IsType records t)
+-- `after` has the types of `before`, and those that reads gave of this layout
+pub record AddsRead (before after : List (List ℕ)) (bytes : Bytes) (layout : LayoutView) : Type 0
+  where
+    pub records : List (List ℕ)
+    pub were_read : TypesWereRead bytes layout records
+    pub types : (t : Tree) → IsType after t ↔ (IsType before t ⊎ IsType records t)
+
+-- `after` has the types of `before` and those that reads gave: reads gave a layout, and types of it
+abbrev pub AddsTexts : List (List ℕ) → List (List ℕ) → Bytes → Type 0
+AddsTexts before after bytes =
+    (layout : LayoutView) × HasTexts bytes layout × AddsRead before after bytes layout
 
 -- this is why the file is not added to the types of `before`: it is not accepted, or the union has `bytes` bytes, more than the limit, or memory ran out
 abbrev pub IsAddFault : {A : Type 0} → List (List ℕ) → ℕ → List ℕ → AddFault A → Type 0

@@ -1,16 +1,11 @@
-//! What holds of accepted files, and of the files that are written for their types.
+//! What holds of the files that are written for the types of files.
 //!
 //! Each function here does nothing: its contract is the law. A law on written files holds for all
 //! settings.
 
-ghost use Rattle.pdb_merge.specs.Laws.{OneListEach, MergedReadsBack, MergedHas, MergedFilesDiffer, MergedAgain, EarlierMerge, OneMergedFile, TypesOfFirst, TypesOfBoth, AnyOrder, RefusedInAnyOrder, OneWeight};
+ghost use Rattle.pdb_merge.specs.Laws.{MergedReadsBack, MergedHas, MergedFilesDiffer, MergedAgain, EarlierMerge, OneMergedFile, TypesOfFirst, TypesOfBoth, AnyOrder, RefusedInAnyOrder, OneWeight};
 
 use std::alloc::Allocator;
-
-/// A file is accepted with only one list of records.
-pub fn one_list_each()
-    ensures { OneListEach }
-{}
 
 /// A file that is written for the types of files is accepted, and has just these types.
 pub fn merged_reads_back()

@@ -1,17 +1,8 @@
-//! The types of whole files, and one file for the types of many files.
+//! One file for the types of many files.
 //!
-//! A Program Database file is *accepted* where everything on the way to its types is sound. It is a
-//! container. Its stream 1, which identifies the file, has at least the 28 bytes of a header. Its
-//! stream 2 holds type records, and the records are types: each names only simple types and records
-//! of the file, and no record leads into a cycle.
+//! The crate `file_types` says when a file is accepted, and reads the types of one. What a merge
+//! takes of it can be named here too: [`Buffer`], [`PdbFault`] and [`read_types`].
 //!
-//! - [`read_types`] reads the types of a file. They are lent from the file if the blocks of its TPI
-//!   stream are consecutive. Otherwise they are lent from a [`Buffer`], which the caller passes.
-//!   The caller may pass the same buffer for the next file, so the gathered streams of two files
-//!   are never in memory at once. [`PdbFault`] is the first fault on the way.
-//! - [`read_types_at`] reads the types by position: of the file only its directory and the blocks
-//!   of its TPI stream. [`read_records_of`] and [`read_types_of`] read the type records and the
-//!   types where the layout of the file was read before.
 //! - [`read_input_types`] reads the types of one of several inputs, as a merge reads it. They are
 //!   lent from an [`InputBuffer`].
 //! - [`merge_to`] merges files: it writes one file with the types of all of them, each once, into
@@ -19,9 +10,8 @@
 //!   such a list. [`Merge`] takes files one after the other, whole or by position.
 //! - [`MergeFault`] names the first file that is at fault, by its position, from 0.
 //!
-//! What is proved: a file is read exactly if it is accepted (`IsAccepted` of `specs/Read`), unless
-//! memory runs out. Its records are the only ones with which it is accepted. The file that
-//! `merge_to` writes (`Wrote` of `specs/Merged`) has exactly the types of the files, each once, in
+//! What is proved: files are merged exactly if each is accepted and their types are within the
+//! limit, unless memory runs out. The file that `merge_to` writes (`Wrote` of `specs/Merged`) has exactly the types of the files, each once, in
 //! canonical order, and it is accepted with these. Any files with the same types give this file, if
 //! age, GUID and block size are equal. A refusal is the first fault. The [`laws`] hold for every
 //! file that is written in this way.
@@ -52,23 +42,18 @@
 //! ```
 #![tactic(auto)]
 
-mod buffer;
 mod fault;
-mod input_types;
+mod input;
 pub mod laws;
 mod merge;
 mod merging;
-mod read;
-mod read_at;
 mod summary;
 
-pub use buffer::Buffer;
-pub use fault::{AddFault, MergeFault, OutFault, PdbFault};
-pub use input_types::{InputBuffer, read_input_types};
+pub use fault::{AddFault, MergeFault, OutFault};
+pub use file_types::{Buffer, PdbFault, read_types};
+pub use input::{InputBuffer, read_input_types};
 pub use merge::Merge;
 pub use merging::merge_files::merge_files;
 pub use merging::merge_to::{merge_to, write_canon};
 pub use merging::write_merged::write_merged;
-pub use read::{read_records, read_types};
-pub use read_at::{read_records_of, read_types_at, read_types_of};
 pub use summary::Summary;

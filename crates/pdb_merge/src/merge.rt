@@ -1,21 +1,20 @@
 //! A merge in progress.
 
 ghost use Rattle.std.specs.Prelude.{◌≡◌, ◌⊎◌, ◌↔◌, ◌++◌, [], ◌∷◌, ℕ, List, None, length, IfOk, IfErr};
+ghost use Rattle.byte_fields.specs.Bytes.{AreBytes};
 ghost use Rattle.byte_fields.specs.Check.{first_failing};
-ghost use Rattle.byte_io.specs.At.{Breaks, Bytes, IfKnown, IfOf};
+ghost use Rattle.byte_io.specs.At.{Bytes, IfKnown, IfOf, Reads};
 ghost use Rattle.msf_blocks.specs.Layout.{LayoutView, layout_checks};
-ghost use Rattle.closed_trees.specs.Types.{AreTypes};
-ghost use Rattle.closed_trees.specs.Tree.{Tree, IsType};
+ghost use Rattle.closed_trees.specs.Tree.{IsType};
 ghost use Rattle.canonical_list.specs.Finish.{IsCanonOf};
 ghost use Rattle.pdb_merge.specs.Fault.{merge_from_add, AddNamesFault};
-ghost use Rattle.pdb_merge.specs.Union.{HasType, Within, AddsFile, AddsTexts, IsAddFault, IsAddFaultRead, IsAddFaultOfTexts, CanMerge, IsMergeFault};
+ghost use Rattle.pdb_merge.specs.Union.{HasType, Within, AddsFile, AddsRead, AddsTexts, IsAddFault, IsAddFaultRead, IsAddFaultOfTexts, CanMerge, IsMergeFault};
 ghost use Rattle.pdb_merge.specs.Merging.{HasTaken};
-ghost use Rattle.pdb_merge.specs.Read.{ListsTypes, RecordsWereRead, ListsLongInfo};
+ghost use Rattle.file_types.specs.Read.{UncheckedWereRead};
 
-use crate::buffer::Buffer;
 use crate::fault::AddFault;
-use crate::read::check_types;
-use byte_io::{AtFault, ReadAt};
+use byte_io::{AtFault, Lend};
+use file_types::{Buffer, check_types, read_unchecked};
 use std::alloc::{Allocator, Global};
 use std::hash::BuildHasher;
 use std::marker::Model;
@@ -54,22 +53,21 @@ impl<S: BuildHasher, A: Allocator + Copy> Merge<S, A> {
         }
     }
 
-    /// Adds the types of a file that lists these records to the table. If the records can't be
-    /// added as they stand, they are first checked for a fault and put in order.
-    fn add_listed(&mut self, alloc: A, records: Records<'_, A>) -> Result<(), AddFault<A>>
-        ensures value { (file : List ℕ) → ListsTypes file records.entry →
-            IfOk result (λ _. AddsFile self.old.types self.new.types file) }
-        ensures union { IfOk result (λ _.
-            AreTypes records.entry
-            × ((t : Tree) →
-            IsType self.new.types t ↔ (IsType self.old.types t ⊎ IsType records.entry t))) }
+    /// Adds the types of a file whose records these are, to the table. If the records can't be added
+    /// as they stand, they are first checked for a fault and put in order.
+    pub(crate) fn add_records(
+        &mut self,
+        alloc: A,
+        records: Records<'_, A>,
+    ) -> Result<(), AddFault<A>>
+        ensures texts { (bytes : Bytes) (layout : LayoutView) →
+            UncheckedWereRead bytes layout records.entry →
+            IfOk result (λ _. AddsRead self.old.types self.new.types bytes layout) }
         ensures within { IfOk result (λ _. Within (IsType self.new.types) self.new.limit) }
         ensures limit { self.new.limit ≡ self.old.limit }
         ensures kept { IfErr result (λ _. self.new ≡ self.old) }
-        ensures first { (file : List ℕ) → ListsTypes file records.entry →
-            IfErr result (IsAddFault self.old.types self.old.limit file) }
         ensures refused { (bytes : Bytes) (layout : LayoutView) →
-            RecordsWereRead bytes layout records.entry → ListsLongInfo layout →
+            UncheckedWereRead bytes layout records.entry →
             IfErr result (IsAddFaultRead self.old.types self.old.limit bytes layout) }
         ensures named { IfErr result AddNamesFault }
     {
@@ -82,56 +80,32 @@ impl<S: BuildHasher, A: Allocator + Copy> Merge<S, A> {
     }
 
     /// Adds the types of a file to the table.
-    fn add_types(
-        &mut self,
-        alloc: A,
-        file: &[u8],
-        buffer: &mut Buffer<A>,
-    ) -> Result<(), AddFault<A>>
-        ensures value { IfOk result (λ _. AddsFile self.old.types self.new.types file.now) }
-        ensures within { IfOk result (λ _. Within (IsType self.new.types) self.new.limit) }
-        ensures limit { self.new.limit ≡ self.old.limit }
-        ensures kept { IfErr result (λ _. self.new ≡ self.old) }
-        ensures first { IfErr result (IsAddFault self.old.types self.old.limit file.now) }
-        ensures memory { IfErr result (λ fault.
-            fault ≡ AddFault.Memory → first_failing (layout_checks file.now) ≡ None) }
-    {
-        let records = buffer.list_records(alloc, file)?;
-        self.add_listed(alloc, records)
-    }
-
-    /// Adds the types of a file that is read by position to the table.
-    fn add_types_at<R: ReadAt>(
+    fn add_types_at<'b, R: Lend<'b>>(
         &mut self,
         alloc: A,
         input: &mut R,
         buffer: &mut Buffer<A>,
     ) -> Result<(), AtFault<AddFault<A>>>
-        ensures keeps { R.bytes input.new ≡ R.bytes input.old }
-        ensures value { IfOk result (λ _.
-            IfKnown (R.bytes input.old) (λ file. AddsFile self.old.types self.new.types file)) }
+        ensures reads { Reads R.bytes R.is_broken input.old input.new result }
+        ensures small { IfKnown (R.bytes input.old) AreBytes }
         ensures texts { IfOk result (λ _.
             AddsTexts self.old.types self.new.types (R.bytes input.old)) }
         ensures within { IfOk result (λ _. Within (IsType self.new.types) self.new.limit) }
         ensures limit { self.new.limit ≡ self.old.limit }
         ensures kept { IfErr result (λ _. self.new ≡ self.old) }
-        ensures first { IfErr result (IfOf (λ fault. IfKnown (R.bytes input.old) (λ file.
-            IsAddFault self.old.types self.old.limit file fault))) }
         ensures refused { IfErr result
             (IfOf (IsAddFaultOfTexts self.old.types self.old.limit (R.bytes input.old))) }
         ensures named { IfErr result (IfOf AddNamesFault) }
         ensures memory { IfErr result (IfOf (λ fault.
             fault ≡ AddFault.Memory →
             IfKnown (R.bytes input.old) (λ file. first_failing (layout_checks file) ≡ None))) }
-        ensures read { IfErr result (λ fault.
-            fault ≡ AtFault.Read → Breaks (R.bytes input.old) (R.is_broken input.new)) }
     {
-        let records = match buffer.listed_at(alloc, input) {
+        let records = match read_unchecked(alloc, input, buffer) {
             Ok(records) => records,
             Err(AtFault::Of(fault)) => return Err(AtFault::Of(AddFault::from(fault))),
             Err(AtFault::Read) => return Err(AtFault::Read),
         };
-        match self.add_listed(alloc, records) {
+        match self.add_records(alloc, records) {
             Ok(()) => Ok(()),
             Err(fault) => Err(AtFault::Of(fault)),
         }
@@ -169,23 +143,29 @@ impl<S: BuildHasher, A: Allocator + Copy> Merge<S, A> {
             CanMerge ((files ++ file.now ∷ []) ++ more) self.old.limit →
             fault ≡ AddFault.Memory) }
     {
-        self.add_types(alloc, file, buffer)
+        buffer.clear();
+        let mut input = file;
+        match self.add_at(alloc, &mut input, buffer) {
+            Ok(()) => Ok(()),
+            Err(AtFault::Of(fault)) => Err(fault),
+            Err(AtFault::Read) => unreachable!(),
+        }
     }
 
     /// Adds the types of a file that is read by position. Of the file only the superblock, the
     /// block map, the directory and the blocks of stream 2 are read. Stream 2 is read into the
-    /// buffer.
+    /// buffer, unless the file can lend it.
     ///
     /// The faults are those of [`Merge::add`], in the same order, and `AtFault::Read` where a read
     /// failed. `Memory` comes only where the container has no fault. After a fault the merge is
     /// unchanged, and the next file may be added.
-    pub fn add_at<R: ReadAt>(
+    pub fn add_at<'b, R: Lend<'b>>(
         &mut self,
         alloc: A,
         input: &mut R,
         buffer: &mut Buffer<A>,
     ) -> Result<(), AtFault<AddFault<A>>>
-        ensures keeps { R.bytes input.new ≡ R.bytes input.old }
+        ensures reads { Reads R.bytes R.is_broken input.old input.new result }
         ensures value { IfOk result (λ _.
             IfKnown (R.bytes input.old) (λ file. AddsFile self.old.types self.new.types file)) }
         // Even if the file's bytes are not known, the merge has taken the types of bytes that reads
@@ -205,8 +185,6 @@ impl<S: BuildHasher, A: Allocator + Copy> Merge<S, A> {
         ensures memory { IfErr result (IfOf (λ fault.
             fault ≡ AddFault.Memory →
             IfKnown (R.bytes input.old) (λ file. first_failing (layout_checks file) ≡ None))) }
-        ensures read { IfErr result (λ fault.
-            fault ≡ AtFault.Read → Breaks (R.bytes input.old) (R.is_broken input.new)) }
 
         // The merge has taken the files so far, and this one.
         ensures taken { IfOk result (λ _. IfKnown (R.bytes input.old) (λ file.

@@ -7,10 +7,10 @@ use Rattle.msf_blocks.specs.declared.fault.MsfFault.TheVariants as msf
 use Rattle.msf_blocks.proofs.FoundLaws.{layout_holds}
 use Rattle.msf_streams.specs.declared.fault.StreamFault.{StreamFault}
 use Rattle.msf_streams.specs.declared.fault.StreamFault.TheVariants as streams
-use Rattle.pdb_merge.specs.Fault.{pdb_from_msf, pdb_from_stream}
-use Rattle.pdb_merge.specs.declared.fault.PdbFault.{PdbFault}
-use Rattle.pdb_merge.specs.declared.fault.PdbFault.TheVariants as pdb
-use Rattle.pdb_merge.proofs.MemoryLaws.{layout_want}
+use Rattle.file_types.specs.Fault.{pdb_from_msf, pdb_from_stream}
+use Rattle.file_types.specs.declared.fault.PdbFault.{PdbFault}
+use Rattle.file_types.specs.declared.fault.PdbFault.TheVariants as pdb
+use Rattle.file_types.proofs.MemoryLaws.{layout_want}
 use Rattle.pdbmerge_c.specs.Stream.{IsFaultOfStream}
 
 -- a fault of the layout is that of the container, or it is out of memory, and the container has none

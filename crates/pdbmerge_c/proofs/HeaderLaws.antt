@@ -13,7 +13,7 @@ use Rattle.msf_streams.specs.Streams.{FirstIsLong, stream_contents}
 use Rattle.pdb_info.specs.Header.{HeaderFields, HasInfoHeader, info_header_checks}
 use Rattle.pdb_info.specs.declared.fault.InfoFault.{InfoFault}
 use Rattle.pdb_info.specs.declared.fault.InfoFault.TheVariants.{InfoShort}
-use Rattle.pdb_merge.specs.Read.{HasShortInfo}
+use Rattle.file_types.specs.Read.{HasShortInfo}
 
 -- a number in the front is the number at this offset
 number_in_front : (count offset : ℕ) (front back : List ℕ) → offset + count ≤ length front → number_at count (front ++ back) offset ≡ number_at count front offset

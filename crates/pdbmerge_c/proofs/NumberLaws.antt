@@ -23,11 +23,12 @@ use Rattle.cv_leaves.specs.declared.fault.LeafFault.TheVariants as leaves
 use Rattle.checked_types.specs.Fault.{type_number}
 use Rattle.checked_types.specs.declared.fault.TypeFault.{TypeFault}
 use Rattle.checked_types.specs.declared.fault.TypeFault.TheVariants as types
-use Rattle.pdb_merge.specs.Fault.{pdb_number, merge_number}
+use Rattle.file_types.specs.Fault.{pdb_number}
+use Rattle.pdb_merge.specs.Fault.{merge_number}
 use Rattle.pdb_merge.specs.declared.fault.MergeFault.{MergeFault}
 use Rattle.pdb_merge.specs.declared.fault.MergeFault.TheVariants as merge
-use Rattle.pdb_merge.specs.declared.fault.PdbFault.{PdbFault}
-use Rattle.pdb_merge.specs.declared.fault.PdbFault.TheVariants as pdb
+use Rattle.file_types.specs.declared.fault.PdbFault.{PdbFault}
+use Rattle.file_types.specs.declared.fault.PdbFault.TheVariants as pdb
 
 -- a number that a fault of bytes may have
 abbrev pub IsKnown : ℕ → Type 0

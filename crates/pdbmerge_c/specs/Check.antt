@@ -5,10 +5,10 @@ use Rattle.std.specs.declared.alloc.Global.{Global}
 use Rattle.byte_fields.specs.Check.{first_failing}
 use Rattle.msf_blocks.specs.Layout.{layout_checks}
 use Rattle.closed_trees.specs.Depth.{HasLevels}
-use Rattle.pdb_merge.specs.Fault.{pdb_number}
-use Rattle.pdb_merge.specs.Read.{IsAccepted, HasPdbFault}
-use Rattle.pdb_merge.specs.declared.fault.PdbFault.{PdbFault}
-use Rattle.pdb_merge.specs.declared.fault.PdbFault.TheVariants.{Memory}
+use Rattle.file_types.specs.Fault.{pdb_number}
+use Rattle.file_types.specs.Read.{IsAccepted, HasPdbFault}
+use Rattle.file_types.specs.declared.fault.PdbFault.{PdbFault}
+use Rattle.file_types.specs.declared.fault.PdbFault.TheVariants.{Memory}
 use Rattle.pdbmerge_c.specs.declared.check.Counts.{Counts}
 use Rattle.pdbmerge_c.specs.declared.fault.Fault.{Fault}
 use Rattle.pdbmerge_c.specs.Fault.{IsTold, no_number}

@@ -7,11 +7,11 @@ use Rattle.type_difference.specs.Difference.{HaveStandings}
 use Rattle.type_difference.specs.declared.standing.Standing.{Standing}
 use Rattle.type_difference.specs.declared.standing.Standing.TheVariants.{Shared, Again, Follows, Origin}
 use Rattle.pdb_merge.specs.Fault.{merge_number, faulty_file}
-use Rattle.pdb_merge.specs.Read.{IsAccepted, HasPdbFault}
+use Rattle.file_types.specs.Read.{IsAccepted, HasPdbFault}
 use Rattle.pdb_merge.specs.declared.fault.MergeFault.{MergeFault}
 use Rattle.pdb_merge.specs.declared.fault.MergeFault.TheVariants as merge
-use Rattle.pdb_merge.specs.declared.fault.PdbFault.{PdbFault}
-use Rattle.pdb_merge.specs.declared.fault.PdbFault.TheVariants as pdb
+use Rattle.file_types.specs.declared.fault.PdbFault.{PdbFault}
+use Rattle.file_types.specs.declared.fault.PdbFault.TheVariants as pdb
 use Rattle.pdbmerge_c.specs.declared.diff.OneSided.{OneSided}
 use Rattle.pdbmerge_c.specs.declared.fault.Fault.{Fault}
 use Rattle.pdbmerge_c.specs.Fault.{IsTold, input_code}

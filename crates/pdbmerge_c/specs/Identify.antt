@@ -5,10 +5,10 @@ use Rattle.byte_fields.specs.Check.{first_failing}
 use Rattle.msf_blocks.specs.Layout.{LayoutView, HasLayout, layout_checks}
 use Rattle.msf_streams.specs.Streams.{stream_contents}
 use Rattle.pdb_info.specs.Header.{HeaderFields, HasInfoHeader}
-use Rattle.pdb_merge.specs.Fault.{pdb_number}
-use Rattle.pdb_merge.specs.Read.{HasInfoFault}
-use Rattle.pdb_merge.specs.declared.fault.PdbFault.{PdbFault}
-use Rattle.pdb_merge.specs.declared.fault.PdbFault.TheVariants as pdb
+use Rattle.file_types.specs.Fault.{pdb_number}
+use Rattle.file_types.specs.Read.{HasInfoFault}
+use Rattle.file_types.specs.declared.fault.PdbFault.{PdbFault}
+use Rattle.file_types.specs.declared.fault.PdbFault.TheVariants as pdb
 use Rattle.pdbmerge_c.specs.declared.fault.Fault.{Fault}
 use Rattle.pdbmerge_c.specs.declared.identify.Identity.{Identity}
 use Rattle.pdbmerge_c.specs.Fault.{IsTold, no_number}

@@ -7,9 +7,9 @@ use Rattle.cv_leaves.specs.Place.{HasPlaces, IsChecked}
 use Rattle.cv_leaves.specs.References.{reference_at}
 use Rattle.checked_types.specs.declared.fault.TypeFault.TheVariants.{Leaf}
 use Rattle.tpi_records.specs.Records.{BeginsWith, IsFlaw}
-use Rattle.pdb_merge.specs.Fault.{pdb_number}
-use Rattle.pdb_merge.specs.declared.fault.PdbFault.{PdbFault}
-use Rattle.pdb_merge.specs.declared.fault.PdbFault.TheVariants as pdb
+use Rattle.file_types.specs.Fault.{pdb_number}
+use Rattle.file_types.specs.declared.fault.PdbFault.{PdbFault}
+use Rattle.file_types.specs.declared.fault.PdbFault.TheVariants as pdb
 use Rattle.pdbmerge_c.specs.declared.fault.Fault.{Fault}
 use Rattle.pdbmerge_c.specs.declared.references.Reference.{Reference}
 use Rattle.pdbmerge_c.specs.Fault.{IsTold, no_number}

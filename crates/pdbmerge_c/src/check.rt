@@ -1,12 +1,12 @@
 //! Whether the types of a file can be trusted.
 
 ghost use Rattle.std.specs.Prelude.{◌≡◌, ◌≢◌, ◌⊎◌, None, ℕ, List, IfOk, IfErr};
-ghost use Rattle.pdb_merge.specs.Read.{IsAccepted};
+ghost use Rattle.file_types.specs.Read.{IsAccepted};
 ghost use Rattle.pdbmerge_c.specs.Fault.{IsEnded, IsSaid};
 ghost use Rattle.pdbmerge_c.specs.Check.{Checks, RefusesCheck, IsFaultOfFile};
 
 use crate::fault::{Fault, clear, refuse};
-use pdb_merge::{Buffer, PdbFault, read_types};
+use file_types::{Buffer, PdbFault, read_types};
 use std::alloc::Global;
 
 /// What an accepted file has.

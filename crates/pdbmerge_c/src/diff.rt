@@ -2,7 +2,7 @@
 
 ghost use Rattle.std.specs.Prelude.{◌≡◌, ◌≢◌, ◌⊎◌, ◌<◌, ◌+◌, ◌^◌, ◌++◌, ℕ, List, length, OnOk, IfOk, IfErr};
 ghost use Rattle.std.specs.declared.alloc.Global.{Global};
-ghost use Rattle.pdb_merge.specs.Read.{IsAccepted};
+ghost use Rattle.file_types.specs.Read.{IsAccepted};
 ghost use Rattle.pdb_merge.specs.declared.fault.MergeFault.{MergeFault};
 ghost use Rattle.pdbmerge_c.specs.Fault.{IsEnded, IsSaid};
 ghost use Rattle.pdbmerge_c.specs.Given.{Fills};
@@ -12,7 +12,8 @@ use crate::fault::{Fault, refuse};
 use crate::give::give;
 use crate::seed::Seed;
 use checked_types::Types;
-use pdb_merge::{Buffer, MergeFault, PdbFault, read_types};
+use file_types::{Buffer, PdbFault, read_types};
+use pdb_merge::MergeFault;
 use std::alloc::{AllocError, Global};
 use std::hash::RandomState;
 use tpi_records::FIRST_INDEX;

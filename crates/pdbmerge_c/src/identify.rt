@@ -4,7 +4,7 @@ ghost use Rattle.std.specs.Prelude.{◌≡◌, ◌≢◌, Some, None, ℕ, List,
 ghost use Rattle.msf_blocks.specs.Layout.{HasLayout};
 ghost use Rattle.msf_streams.specs.Streams.{stream_contents};
 ghost use Rattle.pdb_info.specs.Header.{HasInfoHeader};
-ghost use Rattle.pdb_merge.specs.Read.{HasInfoFault};
+ghost use Rattle.file_types.specs.Read.{HasInfoFault};
 ghost use Rattle.pdbmerge_c.specs.Fault.{IsEnded, IsSaid};
 ghost use Rattle.pdbmerge_c.specs.Identify.{Identifies, IsFaultOfIdentity, RefusesIdentity};
 
@@ -12,7 +12,7 @@ use crate::fault::{Fault, clear, refuse};
 use msf_blocks::Layout;
 use msf_streams::pieces;
 use pdb_info::{InfoFault, InfoHeader, info_stream};
-use pdb_merge::PdbFault;
+use file_types::PdbFault;
 use std::alloc::Global;
 
 /// What identifies a file.

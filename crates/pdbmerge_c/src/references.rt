@@ -10,7 +10,7 @@ use crate::fault::{Fault, refuse};
 use crate::give::give;
 use checked_types::TypeFault;
 use cv_leaves::{check, places, ref_at};
-use pdb_merge::PdbFault;
+use file_types::PdbFault;
 use std::alloc::{AllocError, Global};
 use tpi_records::first_record;
 

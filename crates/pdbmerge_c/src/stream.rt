@@ -7,9 +7,10 @@ ghost use Rattle.pdbmerge_c.specs.Stream.{IsStreamOf, IsFaultOfStream, RefusesSt
 
 use crate::fault::{Fault, refuse};
 use crate::give::give;
+use byte_io::AtFault;
 use msf_blocks::Layout;
-use msf_streams::contents;
-use pdb_merge::PdbFault;
+use msf_streams::contents_at;
+use file_types::PdbFault;
 use std::alloc::Global;
 
 /// The bytes of a stream of a file. They are lent from the file where its blocks are consecutive,
@@ -24,7 +25,12 @@ fn read_stream<'a>(
     ensures first { IfErr result (IsFaultOfStream file.now stream) }
 {
     let layout = Layout::read(alloc, file)?;
-    Ok(contents(alloc, file, &layout, stream, buffer)?)
+    let mut input = file;
+    match contents_at(&mut input, &layout, stream, buffer) {
+        Ok(bytes) => Ok(bytes),
+        Err(AtFault::Of(fault)) => Err(PdbFault::from(fault)),
+        Err(AtFault::Read) => unreachable!(),
+    }
 }
 
 /// Copies the bytes of a stream, by its number from 0, to the front of `out`. `size` is how many

@@ -13,12 +13,13 @@ use command_line::push_paths;
 use command_texts::{push_named, push_quoted};
 use cv_leaves::{list_places, places, ref_at, type_name};
 use fault_pages::page_of;
+use file_types::{Buffer, read_types, read_unchecked};
 use msf_blocks::Layout;
 use msf_streams::{gather, pieces};
 use packed_texts::PackedTexts;
 use pdb_commands::run_check;
 use pdb_info::{Info, Settings, guid_of};
-use pdb_merge::{Buffer, merge_to, read_records, read_types};
+use pdb_merge::merge_to;
 use program_files::open_within;
 use record_set::RecordSet;
 use std::alloc::{AllocError, Allocator, Global};
@@ -153,7 +154,7 @@ fn the_references_of_a_record(rt: HostRuntime) -> Result<(), Fail> {
 fn a_record_that_is_renumbered(rt: HostRuntime) -> Result<(), Fail> {
     let file = sample(rt.alloc())?;
     let mut buffer = Buffer::new(rt.alloc());
-    let types = Types::check(rt.alloc(), read_records(rt.alloc(), &file, &mut buffer)?)?;
+    let types = read_types(rt.alloc(), &file, &mut buffer)?;
     let record = types.get(0).ok_or("no such type")?;
     let mut places = Vec::new(rt.alloc());
     assert!(rt; list_places(record, &mut places)?);
@@ -186,7 +187,7 @@ fn put_record<S: BuildHasher, A: Allocator>(
 fn each_record_once(rt: HostRuntime) -> Result<(), Fail> {
     let file = sample(rt.alloc())?;
     let mut buffer = Buffer::new(rt.alloc());
-    let types = Types::check(rt.alloc(), read_records(rt.alloc(), &file, &mut buffer)?)?;
+    let types = read_types(rt.alloc(), &file, &mut buffer)?;
     let record = types.get(0).ok_or("no such type")?;
     let mut places = Vec::new(rt.alloc());
     assert!(rt; list_places(record, &mut places)?);
@@ -203,12 +204,14 @@ fn each_record_once(rt: HostRuntime) -> Result<(), Fail> {
 fn types_in_canonical_order(rt: HostRuntime) -> Result<(), Fail> {
     let file = sample(rt.alloc())?;
     let mut buffer = Buffer::new(rt.alloc());
-    let types = Types::check(rt.alloc(), read_records(rt.alloc(), &file, &mut buffer)?)?;
+    let types = read_types(rt.alloc(), &file, &mut buffer)?;
     assert_eq!(rt; types.levels(), 1);
     let mut table = Table::with_hasher(rt.alloc(), folding());
     table.add(rt.alloc(), &types, 1000)?;
     drop(types);
-    let records = read_records(rt.alloc(), &file, &mut buffer)?;
+    let Ok(records) = read_unchecked(rt.alloc(), &mut file.as_slice(), &mut buffer) else {
+        return Err("no records".into());
+    };
     // each record names only earlier ones, so the records can be added as they stand
     assert!(rt; table.add_records(rt.alloc(), &records, 1000));
     let canon = table.finish(rt.alloc())?;
@@ -249,6 +252,16 @@ fn where_two_lists_differ(rt: HostRuntime) -> Result<(), Fail> {
     let found = standings_in(rt.alloc(), &one, &other)?;
     let want = [Standing::Origin, Standing::Follows];
     assert_eq!(rt; found.as_slice(), want.as_slice());
+    Ok(())
+}
+
+/// `file_types` reads the types of a file.
+#[test]
+fn the_types_of_a_file(rt: HostRuntime) -> Result<(), Fail> {
+    let file = sample(rt.alloc())?;
+    let mut buffer = Buffer::new(rt.alloc());
+    let types = read_types(rt.alloc(), &file, &mut buffer)?;
+    assert_eq!(rt; types.len(), 2);
     Ok(())
 }
 

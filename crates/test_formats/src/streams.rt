@@ -1,9 +1,12 @@
 //! What no clause says: that calls succeed, and out of memory.
 
 ghost use Rattle.std.specs.Prelude.{◌+◌, ◌≤◌, length};
+ghost use Rattle.msf_blocks.specs.Layout.{HasLayout};
 
+use byte_io::AtFault;
 use msf_blocks::Layout;
-use msf_streams::{StreamFault, contents, gather, lent, pieces};
+use msf_streams::{StreamFault, contents_at, gather, pieces};
+use std::alloc::Allocator;
 use std::test::Fail;
 use test_samples::{refusals, sample};
 
@@ -91,30 +94,45 @@ fn a_stream_is_gathered_whole(rt: HostRuntime) -> Result<(), Fail> {
     Ok(())
 }
 
+/// The bytes of a stream of a file in memory.
+fn contents_of<'a, A: Allocator>(
+    file: &'a [u8],
+    layout: &Layout<A>,
+    s: u32,
+    buffer: &'a mut Vec<u8, A>,
+) -> Result<&'a [u8], StreamFault>
+    requires { HasLayout file.now layout.now }
+{
+    let mut input = file;
+    match contents_at(&mut input, layout, s, buffer) {
+        Ok(bytes) => Ok(bytes),
+        Err(AtFault::Of(fault)) => Err(fault),
+        Err(AtFault::Read) => unreachable!(),
+    }
+}
+
 #[test]
 fn consecutive_blocks_are_lent(rt: HostRuntime) -> Result<(), Fail> {
     let file = container();
     let layout = Layout::read(rt.alloc(), &file)?;
-    assert_eq!(rt; lent(&file, &layout, 0), None);
+    let mut buffer = Vec::new(rt.alloc());
     for (s, size) in [(1, 0), (2, 0), (3, 10), (4, 4096)] {
-        assert_eq!(rt;
-            lent(&file, &layout, s),
-            file.get(24576..24576 + size),
-            "stream {s}"
-        );
+        let bytes = contents_of(&file, &layout, s, &mut buffer)?;
+        assert!(rt; bytes == &file[24576..24576 + size], "stream {s}");
     }
-    assert_eq!(rt; lent(&file, &layout, 5), None);
     // With the blocks 8 and 9 stream 0 is one part of the file, over the end of a block.
     let mut file = file;
     put(&mut file, 4 * BLOCK + 24, 8);
     put(&mut file, 4 * BLOCK + 28, 9);
     let layout = Layout::read(rt.alloc(), &file)?;
-    assert_eq!(rt; lent(&file, &layout, 0), file.get(32768..36865));
+    let bytes = contents_of(&file, &layout, 0, &mut buffer)?;
+    assert!(rt; bytes == &file[32768..36865]);
     let file = sample(rt.alloc())?;
     let layout = Layout::read(rt.alloc(), &file)?;
-    assert_eq!(rt; lent(&file, &layout, 0), Some(&[][..]));
-    assert_eq!(rt; lent(&file, &layout, 2), file.get(3072..3152));
-    assert_eq!(rt; lent(&file, &layout, 5), None);
+    let bytes = contents_of(&file, &layout, 2, &mut buffer)?;
+    assert!(rt; Some(bytes) == file.get(3072..3152));
+    // Nothing was gathered.
+    assert!(rt; buffer.is_empty());
     Ok(())
 }
 
@@ -125,11 +143,11 @@ fn only_scattered_blocks_are_gathered(rt: HostRuntime) -> Result<(), Fail> {
     let mut buffer = Vec::new(rt.alloc());
     for s in [3, 0, 4, 0] {
         let want = gather(rt.alloc(), &file, &layout, s)?;
-        let bytes = contents(rt.alloc(), &file, &layout, s, &mut buffer)?;
+        let bytes = contents_of(&file, &layout, s, &mut buffer)?;
         assert!(rt; bytes == want.as_slice(), "stream {s}");
     }
     assert_eq!(rt; buffer.len(), 4097);
-    let fault = contents(rt.alloc(), &file, &layout, 5, &mut buffer).err();
+    let fault = contents_of(&file, &layout, 5, &mut buffer).err();
     assert_eq!(rt; fault, Some(StreamFault::NoStream(5)));
     Ok(())
 }

@@ -3,7 +3,7 @@
 ghost use Rattle.std.specs.Prelude.{length};
 ghost use Rattle.byte_io.specs.At.{unknown};
 
-use byte_io::ReadAt;
+use byte_io::{Lend, ReadAt};
 
 /// A file of which one read fails, and all others give its bytes. Clauses do not see them.
 #[derive(Debug, Drop)]
@@ -27,7 +27,7 @@ impl<'a> Positions<'a> {
     }
 
     /// The bytes from an offset on, if the file has so many.
-    fn part(&self, offset: u64, count: usize) -> Option<&'a [u8]> {
+    fn bytes_at(&self, offset: u64, count: usize) -> Option<&'a [u8]> {
         let start = usize::try_from(offset).ok()?;
         self.bytes.get(start..start.checked_add(count)?)
     }
@@ -45,7 +45,7 @@ impl ReadAt for Positions<'_> {
     fn read_at(&mut self, offset: u64, into: &mut [u8]) -> Option<()> {
         let fails = self.reads == self.fails_at;
         self.reads = self.reads.saturating_add(1);
-        match self.part(offset, into.len()) {
+        match self.bytes_at(offset, into.len()) {
             Some(part) if !fails => {
                 for (place, byte) in into.iter_mut().zip(part) {
                     *place = *byte;
@@ -57,5 +57,11 @@ impl ReadAt for Positions<'_> {
                 None
             }
         }
+    }
+}
+
+impl<'a> Lend<'a> for Positions<'_> {
+    fn part(&self, _offset: u64, _len: u32) -> Option<&'a [u8]> {
+        None
     }
 }

@@ -1,5 +1,5 @@
 use Rattle.std.proofs.Common.{◌∙◌, ap, inr}
-use Rattle.pdb_merge.specs.Fault.{pdb_number}
+use Rattle.file_types.specs.Fault.{pdb_number}
 use Rattle.pdbmerge_c.proofs.check.pdbmerge_check.Goals as goal
 
 pub returns-in-Err-clause-found : goal.returns-in-Err-clause-found

@@ -1,39 +1,39 @@
-use Rattle.std.proofs.Common.{◌<◌, ℕ, List, [], length, take, get_or}
-use Rattle.byte_io.specs.Inputs.{Give, HasBytes}
+use Rattle.std.proofs.Common.{◌≡◌, ◌<◌, ℕ, List, [], length, take, get_or}
 use Rattle.std.proofs.lemmas.List.{take_more}
-use Rattle.pdb_merge.proofs.InputLaws.{more_read, opened_file, opened_read, unread_refuses, file_refuses}
-use Rattle.pdb_merge.proofs.MergingLaws.{stops_whole, alone_whole}
+use Rattle.std.proofs.lemmas.Result.{err_from_is_err_and}
+use Rattle.byte_io.specs.Inputs.{Give}
+use Rattle.pdb_merge.specs.Union.{AddsFile, IsAddFault}
+use Rattle.pdb_merge.proofs.InputLaws.{at_refuses, file_refuses, given_inside}
+use Rattle.pdb_merge.proofs.MergingLaws.{alone_whole, stops_whole, taken_alone, taken_below, taken_more, taken_stops}
+use Rattle.pdb_merge.proofs.RefusedLaws.{lists_adds, lists_hinders}
 use Rattle.pdb_merge.proofs.merging.merge_files.add_input.Goals as goal
 
-pub check_rest-requires : goal.check_rest-requires
-check_rest-requires g c =
+pub returns-in_err-records-clause-refuses : goal.returns-in_err-records-clause-refuses
+returns-in_err-records-clause-refuses g c = λ taken.
+    let p = err_from_is_err_and c.from_residual.result c.from_residual.ensures.1 in
+    let err = c.in_err-records.ensures in
     let known = g.I.Inputs.known c.args.inputs.now in
-    more_read known c.args.input c.requires.before (opened_read known c.args.input g.I.File.ReadAt.bytes c.in-Ok.opened c.in-Ok.ensures.value)
+    rw (p.1, p.2) (at_refuses known c.args.input c.args.merge.now.limit c.in_err-records.field-0.0 c.requires.inside err.first err.named
+    (λ given gives. taken_below c.args.merge.now given c.args.input (given_inside known given c.args.input gives c.requires.inside) (taken given gives)) err.own)
 
-pub returns-in-Ok-add_opened-clause-value : goal.returns-in-Ok-add_opened-clause-value
-returns-in-Ok-add_opened-clause-value g c = λ files given taken.
-    let there = opened_file (g.I.Inputs.known c.args.inputs.now) files c.args.input g.I.File.ReadAt.bytes c.in-Ok.opened given c.in-Ok.ensures.value in
-    rw (take_more files c.args.input [] there.0) (c.in-Ok-add_opened.ensures.taken (get_or files c.args.input []) there.1 (take c.args.input files) taken)
-
-pub returns-in-Ok-add_opened-clause-read : goal.returns-in-Ok-add_opened-clause-read
-returns-in-Ok-add_opened-clause-read g c =
-    let known = g.I.Inputs.known c.args.inputs.now in
-    more_read known c.args.input c.requires.before (opened_read known c.args.input g.I.File.ReadAt.bytes c.in-Ok.opened c.in-Ok.ensures.value)
+pub returns-clause-value : goal.returns-clause-value
+returns-clause-value g c = λ files given taken.
+    let inside = given_inside (g.I.Inputs.known c.args.inputs.now) files c.args.input given c.requires.inside in
+    let file = get_or files c.args.input [] in
+    let adds : AddsFile c.args.merge.now.types c.add_records.new.self.types file =
+    lists_adds c.args.merge.now.types c.add_records.new.self.types file c.in_ok-records.records (c.in_ok-records.ensures.value files given) (λ bytes layout read. c.in_default.ensures.texts bytes layout read) in
+    rw (take_more files c.args.input [] inside) (taken_more c.args.merge.now c.add_records.new.self (take c.args.input files) file adds c.in_default.ensures.within taken)
 
 pub returns-in-Err-clause-refuses : goal.returns-in-Err-clause-refuses
 returns-in-Err-clause-refuses g c = λ taken.
-    unread_refuses (g.I.Inputs.known c.args.inputs.now) c.args.input c.args.merge.now.limit c.in-Err.fault c.input_fault.result c.requires.before c.in-Err.ensures.fault c.input_fault.ensures
-
-pub returns-in_ok-check_rest-in-Err-Of-clause-refuses : goal.returns-in_ok-check_rest-in-Err-Of-clause-refuses
-returns-in_ok-check_rest-in-Err-Of-clause-refuses g c = λ taken.
     let known = g.I.Inputs.known c.args.inputs.now in
-    let there : (given : List (List ℕ)) → Give known given → (c.args.input < length given) × HasBytes g.I.File.ReadAt.bytes c.in-Ok.opened (get_or given c.args.input []) =
-    λ given gives. opened_file known given c.args.input g.I.File.ReadAt.bytes c.in-Ok.opened gives c.in-Ok.ensures.value in
-    let found = rw c.in-Err-Of.field-0-is at c.in-Err-Of.ensures.found in
-    let stops = rw c.in-Err-Of.field-0-is at c.in-Err-Of.ensures.stops in
-    let named = rw c.in-Err-Of.field-0-is at c.in-Err-Of.ensures.named in
-    file_refuses known c.args.input c.args.merge.now.limit c.in-Err-Of.fault c.at_file.result c.in_ok-check_rest-in-Err-Of.ensures.value named c.at_file.ensures
-    (λ given gives. stops_whole given c.args.input c.args.merge.now.limit c.in-Err-Of.fault c.at_file.result (there given gives).0 c.at_file.ensures
-    (stops (get_or given c.args.input []) (there given gives).1 (take c.args.input given) (taken given gives)))
-    (λ given gives. alone_whole given c.args.input c.args.merge.now.limit c.in-Err-Of.fault c.at_file.result (there given gives).0 c.at_file.ensures
-    (λ more. found (get_or given c.args.input []) (there given gives).1 (take c.args.input given) more (taken given gives)))
+    let i = c.args.input in
+    let before = c.args.merge.now in
+    let inside : (given : List (List ℕ)) → Give known given → i < length given = λ given gives. given_inside known given i gives c.requires.inside in
+    let hinders : (given : List (List ℕ)) → Give known given → IsAddFault before.types before.limit (get_or given i []) c.in-Err.fault =
+    λ given gives. lists_hinders before.types before.limit (get_or given i []) c.in_ok-records.records c.in-Err.fault (c.in_ok-records.ensures.value given gives) (λ bytes layout read. c.in-Err.ensures.refused bytes layout read) in
+    file_refuses known i before.limit c.in-Err.fault c.at_file.result c.in_ok-check_rest.ensures.value c.in-Err.ensures.named c.at_file.ensures
+    (λ given gives. stops_whole given i before.limit c.in-Err.fault c.at_file.result (inside given gives) c.at_file.ensures
+    (taken_stops before (take i given) (get_or given i []) c.in-Err.fault (hinders given gives) (taken given gives)))
+    (λ given gives. alone_whole given i before.limit c.in-Err.fault c.at_file.result (inside given gives) c.at_file.ensures
+    (λ more. taken_alone before (take i given) more (get_or given i []) c.in-Err.fault (hinders given gives) (taken given gives)))

@@ -1,0 +1,10 @@
+use Rattle.std.proofs.Common.{◌≡◌, ◌∙◌, sym, ap}
+use Rattle.msf_blocks.specs.Superblock.{Fields}
+use Rattle.msf_streams.proofs.LentLaws.{is_sized}
+use Rattle.msf_streams.proofs.at.run_of.Goals as goal
+
+pub are_consecutive-requires-clause-count : goal.are_consecutive-requires-clause-count
+are_consecutive-requires-clause-count g c =
+    let layout = c.args.layout.now in
+    let b : c.block_size-block_size.result ≡ layout.superblock.block_size = c.block_size-block_size.ensures.value ∙ ap (λ (fields : Fields). fields.block_size) c.superblock.ensures in
+    rw b at c.blocks_for.ensures.value ∙ sym (is_sized layout c.args.s c.in_ok-size.size c.size.ensures.fits (sym c.size.ensures.value ∙ c.in_ok-size.was)).count
