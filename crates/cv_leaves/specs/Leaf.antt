@@ -7,7 +7,8 @@ use Rattle.cv_leaves.specs.declared.leaf.Naming.{Naming}
 use Rattle.cv_leaves.specs.declared.leaf.Naming.TheVariants.{Unnamed, At, AfterNumeric}
 use Rattle.cv_leaves.specs.declared.leaf.Leaf as declared
 
--- a leaf: its name, the places at fixed offsets of the body, what follows them, and where the name of the type begins
+-- a leaf: its name, the places at fixed offsets of the body, what follows them,
+-- and where the name of the type begins
 pub record Leaf : Type 0 where
   pub text : List ℕ
   pub places : List ℕ
@@ -16,7 +17,11 @@ pub record Leaf : Type 0 where
 
 -- the row of a kind
 abbrev pub leaf_row : ℕ → List ℕ → List ℕ → Rest → Naming → Row Leaf
-leaf_row kind text places rest naming = record { kind = kind; item = record { text = text; places = places; rest = rest; naming = naming } }
+leaf_row kind text places rest naming =
+    record {
+      kind = kind;
+      item = record { text = text; places = places; rest = rest; naming = naming };
+    }
 
 -- the rows, by rising kind
 abbrev pub leaves : List (Row Leaf)

@@ -12,7 +12,8 @@ use Rattle.cv_leaves.specs.declared.leaf.Naming.TheVariants.{Unnamed, At, AfterN
 unfoldable pub name_in : Naming → List ℕ → Option (List ℕ)
 name_in Unnamed body = None
 name_in (At k) body = name_at body k
-name_in (AfterNumeric k) body = if has_numeric body k then name_at body (numeric_end body k) else None
+name_in (AfterNumeric k) body =
+    if has_numeric body k then name_at body (numeric_end body k) else None
 
 -- the name of the type that a record describes
 unfoldable pub name_of : List ℕ → Option (List ℕ)
