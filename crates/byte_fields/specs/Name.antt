@@ -12,4 +12,6 @@ has_name bytes offset = nat_lt (name_len (drop offset bytes)) (length (drop offs
 
 -- the name at an offset: the bytes up to the first NUL, if one follows
 unfoldable pub name_at : List ℕ → ℕ → Option (List ℕ)
-name_at bytes offset = if has_name bytes offset then Some (take (name_len (drop offset bytes)) (drop offset bytes)) else None
+name_at bytes offset =
+    if has_name bytes offset then Some (take (name_len (drop offset bytes)) (drop offset bytes))
+    else None

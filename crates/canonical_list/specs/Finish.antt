@@ -6,7 +6,8 @@ use Rattle.closed_trees.specs.Canon.{texts, Canonical}
 use Rattle.closed_trees.specs.Table.{IsTable, HoldsBelow}
 use Rattle.canonical_list.specs.Rows.{Numbers}
 
--- `out` is the canonical list of those types of r that are less deep than d, and f gives the position of each in it
+-- `out` is the canonical list of those types of r that are less deep than d,
+-- and f gives the position of each in it
 pub record ListsBelow (r : List (List ℕ)) (d : ℕ) (out : List (List ℕ)) (f : ℕ → ℕ) : Type 0 where
   pub trees : List Tree
   pub canonical : Canonical trees
@@ -16,13 +17,16 @@ pub record ListsBelow (r : List (List ℕ)) (d : ℕ) (out : List (List ℕ)) (f
 
 -- ps are the positions that have this depth, each once and in any order
 pub record AtLevel (depths : List ℕ) (d : ℕ) (ps : List ℕ) : Type 0 where
-  pub within : (k : ℕ) → k < length ps → (get_or ps k 0 < length depths) × (get_or depths (get_or ps k 0) 0 ≡ d)
+  pub within :
+      (k : ℕ) → k < length ps
+      → (get_or ps k 0 < length depths) × (get_or depths (get_or ps k 0) 0 ≡ d)
   pub all : (j : ℕ) → j < length depths → get_or depths j 0 ≡ d → Contains ps j
   pub distinct : AllPairs (λ i j. i ≢ j) ps
 
 -- the records are the canonical list of the trees for which Has holds
 abbrev pub IsCanonOf : List (List ℕ) → (Tree → Type 0) → Type 0
-IsCanonOf records Has = (l : List Tree) × Canonical l × (records ≡ texts l) × ((t : Tree) → Contains l t ↔ Has t)
+IsCanonOf records Has =
+    (l : List Tree) × Canonical l × (records ≡ texts l) × ((t : Tree) → Contains l t ↔ Has t)
 
 -- the records are a canonical list of trees, and they are a table
 pub record IsCanon (records : List (List ℕ)) : Type 0 where
@@ -31,7 +35,10 @@ pub record IsCanon (records : List (List ℕ)) : Type 0 where
   pub are : records ≡ texts trees
   pub table : IsTable records
 
--- if the positions ps are distinct, the first `end` of them have the numbers from `first` on; the numbers of all other positions stay as they were
+-- if the positions ps are distinct, the first `end` of them have the numbers from `first` on;
+-- the numbers of all other positions stay as they were
 pub record Numbered (ps : List ℕ) (first end : ℕ) (before after : List ℕ) : Type 0 where
-  pub put : AllPairs (λ i j. i ≢ j) ps → (k : ℕ) → k < end → get_or after (get_or ps k 0) 0 ≡ first + k
-  pub kept : (i : ℕ) → ((k : ℕ) → k < end → get_or ps k 0 ≢ i) → get_or after i 0 ≡ get_or before i 0
+  pub put :
+      AllPairs (λ i j. i ≢ j) ps → (k : ℕ) → k < end → get_or after (get_or ps k 0) 0 ≡ first + k
+  pub kept :
+      (i : ℕ) → ((k : ℕ) → k < end → get_or ps k 0 ≢ i) → get_or after i 0 ≡ get_or before i 0

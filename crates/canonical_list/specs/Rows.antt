@@ -43,7 +43,8 @@ pub record IsKeyed (from h k : ℕ) (x : List ℕ) : Type 0 where
 abbrev pub AreTied : Row → Row → Type 0
 AreTied a b = (a.head ≡ b.head) × (a.key ≡ b.key)
 
--- the rows from start up to end have one head and one key, and the row at end, if there is one, has another head or another key
+-- the rows from start up to end have one head and one key, and the row at end, if there is one,
+-- has another head or another key
 pub record IsStretch (run : List Row) (start end : ℕ) : Type 0 where
   pub after : start < end
   pub within : end ≤ length run
@@ -64,8 +65,11 @@ row_positions positions ps = map (λ p. get_or positions p.nth 0) ps
 
 -- the first `from` bytes of all xs make the same number
 abbrev pub AreAlike : ℕ → List (List ℕ) → Type 0
-AreAlike from xs = (x y : List ℕ) → Contains xs x → Contains xs y → first_bytes from x ≡ first_bytes from y
+AreAlike from xs =
+    (x y : List ℕ) → Contains xs x → Contains xs y → first_bytes from x ≡ first_bytes from y
 
 -- no x comes after the next one in the order of bytes
 abbrev pub AreInOrder : List (List ℕ) → Type 0
-AreInOrder xs = (k : ℕ) → k + 1 < length xs → slice_cmp nat_cmp (get_or xs k []) (get_or xs (k + 1) []) ≢ Greater
+AreInOrder xs =
+    (k : ℕ) → k + 1 < length xs
+    → slice_cmp nat_cmp (get_or xs k []) (get_or xs (k + 1) []) ≢ Greater

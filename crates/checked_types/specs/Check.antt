@@ -18,31 +18,44 @@ use Rattle.closed_trees.specs.Types.{NamesThere}
 abbrev pub AllNameThere : ℕ → List (List ℕ) → Type 0
 AllNameThere many records = AllByRecursion (λ r. NamesThere many (references r)) records
 
--- these, in rising order, are the type indices of the records that lead into a cycle: the largest set of records in which each names one of the set
+-- these, in rising order, are the type indices of the records that lead into a cycle:
+-- the largest set of records in which each names one of the set
 abbrev pub IsCycle : List (List ℕ) → List ℕ → Type 0
-IsCycle records indices = (positions : List ℕ) × IsCycleSet (graph_of records) positions × (indices ≡ map (λ p. first_index + p) positions)
+IsCycle records indices =
+    (positions : List ℕ)
+    × IsCycleSet (graph_of records) positions
+    × (indices ≡ map (λ p. first_index + p) positions)
 
 -- a check of a record's leaf, as a check of the record at a position
 abbrev pub leaf_check : ℕ → Check LeafFault → Check RecordFault
-leaf_check position check = record { holds = check.holds; fault = inner.Leaf (first_index + position) check.fault }
+leaf_check position check =
+    record { holds = check.holds; fault = inner.Leaf (first_index + position) check.fault }
 
--- the check of the reference at a place of the record at a position: it is simple or names one of `many` records
+-- the check of the reference at a place of the record at a position:
+-- it is simple or names one of `many` records
 abbrev pub reference_check : ℕ → ℕ → List ℕ → ℕ → List (Check RecordFault)
 reference_check many position r place =
-    record { holds = nat_lt (reference_at r place) (first_index + many); fault = inner.Ref (first_index + position) place (reference_at r place) } ∷ []
+    record {
+      holds = nat_lt (reference_at r place) (first_index + many);
+      fault = inner.Ref (first_index + position) place (reference_at r place);
+    }
+    ∷ []
 
 -- the checks of the references at places
 unfoldable pub reference_checks : ℕ → ℕ → List ℕ → List ℕ → List (Check RecordFault)
 reference_checks many position r places = flat_map (reference_check many position r) places
 
--- the checks of the record at a position, one of `many` records: of its leaf, then of its references
+-- the checks of the record at a position, one of `many` records:
+-- of its leaf, then of its references
 unfoldable pub type_checks : ℕ → ℕ → List ℕ → List (Check RecordFault)
-type_checks many position r = map (leaf_check position) (record_checks r) ++ reference_checks many position r (places_of r)
+type_checks many position r =
+    map (leaf_check position) (record_checks r) ++ reference_checks many position r (places_of r)
 
 -- the checks of these records, where the first is at `position` of `many` records
 unfoldable pub type_checks_from : ℕ → ℕ → List (List ℕ) → List (Check RecordFault)
 type_checks_from many position [] = []
-type_checks_from many position (r ∷ rs) = type_checks many position r ++ type_checks_from many (position + 1) rs
+type_checks_from many position (r ∷ rs) =
+    type_checks many position r ++ type_checks_from many (position + 1) rs
 
 -- the checks of all records, one record after the other
 abbrev pub checks_of : List (List ℕ) → List (Check RecordFault)
@@ -54,16 +67,23 @@ IsOfRecord (fault.Leaf index leaf) e = e ≡ inner.Leaf index leaf
 IsOfRecord (fault.Ref index place to) e = e ≡ inner.Ref index place to
 IsOfRecord _ e = ⊥
 
--- the records have this fault: it is the first check of a record that fails; or no such check fails, and it names the records that lead into a cycle
+-- the records have this fault: it is the first check of a record that fails;
+-- or no such check fails, and it names the records that lead into a cycle
 abbrev pub HasTypeFault : {A : Type 0} → List (List ℕ) → TypeFault A → Type 0
-HasTypeFault records (fault.Leaf index leaf) = first_failing (checks_of records) ≡ Some (inner.Leaf index leaf)
-HasTypeFault records (fault.Ref index place to) = first_failing (checks_of records) ≡ Some (inner.Ref index place to)
-HasTypeFault records (fault.Cycle indices) = (first_failing (checks_of records) ≡ None) × IsCycle records indices.items
+HasTypeFault records (fault.Leaf index leaf) =
+    first_failing (checks_of records) ≡ Some (inner.Leaf index leaf)
+HasTypeFault records (fault.Ref index place to) =
+    first_failing (checks_of records) ≡ Some (inner.Ref index place to)
+HasTypeFault records (fault.Cycle indices) =
+    (first_failing (checks_of records) ≡ None) × IsCycle records indices.items
 HasTypeFault records fault.Memory = ⊥
 
--- these records are refused with this fault: they have it, or each check of a record holds and this runs out of memory
+-- these records are refused with this fault:
+-- they have it, or each check of a record holds and this runs out of memory
 abbrev pub IsTypeFault : {A : Type 0} → List (List ℕ) → TypeFault A → Type 0
-IsTypeFault records refusal = HasTypeFault records refusal ⊎ ((refusal ≡ fault.Memory) × (first_failing (checks_of records) ≡ None))
+IsTypeFault records refusal =
+    HasTypeFault records refusal
+    ⊎ ((refusal ≡ fault.Memory) × (first_failing (checks_of records) ≡ None))
 
 -- the fault names the records that lead into a cycle, or it is out of memory
 abbrev pub IsCycleFault : {A : Type 0} → List (List ℕ) → TypeFault A → Type 0

@@ -6,7 +6,8 @@ use Rattle.tpi_records.specs.Header.{first_index}
 -- the positions that references name: simple references are left out
 unfoldable pub positions_in : List ℕ → List ℕ
 positions_in [] = []
-positions_in (n ∷ ns) = if nat_lt n first_index then positions_in ns else (n - first_index) ∷ positions_in ns
+positions_in (n ∷ ns) =
+    if nat_lt n first_index then positions_in ns else (n - first_index) ∷ positions_in ns
 
 -- the positions of the records that a record names
 unfoldable pub named_by : List ℕ → List ℕ

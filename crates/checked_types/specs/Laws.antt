@@ -5,8 +5,16 @@ use Rattle.checked_types.specs.Check.{IsCycle}
 
 -- records have at most one list of those that lead into a cycle
 abbrev pub OneCycle : Type 0
-OneCycle = (records : List (List ℕ)) (indices others : List ℕ) → IsCycle records indices → IsCycle records others → indices ≡ others
+OneCycle =
+    (records : List (List ℕ)) (indices others : List ℕ)
+    → IsCycle records indices
+    → IsCycle records others
+    → indices ≡ others
 
 -- if some records lead into a cycle, the records have no rank
 abbrev pub CyclicTypesHaveNoRank : Type 0
-CyclicTypesHaveNoRank = (records : List (List ℕ)) (indices : List ℕ) (rank : ℕ → ℕ) → IsCycle records indices → IsRanked records rank → ⊥
+CyclicTypesHaveNoRank =
+    (records : List (List ℕ)) (indices : List ℕ) (rank : ℕ → ℕ)
+    → IsCycle records indices
+    → IsRanked records rank
+    → ⊥

@@ -5,7 +5,8 @@ use Rattle.closed_trees.specs.Types.{AreTypes}
 use Rattle.closed_trees.specs.Depth.{AreBelow, AreDepths}
 use Rattle.checked_types.specs.Graph.{graph_of}
 
--- the records are types, each comes in the order after those that it names, and these are their depths
+-- the records are types, each comes in the order after those that it names,
+-- and these are their depths
 pub record AreMeasured (records : List (List ℕ)) (order depths : List ℕ) : Type 0 where
   pub types : AreTypes records
   pub ordered : IsOrder (graph_of records) order

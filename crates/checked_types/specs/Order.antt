@@ -10,7 +10,8 @@ abbrev pub order_list : {A : Type 0} → ℕ → Order A → List ℕ
 order_list many order.InFileOrder = range_with_len 0 many
 order_list many (order.Listed list) = list.items
 
--- the positions from an index of the list on; if there is no list, all numbers from this one up to the end
+-- the positions from an index of the list on;
+-- if there is no list, all numbers from this one up to the end
 abbrev pub positions_left : Option (Bor (List ℕ)) → ℕ → ℕ → List ℕ
 positions_left None next end = range_with_len next (end - next)
 positions_left (Some list) next end = drop next list.now

@@ -14,7 +14,8 @@ use Rattle.tpi_records.specs.Header.{first_index}
 unfoldable pub position_in : List Tree → Tree → ℕ
 position_in l t = position_or_len (same_tree t) l
 
--- the type indices of branches: a simple branch is a type index itself, and a tree has the type index of its position in l
+-- the type indices of branches: a simple branch is a type index itself,
+-- and a tree has the type index of its position in l
 abbrev pub numbers : List Tree → Branches → List ℕ
 numbers l no_branch = []
 numbers l (simple n bs) = n ∷ numbers l bs
@@ -32,13 +33,18 @@ weight l = sum_by (λ t. length (blank_of t)) l
 abbrev pub canonical_order : List Tree → Tree → Tree → Ordering
 canonical_order l = then_cmp (on depth nat_cmp) (on (text l) (slice_cmp nat_cmp))
 
--- l is canonical: its trees are closed and distinct, each comes after those that it names, they are in canonical order, and they have fewer than 2^32 bytes together
+-- l is canonical: its trees are closed and distinct, each comes after those that it names,
+-- they are in canonical order, and they have fewer than 2^32 bytes together
 pub record Canonical (l : List Tree) : Type 0 where
   pub closed : (i : ℕ) → i < length l → IsClosed (get_or l i nothing)
   pub distinct : AllPairs (λ t u. t ≢ u) l
   pub light : weight l ≤ 4294967295
-  pub earlier : (i : ℕ) → i < length l → AllByRecursion (λ u. position_in l u < i) (trees_in (branches_of (get_or l i nothing)))
-  pub ordered : (i : ℕ) → i + 1 < length l → canonical_order l (get_or l i nothing) (get_or l (i + 1) nothing) ≡ Less
+  pub earlier :
+      (i : ℕ) → i < length l
+      → AllByRecursion (λ u. position_in l u < i) (trees_in (branches_of (get_or l i nothing)))
+  pub ordered :
+      (i : ℕ) → i + 1 < length l
+      → canonical_order l (get_or l i nothing) (get_or l (i + 1) nothing) ≡ Less
 
 -- the records of the trees of l, in order
 abbrev pub texts : List Tree → List (List ℕ)

@@ -14,7 +14,8 @@ unfoldable mutual
   depth_over (simple n bs) = depth_over bs
   depth_over (branch t bs) = max (suc (depth t)) (depth_over bs)
 
--- the height of a reference: 0 if it is simple, otherwise one more than the depth of what it names, where f gives the depth at each position
+-- the height of a reference: 0 if it is simple, otherwise one more than the depth of what it names,
+-- where f gives the depth at each position
 unfoldable pub height : (ℕ → ℕ) → ℕ → ℕ
 height f n = if nat_lt n first_index then 0 else suc (f (n - first_index))
 
@@ -25,9 +26,11 @@ depth_above f (n ∷ ns) = max (height f n) (depth_above f ns)
 
 -- these are the depths of the trees at the first positions of the records
 abbrev pub AreDepths : List (List ℕ) → List ℕ → Type 0
-AreDepths records depths = (i : ℕ) (t : Tree) → i < length depths → IsTreeAt records i t → get_or depths i 0 ≡ depth t
+AreDepths records depths =
+    (i : ℕ) (t : Tree) → i < length depths → IsTreeAt records i t → get_or depths i 0 ≡ depth t
 
--- these are the depths of the trees at the first positions of the records, and none is greater than its position
+-- these are the depths of the trees at the first positions of the records,
+-- and none is greater than its position
 pub record KnowsDepths (records : List (List ℕ)) (depths : List ℕ) : Type 0 where
   pub are : AreDepths records depths
   pub low : (k : ℕ) → k < length depths → get_or depths k 0 ≤ k
@@ -37,15 +40,20 @@ pub record HasDepths (records : List (List ℕ)) (depths : List ℕ) : Type 0 wh
   pub known : KnowsDepths records depths
   pub many : length depths ≡ length records
 
--- the first `end` depths have this many levels: each is below that number, and one is just one below it, unless there are no levels
+-- the first `end` depths have this many levels: each is below that number,
+-- and one is just one below it, unless there are no levels
 pub record CountsLevels (depths : List ℕ) (end levels : ℕ) : Type 0 where
   pub all : (k : ℕ) → k < end → get_or depths k 0 < levels
   pub one : (levels ≡ 0) ⊎ ((k : ℕ) × (k < end) × (get_or depths k 0 + 1 ≡ levels))
 
--- the types of the records have this many levels: one more than the greatest depth, or 0 where there is no record
+-- the types of the records have this many levels: one more than the greatest depth,
+-- or 0 where there is no record
 pub record HasLevels (records : List (List ℕ)) (levels : ℕ) : Type 0 where
   pub all : (i : ℕ) (t : Tree) → i < length records → IsTreeAt records i t → depth t < levels
-  pub one : (levels ≡ 0) ⊎ ((i : ℕ) × (t : Tree) × (i < length records) × IsTreeAt records i t × (depth t + 1 ≡ levels))
+  pub one :
+      (levels ≡ 0)
+      ⊎ ((i : ℕ) × (t : Tree) × (i < length records) × IsTreeAt records i t
+      × (depth t + 1 ≡ levels))
 
 -- each of the numbers is below the end
 abbrev pub AreBelow : ℕ → List ℕ → Type 0

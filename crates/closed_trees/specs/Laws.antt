@@ -14,20 +14,33 @@ OneTreeEach =
 
 -- if a branch of a type of some records is a tree, it is a type of these records
 abbrev pub BranchesAreTypes : Type 0
-BranchesAreTypes = (records : List (List ℕ)) (t : Tree) → IsType records t → AllByRecursion (IsType records) (trees_in (branches_of t))
+BranchesAreTypes =
+    (records : List (List ℕ)) (t : Tree)
+    → IsType records t
+    → AllByRecursion (IsType records) (trees_in (branches_of t))
 
 -- two closed trees with equal texts are equal, where l holds their branches
 abbrev pub TextsDiffer : Type 0
 TextsDiffer =
-    (l : List Tree) (t u : Tree) → length l ≤ 4294963200 → IsClosed t → IsClosed u → HoldsBranches l t → HoldsBranches l u
+    (l : List Tree) (t u : Tree)
+    → length l ≤ 4294963200
+    → IsClosed t
+    → IsClosed u
+    → HoldsBranches l t
+    → HoldsBranches l u
     → text l t ≡ text l u → t ≡ u
 
 -- two canonical lists with the same members are equal
 abbrev pub OneCanonicalList : Type 0
 OneCanonicalList =
-    (l m : List Tree) → Canonical l → Canonical m → ((t : Tree) → Contains l t ↔ Contains m t) → l ≡ m
+    (l m : List Tree)
+    → Canonical l
+    → Canonical m
+    → ((t : Tree) → Contains l t ↔ Contains m t)
+    → l ≡ m
 
--- the texts of l are good records, each names earlier ones, each tree of l is at its position, and no other tree is there
+-- the texts of l are good records, each names earlier ones, each tree of l is at its position,
+-- and no other tree is there
 pub record IsReadBack (l : List Tree) : Type 0 where
   pub good : AreGood (texts l)
   pub lower : IsRanked (texts l) (λ i. i)
@@ -42,6 +55,11 @@ CanonicalReadsBack = (l : List Tree) → Canonical l → IsReadBack l
 abbrev pub WeightOfTexts : Type 0
 WeightOfTexts = (l : List Tree) → Canonical l → length (concat (texts l)) ≡ weight l
 
--- a list that contains all trees of another one weighs at least as much, if the other one has each tree once
+-- a list that contains all trees of another one weighs at least as much,
+-- if the other one has each tree once
 abbrev pub WeightGrows : Type 0
-WeightGrows = (l m : List Tree) → AllPairs (λ t u. t ≢ u) l → ((t : Tree) → Contains l t → Contains m t) → weight l ≤ weight m
+WeightGrows =
+    (l m : List Tree)
+    → AllPairs (λ t u. t ≢ u) l
+    → ((t : Tree) → Contains l t → Contains m t)
+    → weight l ≤ weight m

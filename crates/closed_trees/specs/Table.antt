@@ -14,14 +14,16 @@ pub record AreGood (r : List (List ℕ)) : Type 0 where
   pub framed : (i : ℕ) → i < length r → IsRecord (get_or r i [])
   pub checked : (i : ℕ) → i < length r → IsChecked (get_or r i [])
 
--- r is a table: its records are good, made of bytes and distinct, and each names only earlier records
+-- r is a table: its records are good, made of bytes and distinct,
+-- and each names only earlier records
 pub record IsTable (r : List (List ℕ)) : Type 0 where
   pub good : AreGood r
   pub bytes : (i : ℕ) → i < length r → AreBytes (get_or r i [])
   pub lower : IsRanked r (λ i. i)
   pub distinct : AllPairs (λ x y. x ≢ y) r
 
--- the new number for n: a simple number stays, and the number of position k becomes that of position f k
+-- the new number for n:
+-- a simple number stays, and the number of position k becomes that of position f k
 unfoldable pub renumber_one : (ℕ → ℕ) → ℕ → ℕ
 renumber_one f n = if nat_lt n first_index then n else first_index + f (n - first_index)
 
@@ -36,7 +38,9 @@ renumbered f x = filled x (renumber f (references x))
 
 -- n is simple, or it names a position that has a number below 2^31
 abbrev pub IsNumbered : List ℕ → ℕ → Type 0
-IsNumbered numbers n = (n < first_index) ⊎ ((n - first_index < length numbers) × (get_or numbers (n - first_index) 0 < 2 ^ 31))
+IsNumbered numbers n =
+    (n < first_index)
+    ⊎ ((n - first_index < length numbers) × (get_or numbers (n - first_index) 0 < 2 ^ 31))
 
 -- each of ns is simple, or it names a position that has a number below 2^31
 abbrev pub AreNumbered : List ℕ → List ℕ → Type 0

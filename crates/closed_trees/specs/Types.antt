@@ -6,7 +6,9 @@ use Rattle.cv_leaves.specs.Place.{IsChecked}
 use Rattle.closed_trees.specs.Tree.{IsRanked}
 use Rattle.tpi_records.specs.Header.{first_index}
 
--- each record has its framing and its places, and some rank makes each record higher than those that it names; each reference is simple or names a record
+-- each record has its framing and its places,
+-- and some rank makes each record higher than those that it names;
+-- each reference is simple or names a record
 pub record AreTypes (records : List (List ℕ)) : Type 0 where
   pub framed : AllByRecursion IsRecord records
   pub checked : AllByRecursion IsChecked records

@@ -5,4 +5,8 @@ use Rattle.std.specs.Str.Parse.{IsNumeral, digits_value}
 -- the argument is an index of this value: 0x and 1 to 8 hexadecimal digits of either case
 abbrev pub IsIndexArgument : List ℕ → ℕ → Type 0
 IsIndexArgument argument value =
-    (digits : List ℕ) × (argument ≡ codes "0x" ++ digits) × IsNumeral 16 digits × (length digits ≤ 8) × (value ≡ digits_value 16 digits)
+    (digits : List ℕ)
+    × (argument ≡ codes "0x" ++ digits)
+    × IsNumeral 16 digits
+    × (length digits ≤ 8)
+    × (value ≡ digits_value 16 digits)

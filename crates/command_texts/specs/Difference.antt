@@ -11,16 +11,22 @@ use Rattle.command_texts.specs.declared.difference.Scope.TheVariants.{All, Origi
 
 -- this is the line of a record: a sign, and the line that `types` prints for it
 abbrev pub IsSignedLine : List ℕ → ℕ → List ℕ → List ℕ → Type 0
-IsSignedLine sign index bytes line = (places : List ℕ) × HasPlaces bytes places × (line ≡ sign ++ type_line index bytes places)
+IsSignedLine sign index bytes line =
+    (places : List ℕ) × HasPlaces bytes places × (line ≡ sign ++ type_line index bytes places)
 
--- the text is the lines of the records whose positions have P, in order; the first record is at this position
+-- the text is the lines of the records whose positions have P, in order;
+-- the first record is at this position
 abbrev pub AreLinesWhere : (ℕ → Type 0) → List ℕ → ℕ → List (List ℕ) → List ℕ → Type 0
 AreLinesWhere P sign position [] text = text ≡ []
 AreLinesWhere P sign position (bytes ∷ others) text =
-    (line : List ℕ) × (back : List ℕ) × AreLinesWhere P sign (position + 1) others back × (text ≡ line ++ back)
-    × ((P position × IsSignedLine sign (first_index + position) bytes line) ⊎ ((P position → ⊥) × (line ≡ [])))
+    (line : List ℕ) × (back : List ℕ)
+    × AreLinesWhere P sign (position + 1) others back
+    × (text ≡ line ++ back)
+    × ((P position × IsSignedLine sign (first_index + position) bytes line)
+    ⊎ ((P position → ⊥) × (line ≡ [])))
 
--- the record at this position is shown: it is the first of a type that the others lack; or, where only origins are shown, the difference begins at it
+-- the record at this position is shown: it is the first of a type that the others lack;
+-- or, where only origins are shown, the difference begins at it
 abbrev pub IsShown : Scope → List (List ℕ) → List (List ℕ) → ℕ → Type 0
 IsShown All records others i = IsLacked records others i
 IsShown Origins records others i = IsOrigin records others i
@@ -33,8 +39,10 @@ ShowsStanding scope Origin = Unit {0}
 ShowsStanding All Follows = Unit {0}
 ShowsStanding Origins Follows = ⊥
 
--- the text has a line with `-` for each type that only the first list has, and then a line with `+` for each type that only the second one has
-pub record ShowsDifference (scope : Scope) (records others : List (List ℕ)) (text : List ℕ) : Type 0 where
+-- the text has a line with `-` for each type that only the first list has,
+-- and then a line with `+` for each type that only the second one has
+pub record ShowsDifference (scope : Scope) (records others : List (List ℕ)) (text : List ℕ)
+    : Type 0 where
   pub removed : List ℕ
   pub added : List ℕ
   pub removed_lines : AreLinesWhere (IsShown scope records others) (codes "- ") 0 records removed

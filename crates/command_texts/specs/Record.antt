@@ -12,7 +12,8 @@ bytes_line bytes = encode_lower bytes ++ 10 ∷ []
 
 -- the line of a place of a record: the place, and the type index at it
 unfoldable pub place_line : List ℕ → ℕ → List ℕ
-place_line bytes place = decimal place ++ 32 ∷ index_text (number_at 4 (body_of bytes) place) ++ 10 ∷ []
+place_line bytes place =
+    decimal place ++ 32 ∷ index_text (number_at 4 (body_of bytes) place) ++ 10 ∷ []
 
 -- the line of a name, where there is one
 unfoldable pub name_lines : Option (List ℕ) → List ℕ

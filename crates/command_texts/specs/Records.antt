@@ -6,7 +6,11 @@ use Rattle.command_texts.specs.Text.{index_text, kind_text}
 
 -- the line of a record: its type index, its kind, its size in bytes
 unfoldable pub record_line : ℕ → List ℕ → List ℕ
-record_line index bytes = index_text index ++ 32 ∷ kind_text (number_at 2 bytes 2) ++ 32 ∷ decimal (length bytes) ++ 10 ∷ []
+record_line index bytes =
+    index_text index
+    ++ 32 ∷ kind_text (number_at 2 bytes 2)
+    ++ 32 ∷ decimal (length bytes)
+    ++ 10 ∷ []
 
 -- the lines of records in order; the first record has this type index
 unfoldable pub record_lines : ℕ → List (List ℕ) → List ℕ

@@ -21,7 +21,11 @@ blank_number number = 32 ∷ decimal number
 
 -- the line of a stream: its number, its size in bytes, the numbers of its blocks
 unfoldable pub stream_line : ℕ → Listed → List ℕ
-stream_line s stream = decimal s ++ blank_number (bytes_of stream.size) ++ flat_map blank_number stream.blocks ++ 10 ∷ []
+stream_line s stream =
+    decimal s
+    ++ blank_number (bytes_of stream.size)
+    ++ flat_map blank_number stream.blocks
+    ++ 10 ∷ []
 
 -- the lines of streams in order; the first stream has this number
 unfoldable pub stream_lines : ℕ → List Listed → List ℕ

@@ -3,7 +3,8 @@ use Rattle.std.specs.Prelude.{ℕ, ◌/◌, ◌%◌, ◌==◌, ◌&&◌, nat_le,
 use Rattle.std.specs.List.{flat_map}
 use Rattle.std.specs.Fmt.{digits, decimal, digit_glyph}
 
--- a type index, or another number in the same form: 0x and lower case hexadecimal digits without leading zeros
+-- a type index, or another number in the same form:
+-- 0x and lower case hexadecimal digits without leading zeros
 abbrev pub index_text : ℕ → List ℕ
 index_text index = codes "0x" ++ digits 16 false index
 
@@ -13,15 +14,20 @@ digit n = digit_glyph false n
 
 -- the kind of a record: 0x and four lower case hexadecimal digits
 abbrev pub kind_text : ℕ → List ℕ
-kind_text kind = codes "0x" ++ (digit (kind / 256 / 16) ∷ digit (kind / 256 % 16) ∷ digit (kind % 256 / 16) ∷ digit (kind % 256 % 16) ∷ [])
+kind_text kind =
+    codes "0x"
+    ++ (digit (kind / 256 / 16) ∷ digit (kind / 256 % 16) ∷ digit (kind % 256 / 16)
+    ∷ digit (kind % 256 % 16) ∷ [])
 
--- a byte that is printed as itself within quotes: printable ASCII, except the quote and the backslash
+-- a byte that is printed as itself within quotes:
+-- printable ASCII, except the quote and the backslash
 unfoldable pub is_plain : ℕ → Bool
 is_plain byte = nat_le 0x20 byte && nat_le byte 0x7E && not (byte == 34) && not (byte == 92)
 
 -- a byte within quotes: a byte that is not plain is written by its number
 abbrev pub quoted_byte : ℕ → List ℕ
-quoted_byte byte = if is_plain byte then byte ∷ [] else 92 ∷ 120 ∷ digit (byte / 16) ∷ digit (byte % 16) ∷ []
+quoted_byte byte =
+    if is_plain byte then byte ∷ [] else 92 ∷ 120 ∷ digit (byte / 16) ∷ digit (byte % 16) ∷ []
 
 -- a text in quotes
 unfoldable pub quoted : List ℕ → List ℕ

@@ -22,6 +22,13 @@ quoted_name (Some name) = 32 ∷ quoted name
 unfoldable pub leaf_name : List ℕ → List ℕ
 leaf_name bytes = option_map_or (λ l. l.text) (leaf_of (kind_of bytes)) []
 
--- the line of a record with these places: its type index, the name of its leaf, its size in bytes, each reference, its name
+-- the line of a record with these places: its type index, the name of its leaf, its size in bytes,
+-- each reference, its name
 unfoldable pub type_line : ℕ → List ℕ → List ℕ → List ℕ
-type_line index bytes places = index_text index ++ 32 ∷ leaf_name bytes ++ 32 ∷ decimal (length bytes) ++ flat_map (reference bytes) places ++ quoted_name (name_of bytes) ++ 10 ∷ []
+type_line index bytes places =
+    index_text index
+    ++ 32 ∷ leaf_name bytes
+    ++ 32 ∷ decimal (length bytes)
+    ++ flat_map (reference bytes) places
+    ++ quoted_name (name_of bytes)
+    ++ 10 ∷ []

@@ -29,7 +29,8 @@ places_from rest body stop at = each_part (part_end rest body) (part_places rest
 
 -- the checks of what follows the fixed places
 unfoldable pub rest_checks : Rest → List ℕ → List (Check LeafFault)
-rest_checks rest body = extent_checks rest body ++ checks_from rest body (stop_of rest body) (rest_start rest)
+rest_checks rest body =
+    extent_checks rest body ++ checks_from rest body (stop_of rest body) (rest_start rest)
 
 -- the places that follow the fixed ones
 unfoldable pub rest_places : Rest → List ℕ → List ℕ
@@ -45,7 +46,9 @@ leaf_checks l body = fixed_checks body l.places ++ rest_checks l.rest body
 
 -- the checks of a record, in order
 unfoldable pub record_checks : List ℕ → List (Check LeafFault)
-record_checks r = option_map_or (λ l. leaf_checks l (body_of r)) (leaf_of (kind_of r)) (record { holds = false; fault = fault.Leaf (kind_of r) } ∷ [])
+record_checks r =
+    option_map_or (λ l. leaf_checks l (body_of r)) (leaf_of (kind_of r))
+    (record { holds = false; fault = fault.Leaf (kind_of r) } ∷ [])
 
 -- the places of a leaf
 abbrev pub leaf_places : Leaf → List ℕ → List ℕ
@@ -55,7 +58,8 @@ leaf_places l body = l.places ++ rest_places l.rest body
 unfoldable pub places_of : List ℕ → List ℕ
 places_of r = option_map_or (λ l. leaf_places l (body_of r)) (leaf_of (kind_of r)) []
 
--- the places of these parts can be told: those of the part at `base`, and those of the parts from `next` on
+-- the places of these parts can be told: those of the part at `base`,
+-- and those of the parts from `next` on
 pub record ArePlacesLeft (rest : Rest) (body : List ℕ) (base next stop : ℕ) : Type 0 where
   -- the body is short, so no place overflows
   pub short : length body < 2 ^ 17

@@ -18,7 +18,8 @@ OnePlaces = (r ps qs : List ℕ) → HasPlaces r ps → HasPlaces r qs → ps �
 abbrev pub PlacesMet : Type 0
 PlacesMet = (r places : List ℕ) → HasPlaces r places → places ≡ places_of r
 
--- the places of a record rise, are at least four bytes apart, and each four bytes lie within the body
+-- the places of a record rise, are at least four bytes apart,
+-- and each four bytes lie within the body
 abbrev pub PlacesApart : Type 0
 PlacesApart = (r places : List ℕ) → HasPlaces r places → Apart 0 places (length (body_of r))
 
@@ -32,15 +33,25 @@ BlankKeeps = (r places : List ℕ) → HasPlaces r places → HasPlaces (blank r
 
 -- a record with zeros at its places stays as it is when they are written again
 abbrev pub BlankStays : Type 0
-BlankStays = (r places : List ℕ) → HasPlaces r places → blank (blank r places) places ≡ blank r places
+BlankStays =
+    (r places : List ℕ) → HasPlaces r places → blank (blank r places) places ≡ blank r places
 
 -- a number that is written at a place is read there again
 abbrev pub WrittenIsRead : Type 0
-WrittenIsRead = (r : List ℕ) (place n : ℕ) → IsPlace r place → n < 2 ^ 32 → number_at 4 (body_of (put_four r (4 + place) n)) place ≡ n
+WrittenIsRead =
+    (r : List ℕ) (place n : ℕ)
+    → IsPlace r place
+    → n < 2 ^ 32
+    → number_at 4 (body_of (put_four r (4 + place) n)) place ≡ n
 
 -- the numbers that a record is filled with, one for each place, are then its references
 abbrev pub FilledIsRead : Type 0
-FilledIsRead = (r ns : List ℕ) → IsChecked r → length ns ≡ length (places_of r) → AllByRecursion (λ n. n < 2 ^ 32) ns → references (filled r ns) ≡ ns
+FilledIsRead =
+    (r ns : List ℕ)
+    → IsChecked r
+    → length ns ≡ length (places_of r)
+    → AllByRecursion (λ n. n < 2 ^ 32) ns
+    → references (filled r ns) ≡ ns
 
 -- whatever numbers a record is filled with, its blank stays the same
 abbrev pub FillKeepsBlank : Type 0
@@ -68,8 +79,16 @@ BlankKeepsBytes = (r : List ℕ) → AreBytes r → AreBytes (blanked r)
 
 -- the entries of a method list fill its body
 abbrev pub MethodsFill : Type 0
-MethodsFill = (body places : List ℕ) → HasParts Methods body places → (entries : List (List ℕ)) × (body ≡ concat entries) × AreParts Methods (length body) 0 entries places
+MethodsFill =
+    (body places : List ℕ)
+    → HasParts Methods body places
+    → (entries : List (List ℕ)) × (body ≡ concat entries)
+    × AreParts Methods (length body) 0 entries places
 
 -- the members of a field list fill its body
 abbrev pub MembersFill : Type 0
-MembersFill = (body places : List ℕ) → HasParts Members body places → (members : List (List ℕ)) × (body ≡ concat members) × AreParts Members (length body) 0 members places
+MembersFill =
+    (body places : List ℕ)
+    → HasParts Members body places
+    → (members : List (List ℕ)) × (body ≡ concat members)
+    × AreParts Members (length body) 0 members places

@@ -3,20 +3,25 @@ use Rattle.std.specs.Prelude.{ℕ, List, [], ◌∷◌, Option, codes}
 use Rattle.cv_leaves.specs.Table.{Row, find}
 use Rattle.cv_leaves.specs.declared.leaf.Rest.{Rest}
 use Rattle.cv_leaves.specs.declared.leaf.Rest.TheVariants.{Nothing, Containing, Indices, Methods, Members}
-use Rattle.cv_leaves.specs.declared.leaf.Naming.{Naming}
-use Rattle.cv_leaves.specs.declared.leaf.Naming.TheVariants.{Unnamed, At, AfterNumeric}
+use Rattle.cv_leaves.specs.declared.leaf.NamePlace.{NamePlace}
+use Rattle.cv_leaves.specs.declared.leaf.NamePlace.TheVariants.{Unnamed, At, AfterNumeric}
 use Rattle.cv_leaves.specs.declared.leaf.Leaf as declared
 
--- a leaf: its name, the places at fixed offsets of the body, what follows them, and where the name of the type begins
+-- a leaf: its name, the places at fixed offsets of the body, what follows them,
+-- and where the name of the type begins
 pub record Leaf : Type 0 where
   pub text : List ℕ
   pub places : List ℕ
   pub rest : Rest
-  pub naming : Naming
+  pub naming : NamePlace
 
 -- the row of a kind
-abbrev pub leaf_row : ℕ → List ℕ → List ℕ → Rest → Naming → Row Leaf
-leaf_row kind text places rest naming = record { kind = kind; item = record { text = text; places = places; rest = rest; naming = naming } }
+abbrev pub leaf_row : ℕ → List ℕ → List ℕ → Rest → NamePlace → Row Leaf
+leaf_row kind text places rest naming =
+    record {
+      kind = kind;
+      item = record { text = text; places = places; rest = rest; naming = naming };
+    }
 
 -- the rows, by rising kind
 abbrev pub leaves : List (Row Leaf)

@@ -5,14 +5,15 @@ use Rattle.byte_fields.specs.Name.{name_at}
 use Rattle.cv_leaves.specs.Leaf.{leaf_of}
 use Rattle.cv_leaves.specs.Numeric.{has_numeric, numeric_end}
 use Rattle.cv_leaves.specs.Checks.{kind_of, body_of}
-use Rattle.cv_leaves.specs.declared.leaf.Naming.{Naming}
-use Rattle.cv_leaves.specs.declared.leaf.Naming.TheVariants.{Unnamed, At, AfterNumeric}
+use Rattle.cv_leaves.specs.declared.leaf.NamePlace.{NamePlace}
+use Rattle.cv_leaves.specs.declared.leaf.NamePlace.TheVariants.{Unnamed, At, AfterNumeric}
 
 -- the name in a body, at the offset where its leaf has it
-unfoldable pub name_in : Naming → List ℕ → Option (List ℕ)
+unfoldable pub name_in : NamePlace → List ℕ → Option (List ℕ)
 name_in Unnamed body = None
 name_in (At k) body = name_at body k
-name_in (AfterNumeric k) body = if has_numeric body k then name_at body (numeric_end body k) else None
+name_in (AfterNumeric k) body =
+    if has_numeric body k then name_at body (numeric_end body k) else None
 
 -- the name of the type that a record describes
 unfoldable pub name_of : List ℕ → Option (List ℕ)

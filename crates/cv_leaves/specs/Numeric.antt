@@ -21,7 +21,9 @@ numeric_end body at = at + numeric_len (number_at 2 body at)
 
 -- there is a known numeric leaf at `at`, and it fits
 unfoldable pub has_numeric : List ℕ → ℕ → Bool
-has_numeric body at = nat_le (at + 2) (length body) && (nat_lt 0 (numeric_len (number_at 2 body at)) && nat_le (numeric_end body at) (length body))
+has_numeric body at =
+    nat_le (at + 2) (length body)
+    && (nat_lt 0 (numeric_len (number_at 2 body at)) && nat_le (numeric_end body at) (length body))
 
 -- the check of the numeric leaf at `at`
 abbrev pub numeric_checks : List ℕ → ℕ → List (Check LeafFault)
@@ -35,4 +37,5 @@ numerics_end (suc n) body at = numerics_end n body (numeric_end body at)
 -- the checks of some numeric leaves, where the first is at `at`
 unfoldable pub numerics_checks : ℕ → List ℕ → ℕ → List (Check LeafFault)
 numerics_checks zero body at = []
-numerics_checks (suc n) body at = numeric_checks body at ++ numerics_checks n body (numeric_end body at)
+numerics_checks (suc n) body at =
+    numeric_checks body at ++ numerics_checks n body (numeric_end body at)

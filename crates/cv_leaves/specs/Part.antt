@@ -42,7 +42,8 @@ part_end Members body at = member_end body at
 -- the places of the part at `at`
 unfoldable pub part_places : Rest → List ℕ → ℕ → List ℕ
 part_places Nothing body at = []
-part_places Containing body at = if points_to_member (number_at 4 body at) then (at + 4) ∷ [] else []
+part_places Containing body at =
+    if points_to_member (number_at 4 body at) then (at + 4) ∷ [] else []
 part_places Indices body at = at ∷ []
 part_places Methods body at = (at + 4) ∷ []
 part_places Members body at = member_places body at
@@ -50,18 +51,24 @@ part_places Members body at = member_places body at
 -- the checks of the part at `at`, in order
 unfoldable pub part_checks : Rest → List ℕ → ℕ → List (Check LeafFault)
 part_checks Nothing body at = record { holds = false; fault = Body at } ∷ []
-part_checks Containing body at = field_checks body at 4 ++ (if points_to_member (number_at 4 body at) then field_checks body (at + 4) 4 else [])
+part_checks Containing body at =
+    field_checks body at 4
+    ++ (if points_to_member (number_at 4 body at) then field_checks body (at + 4) 4 else [])
 part_checks Indices body at = field_checks body at 4
 part_checks Methods body at =
-    field_checks body at 2 ++ (field_checks body (at + 4) 4 ++ (if introduces (number_at 2 body at) then field_checks body (at + 8) 4 else []))
+    field_checks body at 2
+    ++ (field_checks body (at + 4) 4
+    ++ (if introduces (number_at 2 body at) then field_checks body (at + 8) 4 else []))
 part_checks Members body at = member_checks body at
 
 -- ---- one after the other
 
--- what `here` gives for the part at `at`, for the part that begins where that one ends, and so on below `stop`; for at most this number of parts
+-- what `here` gives for the part at `at`, for the part that begins where that one ends,
+-- and so on below `stop`; for at most this number of parts
 unfoldable pub collect : {X : Type 0} → (ℕ → ℕ) → (ℕ → List X) → ℕ → ℕ → ℕ → List X
 collect end here stop zero at = []
-collect end here stop (suc n) at = if nat_lt at stop then here at ++ collect end here stop n (end at) else []
+collect end here stop (suc n) at =
+    if nat_lt at stop then here at ++ collect end here stop n (end at) else []
 
 -- what `here` gives for each part from `at` up to `stop`, where each part ends after its beginning
 unfoldable pub each_part : {X : Type 0} → (ℕ → ℕ) → (ℕ → List X) → ℕ → ℕ → List X

@@ -20,7 +20,7 @@ pub enum Rest {
 
 /// Where the name of the type begins.
 #[derive(Clone, Copy, Debug)]
-pub enum Naming {
+pub enum NamePlace {
     /// The leaf has no name.
     Unnamed,
     /// At this offset of the body.
@@ -36,7 +36,7 @@ pub struct Leaf {
     /// The places at fixed offsets of the body.
     pub places: &'static [u8],
     pub rest: Rest,
-    pub naming: Naming,
+    pub naming: NamePlace,
 }
 
 /// The row of a kind. `None` where the table does not have it.
@@ -44,44 +44,49 @@ pub struct Leaf {
 pub fn leaf_of(kind: u16) -> Option<Leaf>
     ensures { option_map leaf_seen result ≡ leaf_of kind }
 {
-    let (text, places, rest, naming): (&'static str, &'static [u8], Rest, Naming) = match kind {
-        0x000A => ("LF_VTSHAPE", &[], Rest::Nothing, Naming::Unnamed),
-        0x000E => ("LF_LABEL", &[], Rest::Nothing, Naming::Unnamed),
-        0x1001 => ("LF_MODIFIER", &[0], Rest::Nothing, Naming::Unnamed),
-        0x1002 => ("LF_POINTER", &[0], Rest::Containing, Naming::Unnamed),
-        0x1008 => ("LF_PROCEDURE", &[0, 8], Rest::Nothing, Naming::Unnamed),
+    let (text, places, rest, naming): (&'static str, &'static [u8], Rest, NamePlace) = match kind {
+        0x000A => ("LF_VTSHAPE", &[], Rest::Nothing, NamePlace::Unnamed),
+        0x000E => ("LF_LABEL", &[], Rest::Nothing, NamePlace::Unnamed),
+        0x1001 => ("LF_MODIFIER", &[0], Rest::Nothing, NamePlace::Unnamed),
+        0x1002 => ("LF_POINTER", &[0], Rest::Containing, NamePlace::Unnamed),
+        0x1008 => ("LF_PROCEDURE", &[0, 8], Rest::Nothing, NamePlace::Unnamed),
         0x1009 => (
             "LF_MFUNCTION",
             &[0, 4, 8, 16],
             Rest::Nothing,
-            Naming::Unnamed,
+            NamePlace::Unnamed,
         ),
-        0x1201 => ("LF_ARGLIST", &[], Rest::Indices, Naming::Unnamed),
-        0x1203 => ("LF_FIELDLIST", &[], Rest::Members, Naming::Unnamed),
-        0x1205 => ("LF_BITFIELD", &[0], Rest::Nothing, Naming::Unnamed),
-        0x1206 => ("LF_METHODLIST", &[], Rest::Methods, Naming::Unnamed),
-        0x1503 => ("LF_ARRAY", &[0, 4], Rest::Nothing, Naming::AfterNumeric(8)),
+        0x1201 => ("LF_ARGLIST", &[], Rest::Indices, NamePlace::Unnamed),
+        0x1203 => ("LF_FIELDLIST", &[], Rest::Members, NamePlace::Unnamed),
+        0x1205 => ("LF_BITFIELD", &[0], Rest::Nothing, NamePlace::Unnamed),
+        0x1206 => ("LF_METHODLIST", &[], Rest::Methods, NamePlace::Unnamed),
+        0x1503 => (
+            "LF_ARRAY",
+            &[0, 4],
+            Rest::Nothing,
+            NamePlace::AfterNumeric(8),
+        ),
         0x1504 => (
             "LF_CLASS",
             &[4, 8, 12],
             Rest::Nothing,
-            Naming::AfterNumeric(16),
+            NamePlace::AfterNumeric(16),
         ),
         0x1505 => (
             "LF_STRUCTURE",
             &[4, 8, 12],
             Rest::Nothing,
-            Naming::AfterNumeric(16),
+            NamePlace::AfterNumeric(16),
         ),
-        0x1506 => ("LF_UNION", &[4], Rest::Nothing, Naming::AfterNumeric(8)),
-        0x1507 => ("LF_ENUM", &[4, 8], Rest::Nothing, Naming::At(12)),
+        0x1506 => ("LF_UNION", &[4], Rest::Nothing, NamePlace::AfterNumeric(8)),
+        0x1507 => ("LF_ENUM", &[4, 8], Rest::Nothing, NamePlace::At(12)),
         0x1519 => (
             "LF_INTERFACE",
             &[4, 8, 12],
             Rest::Nothing,
-            Naming::AfterNumeric(16),
+            NamePlace::AfterNumeric(16),
         ),
-        0x151D => ("LF_VFTABLE", &[0, 4], Rest::Nothing, Naming::Unnamed),
+        0x151D => ("LF_VFTABLE", &[0, 4], Rest::Nothing, NamePlace::Unnamed),
         _ => return None,
     };
     Some(Leaf {

@@ -7,7 +7,7 @@ ghost use Rattle.cv_leaves.specs.Name.{name_in, name_of};
 
 use crate::checks::{body_of, kind_of};
 use crate::fault::LeafFault;
-use crate::leaf::{Naming, leaf_of};
+use crate::leaf::{NamePlace, leaf_of};
 use crate::numeric::after_numeric;
 use byte_fields::name_at;
 
@@ -27,14 +27,14 @@ pub fn after_name(body: &[u8], at: usize) -> Result<usize, LeafFault>
 
 /// The name in a body. `naming` says where it begins.
 #[tactic(auto, unfolding(crate::specs::Name::name_in))]
-fn name_in(naming: Naming, body: &[u8]) -> Option<&[u8]>
+fn name_in(naming: NamePlace, body: &[u8]) -> Option<&[u8]>
     requires { length body.now < 2 ^ 17 }
     ensures { option_map (λ n. n.now) result ≡ name_in naming body.now }
 {
     match naming {
-        Naming::Unnamed => None,
-        Naming::At(at) => name_at(body, usize::from(at)),
-        Naming::AfterNumeric(at) => name_at(body, after_numeric(body, usize::from(at))?),
+        NamePlace::Unnamed => None,
+        NamePlace::At(at) => name_at(body, usize::from(at)),
+        NamePlace::AfterNumeric(at) => name_at(body, after_numeric(body, usize::from(at))?),
     }
 }
 

@@ -19,7 +19,8 @@ is_block_size size = is_member nat_eq block_sizes size
 abbrev pub blocks_for : ℕ → ℕ → ℕ
 blocks_for size bytes = (bytes + size - 1) / size
 
--- a block may hold the bytes of a stream: it is not block 0, which has the superblock, and it is a block of the file
+-- a block may hold the bytes of a stream: it is not block 0, which has the superblock,
+-- and it is a block of the file
 abbrev pub IsOrdinary : ℕ → ℕ → Type 0
 IsOrdinary num_blocks block = (0 < block) × (block < num_blocks)
 
@@ -29,11 +30,13 @@ is_ordinary num_blocks block = nat_lt 0 block && nat_lt block num_blocks
 
 -- ---- the blocks of the two free block maps
 
--- the block belongs to one of the two free block maps: it is the second or the third of its interval, and an interval has as many blocks as a block has bytes
+-- the block belongs to one of the two free block maps: it is the second or the third
+-- of its interval, and an interval has as many blocks as a block has bytes
 abbrev pub is_map_block : ℕ → ℕ → Bool
 is_map_block size block = block % size == 1 || block % size == 2
 
--- the j-th block that is not a map block, from 0: the first block of each interval, and each block from the fourth on
+-- the j-th block that is not a map block, from 0: the first block of each interval,
+-- and each block from the fourth on
 unfoldable pub nth_block : ℕ → ℕ → ℕ
 nth_block size j = j / (size - 2) * size + (if j % (size - 2) == 0 then 0 else j % (size - 2) + 2)
 

@@ -9,7 +9,12 @@ use Rattle.msf_blocks.specs.declared.fault.MsfFault.TheVariants.{Memory}
 
 -- a file of bytes has at most one layout
 abbrev pub OneLayout : Type 0
-OneLayout = (file : List ℕ) (some other : LayoutView) → AreBytes file → HasLayout file some → HasLayout file other → some ≡ other
+OneLayout =
+    (file : List ℕ) (some other : LayoutView)
+    → AreBytes file
+    → HasLayout file some
+    → HasLayout file other
+    → some ≡ other
 
 -- of a file that is known, reads give a layout just if the file has it
 abbrev pub KnownLayout : Type 0

@@ -23,16 +23,21 @@ pub record HasLayout (file : List ℕ) (layout : LayoutView) : Type 0 where
   pub directory : IsDirectory file layout.superblock contents
   pub lists : ListsStreams layout.superblock contents layout.streams
 
--- reads gave the bytes of this layout: the front, the block map and the contents of the directory, each where the one before it says; all checks of them hold
+-- reads gave the bytes of this layout: the front, the block map and the contents of the directory,
+-- each where the one before it says; all checks of them hold
 pub record HasTexts (bytes : Bytes) (layout : LayoutView) : Type 0 where
   pub front : HasFront bytes layout.superblock
   pub contents : List ℕ
   pub directory : HasContents bytes layout.superblock contents
   pub lists : ListsStreams layout.superblock contents layout.streams
 
--- reads gave bytes of a container with this fault: the front has it, or reads gave a front without a fault and a directory that has it; if there is no fault, it is out of memory
+-- reads gave bytes of a container with this fault: the front has it,
+-- or reads gave a front without a fault and a directory that has it;
+-- if there is no fault, it is out of memory
 abbrev pub TextsRefuse : Bytes → MsfFault → Type 0
-TextsRefuse bytes fault = FrontRefuses bytes fault ⊎ ((fields : Fields) × HasFront bytes fields × DirectoryRefuses bytes fields fault)
+TextsRefuse bytes fault =
+    FrontRefuses bytes fault
+    ⊎ ((fields : Fields) × HasFront bytes fields × DirectoryRefuses bytes fields fault)
 
 -- what holds of every layout
 pub record IsLayout (layout : LayoutView) : Type 0 where
@@ -49,12 +54,16 @@ block_in (Some stream) k = slice_get stream.blocks k
 abbrev pub block_of : List Listed → ℕ → ℕ → Option ℕ
 block_of streams s k = block_in (slice_get streams s) k
 
--- the checks of a layout: of the superblock, of the blocks of the directory, of its length, and of the blocks of each stream
+-- the checks of a layout: of the superblock, of the blocks of the directory, of its length,
+-- and of the blocks of each stream
 unfoldable pub layout_checks : List ℕ → List (Check MsfFault)
 layout_checks file =
     let fields = fields_of file in
     let contents = directory_contents file fields in
-    superblock_checks file ++ (directory_block_checks file fields ++ (length_checks fields.block_size contents ++ checks_below (nth_u32 contents 0) (stream_checks fields contents)))
+    superblock_checks file
+    ++ (directory_block_checks file fields
+    ++ (length_checks fields.block_size contents
+    ++ checks_below (nth_u32 contents 0) (stream_checks fields contents)))
 
 -- ---- with a limit on the directory
 

@@ -12,7 +12,8 @@ use Rattle.msf_blocks.specs.declared.fault.MsfFault.TheVariants.{Short, Magic, B
 abbrev pub magic : List ℕ
 magic = codes "Microsoft C/C++ MSF 7.00" ++ 0x0D ∷ 0x0A ∷ 0x1A ∷ 0x44 ∷ 0x53 ∷ 0 ∷ 0 ∷ 0 ∷ []
 
--- the fields of a superblock: block_size and directory_bytes are in bytes, free_map_block and block_map_addr are block numbers, num_blocks counts blocks
+-- the fields of a superblock: block_size and directory_bytes are in bytes,
+-- free_map_block and block_map_addr are block numbers, num_blocks counts blocks
 pub record Fields : Type 0 where
   pub block_size : ℕ
   pub free_map_block : ℕ
@@ -64,25 +65,55 @@ superblock_checks file =
     record { holds = nat_le 56 (length file); fault = Short }
     ∷ record { holds = starts_with nat_eq file magic; fault = Magic }
     ∷ record { holds = is_block_size fields.block_size; fault = BlockSize fields.block_size }
-    ∷ record { holds = fields.free_map_block == 1 || fields.free_map_block == 2; fault = FreeMapBlock fields.free_map_block }
-    ∷ record { holds = nat_le (fields.num_blocks * fields.block_size) (length file); fault = FileSize (fields.num_blocks * fields.block_size) (length file) }
-    ∷ record { holds = fields.directory_bytes % 4 == 0 && nat_le (blocks_for fields.block_size fields.directory_bytes) (fields.block_size / 4); fault = DirectorySize fields.directory_bytes }
-    ∷ record { holds = is_ordinary fields.num_blocks fields.block_map_addr; fault = BlockMapAddr fields.block_map_addr }
+    ∷ record {
+      holds = fields.free_map_block == 1 || fields.free_map_block == 2;
+      fault = FreeMapBlock fields.free_map_block;
+    }
+    ∷ record {
+      holds = nat_le (fields.num_blocks * fields.block_size) (length file);
+      fault = FileSize (fields.num_blocks * fields.block_size) (length file);
+    }
+    ∷ record {
+      holds =
+          fields.directory_bytes % 4 == 0
+          && nat_le (blocks_for fields.block_size fields.directory_bytes) (fields.block_size / 4);
+      fault = DirectorySize fields.directory_bytes;
+    }
+    ∷ record {
+      holds = is_ordinary fields.num_blocks fields.block_map_addr;
+      fault = BlockMapAddr fields.block_map_addr;
+    }
     ∷ []
 
--- the checks of a superblock after that of its length, by the first bytes of a file and how many bytes the file has
+-- the checks of a superblock after that of its length,
+-- by the first bytes of a file and how many bytes the file has
 unfoldable pub front_checks : List ℕ → ℕ → List (Check MsfFault)
 front_checks front have =
     let fields = fields_of front in
     record { holds = starts_with nat_eq front magic; fault = Magic }
     ∷ record { holds = is_block_size fields.block_size; fault = BlockSize fields.block_size }
-    ∷ record { holds = fields.free_map_block == 1 || fields.free_map_block == 2; fault = FreeMapBlock fields.free_map_block }
-    ∷ record { holds = nat_le (fields.num_blocks * fields.block_size) have; fault = FileSize (fields.num_blocks * fields.block_size) have }
-    ∷ record { holds = fields.directory_bytes % 4 == 0 && nat_le (blocks_for fields.block_size fields.directory_bytes) (fields.block_size / 4); fault = DirectorySize fields.directory_bytes }
-    ∷ record { holds = is_ordinary fields.num_blocks fields.block_map_addr; fault = BlockMapAddr fields.block_map_addr }
+    ∷ record {
+      holds = fields.free_map_block == 1 || fields.free_map_block == 2;
+      fault = FreeMapBlock fields.free_map_block;
+    }
+    ∷ record {
+      holds = nat_le (fields.num_blocks * fields.block_size) have;
+      fault = FileSize (fields.num_blocks * fields.block_size) have;
+    }
+    ∷ record {
+      holds =
+          fields.directory_bytes % 4 == 0
+          && nat_le (blocks_for fields.block_size fields.directory_bytes) (fields.block_size / 4);
+      fault = DirectorySize fields.directory_bytes;
+    }
+    ∷ record {
+      holds = is_ordinary fields.num_blocks fields.block_map_addr;
+      fault = BlockMapAddr fields.block_map_addr;
+    }
     ∷ []
 
--- these are the first bytes of a container with this superblock, which is said to have `told` bytes: all checks of its front hold
+-- these are the first bytes of a container with this superblock,
+-- which is said to have `told` bytes: all checks of its front hold
 pub record IsFront (front : List ℕ) (told : ℕ) (fields : Fields) : Type 0 where
   pub count : length front ≡ 56
   pub fields_are : fields ≡ fields_of front
@@ -101,6 +132,7 @@ pub record HasBadFront (bytes : Bytes) (fault : MsfFault) : Type 0 where
   pub count : length front ≡ 56
   pub refused : first_failing (front_checks front bytes.told) ≡ Some fault
 
--- the front has this fault: the file is said to have too few bytes for a front, or reads gave a front with this fault
+-- the front has this fault: the file is said to have too few bytes for a front,
+-- or reads gave a front with this fault
 abbrev pub FrontRefuses : Bytes → MsfFault → Type 0
 FrontRefuses bytes fault = ((bytes.told < 56) × (fault ≡ Short)) ⊎ HasBadFront bytes fault

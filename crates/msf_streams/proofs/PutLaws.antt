@@ -276,8 +276,7 @@ unfolding parts
 by_parts b n ts sb bm dir front = rw (front.count, front.superblock_is, front.block_map_is, front.directory_is) (image_woven b ts front.size front.fits)
 
 -- the padded parts are no longer than the file
-pub few_bytes : (b n : ℕ) (ts : List (List ℕ)) (sb bm dir : List ℕ) → IsImageFront b n (map length ts) sb bm dir
-    → length (padded b sb) + (length (padded b bm) + (length (padded b dir) + length (flat_map (padded b) ts))) < 2 ^ 32
+pub few_bytes : (b n : ℕ) (ts : List (List ℕ)) (sb bm dir : List ℕ) → IsImageFront b n (map length ts) sb bm dir → length (flat_map (padded b) (sb ∷ bm ∷ dir ∷ ts)) < 2 ^ 32
 unfolding parts
 few_bytes b n ts sb bm dir front =
     let sizes = map length ts in
@@ -288,15 +287,7 @@ few_bytes b n ts sb bm dir front =
     let long : length (flat_map (padded b) (sb ∷ bm ∷ dir ∷ ts)) ≡ (data_count b sizes - 1 + 1) * b =
     rw (front.superblock_is, front.block_map_is, front.directory_is) (length_parts b all (omega (arith, big)) ∙ rw (all_blocks b ts front.size front.fits) refl) in
     let one : data_count b sizes - 1 + 1 ≡ data_count b sizes = omega arith in
-    omega (
-      arith,
-      front.fits.short,
-      blocks,
-      rw one at long,
-      length-append (padded b sb) (padded b bm ++ (padded b dir ++ flat_map (padded b) ts)),
-      length-append (padded b bm) (padded b dir ++ flat_map (padded b) ts),
-      length-append (padded b dir) (flat_map (padded b) ts),
-    )
+    omega (arith, front.fits.short, blocks, rw one at long)
 
 -- what was written before the first part
 pub before_front : (old : Option (List ℕ)) (w : WriterView) (ts : List (List ℕ)) (sb bm dir : List ℕ) → IsImageFront w.block_size w.num_blocks (map length ts) sb bm dir
@@ -307,6 +298,65 @@ before_front old w ts sb bm dir front start =
       split = by_parts w.block_size w.num_blocks ts sb bm dir front ∙ rw start refl;
       appends = Appends-nil old;
     }
+
+-- ---- the parts of an image, one after the other
+
+-- a sink took the first parts of the image of these streams: `start` was the writer before them, `writer` is the one after them, and these parts are left
+pub record HasPut (old now : Option (List ℕ)) (start writer : WriterView) (ts left : List (List ℕ)) : Type 0 where
+  pub so_far : Halfway old now writer (image start.block_size ts) (flat_map (padded start.block_size) left)
+  pub same : IsSameImage start writer
+  pub few : writer.position + length (flat_map (padded start.block_size) left) < 2 ^ 32
+
+-- nothing was put yet
+pub none_put : (old : Option (List ℕ)) (w : WriterView) (ts : List (List ℕ)) (sb bm dir : List ℕ) → IsImageFront w.block_size w.num_blocks (map length ts) sb bm dir → w.position ≡ 0 → HasPut old old w w ts (sb ∷ bm ∷ dir ∷ ts)
+none_put old w ts sb bm dir front start = record {
+  so_far = before_front old w ts sb bm dir front start;
+  same = record { block_size = refl; num_blocks = refl };
+  few = omega (arith, start, few_bytes w.block_size w.num_blocks ts sb bm dir front);
+}
+
+-- the next part fits
+pub next_part_fits : (old now : Option (List ℕ)) (w v : WriterView) (ts left : List (List ℕ)) (part given : List ℕ) → given ≡ part → HasPut old now w v ts (part ∷ left) → v.position + length (padded v.block_size given) < 2 ^ 33
+next_part_fits old now w v ts left part given is h =
+    let padding : padded v.block_size given ≡ padded w.block_size part = rw (h.same.block_size, is) refl in
+    omega (arith, h.few, ap length padding, length-append (padded w.block_size part) (flat_map (padded w.block_size) left))
+
+-- the next part was put
+pub next_part_put : (old between new : Option (List ℕ)) (w v u : WriterView) (ts left : List (List ℕ)) (part given : List ℕ) → given ≡ part → HasPut old between w v ts (part ∷ left)
+    → Appends between new (woven_from v (padded v.block_size given)) → IsSameImage v u → u.position ≡ v.position + length (padded v.block_size given) → HasPut old new w u ts left
+next_part_put old between new w v u ts left part given is h put same end =
+    let padding : padded v.block_size given ≡ padded w.block_size part = rw (h.same.block_size, is) refl in
+    record {
+      so_far = part_put old between new w.block_size v u (image w.block_size ts) part given (flat_map (padded w.block_size) left) h.same.block_size is h.so_far put same end;
+      same = still_same w v u h.same same;
+      few = omega (arith, h.few, end, ap length padding, length-append (padded w.block_size part) (flat_map (padded w.block_size) left));
+    }
+
+-- the next part was put in part
+pub next_part_fails : (old between new : Option (List ℕ)) (w v : WriterView) (ts left : List (List ℕ)) (part given : List ℕ) → given ≡ part → HasPut old between w v ts (part ∷ left)
+    → AppendsPart between new (woven_from v (padded v.block_size given)) → AppendsPart old new (image w.block_size ts)
+next_part_fails old between new w v ts left part given is h put =
+    part_not_put old between new w.block_size v (image w.block_size ts) part given (flat_map (padded w.block_size) left) h.same.block_size is h.so_far put
+
+-- the parts that are left fit
+pub all_parts_fit : (old now : Option (List ℕ)) (w v : WriterView) (ts left : List (List ℕ)) → HasPut old now w v ts left → v.position + length (flat_map (padded v.block_size) left) < 2 ^ 33
+all_parts_fit old now w v ts left h =
+    let padding : flat_map (padded v.block_size) left ≡ flat_map (padded w.block_size) left = rw h.same.block_size refl in
+    omega (arith, h.few, ap length padding)
+
+-- the parts that are left were put
+pub all_parts_put : (old between new : Option (List ℕ)) (w v : WriterView) (ts left : List (List ℕ)) → HasPut old between w v ts left
+    → Appends between new (woven_from v (flat_map (padded v.block_size) left)) → Appends old new (image w.block_size ts)
+all_parts_put old between new w v ts left h put =
+    let padding : flat_map (padded v.block_size) left ≡ flat_map (padded w.block_size) left = rw h.same.block_size refl in
+    rest_taken old between new v (image w.block_size ts) (flat_map (padded w.block_size) left) h.so_far (rw padding at put)
+
+-- the parts that are left were put in part
+pub all_parts_fail : (old between new : Option (List ℕ)) (w v : WriterView) (ts left : List (List ℕ)) → HasPut old between w v ts left
+    → AppendsPart between new (woven_from v (flat_map (padded v.block_size) left)) → AppendsPart old new (image w.block_size ts)
+all_parts_fail old between new w v ts left h put =
+    let padding : flat_map (padded v.block_size) left ≡ flat_map (padded w.block_size) left = rw h.same.block_size refl in
+    rest_fails old between new v (image w.block_size ts) (flat_map (padded w.block_size) left) h.so_far (rw padding at put)
 
 -- a stream in one part has the contents of that part
 pub joined_one : (part : Bor (List ℕ)) → joined (part ∷ []) ≡ part.now

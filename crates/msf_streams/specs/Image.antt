@@ -1,4 +1,5 @@
--- The image of streams: the file that is written to hold just these streams ("The MSF File Format").
+-- The image of streams:
+-- the file that is written to hold just these streams ("The MSF File Format").
 use Rattle.std.specs.Prelude.{ℕ, ◌≡◌, ◌+◌, ◌-◌, ◌*◌, ◌/◌, ◌^◌, ◌<◌, ◌≤◌, if◌then◌else◌, All, List, [], ◌∷◌, ◌++◌, length, map, take, drop, slice_get}
 use Rattle.std.specs.List.{range_with_len, flat_map, sum_by}
 use Rattle.byte_fields.specs.Number.{u32s}
@@ -15,7 +16,8 @@ use lib.ListN.{replicate}
 
 -- a part of the file, padded with zeros to whole blocks
 unfoldable pub padded : ℕ → List ℕ → List ℕ
-padded block_size part = part ++ replicate (blocks_for block_size (length part) * block_size - length part) 0
+padded block_size part =
+    part ++ replicate (blocks_for block_size (length part) * block_size - length part) 0
 
 -- block j of the data, from 0
 unfoldable pub data_block : ℕ → List ℕ → ℕ → List ℕ
@@ -24,11 +26,13 @@ data_block block_size bytes j = take block_size (drop (j * block_size) bytes)
 -- block k of the file: a map block, or the next block of the data
 unfoldable pub image_block : ℕ → ℕ → List ℕ → ℕ → List ℕ
 image_block block_size num_blocks bytes k =
-    if is_map_block block_size k then map_block block_size num_blocks k else data_block block_size bytes (length (data_blocks block_size k))
+    if is_map_block block_size k then map_block block_size num_blocks k
+    else data_block block_size bytes (length (data_blocks block_size k))
 
 -- the file whose data blocks hold this data in rising order, with the map blocks between them
 unfoldable pub laid_out : ℕ → ℕ → List ℕ → List ℕ
-laid_out block_size num_blocks bytes = flat_map (image_block block_size num_blocks bytes) (range_with_len 0 num_blocks)
+laid_out block_size num_blocks bytes =
+    flat_map (image_block block_size num_blocks bytes) (range_with_len 0 num_blocks)
 
 -- ---- the parts of a file, by the sizes of its streams
 
@@ -36,7 +40,8 @@ laid_out block_size num_blocks bytes = flat_map (image_block block_size num_bloc
 abbrev pub blocks_of_all : ℕ → List ℕ → ℕ
 blocks_of_all block_size sizes = sum_by (blocks_for block_size) sizes
 
--- the length of the directory in bytes: the number of streams, their sizes, and the number of each block of a stream take four bytes each
+-- the length of the directory in bytes: the number of streams, their sizes,
+-- and the number of each block of a stream take four bytes each
 abbrev pub directory_len : ℕ → List ℕ → ℕ
 directory_len block_size sizes = 4 * (1 + length sizes + blocks_of_all block_size sizes)
 
@@ -59,7 +64,8 @@ image_length block_size sizes = image_blocks block_size sizes * block_size
 -- the six numbers of a superblock, which follow the magic
 abbrev pub superblock_numbers : ℕ → List ℕ → List ℕ
 superblock_numbers block_size sizes =
-    block_size ∷ 1 ∷ image_blocks block_size sizes ∷ directory_len block_size sizes ∷ 0 ∷ nth_block block_size 1 ∷ []
+    block_size ∷ 1 ∷ image_blocks block_size sizes ∷ directory_len block_size sizes ∷ 0
+    ∷ nth_block block_size 1 ∷ []
 
 -- the superblock: map 1 is the free block map in force, and the next data block is the block map
 unfoldable pub superblock_part : ℕ → List ℕ → List ℕ
@@ -67,22 +73,30 @@ superblock_part block_size sizes = magic ++ u32s (superblock_numbers block_size 
 
 -- the block map: the numbers of the blocks of the directory
 unfoldable pub block_map_part : ℕ → List ℕ → List ℕ
-block_map_part block_size sizes = u32s (block_numbers block_size 2 (directory_count block_size sizes))
+block_map_part block_size sizes =
+    u32s (block_numbers block_size 2 (directory_count block_size sizes))
 
--- the directory: the number of streams, their sizes, and the numbers of their blocks; the streams are in consecutive data blocks
+-- the directory: the number of streams, their sizes, and the numbers of their blocks;
+-- the streams are in consecutive data blocks
 unfoldable pub directory_part : ℕ → List ℕ → List ℕ
 directory_part block_size sizes =
-    u32s (length sizes ∷ sizes ++ block_numbers block_size (2 + directory_count block_size sizes) (blocks_of_all block_size sizes))
+    u32s (length sizes ∷ sizes ++ block_numbers block_size
+    (2 + directory_count block_size sizes) (blocks_of_all block_size sizes))
 
 -- the parts of the file that holds these streams
 unfoldable pub parts : ℕ → List (List ℕ) → List (List ℕ)
 parts block_size contents =
     let sizes = map length contents in
-    superblock_part block_size sizes ∷ block_map_part block_size sizes ∷ directory_part block_size sizes ∷ contents
+    superblock_part block_size sizes
+    ∷ block_map_part block_size sizes
+    ∷ directory_part block_size sizes
+    ∷ contents
 
 -- the image of these streams
 unfoldable pub image : ℕ → List (List ℕ) → List ℕ
-image block_size contents = laid_out block_size (image_blocks block_size (map length contents)) (flat_map (padded block_size) (parts block_size contents))
+image block_size contents =
+    laid_out block_size (image_blocks block_size (map length contents))
+    (flat_map (padded block_size) (parts block_size contents))
 
 -- the contents of the streams that are lent to a writer
 abbrev pub contents_of : List (Bor (List ℕ)) → List (List ℕ)
@@ -96,12 +110,14 @@ joined parts = flat_map (λ part. part.now) parts
 abbrev pub joined_of : List (Bor (List (Bor (List ℕ)))) → List (List ℕ)
 joined_of streams = map (λ parts. joined parts.now) streams
 
--- streams of these sizes fit in a file: one block can list the blocks of the directory, and the length of the file is a number of four bytes
+-- streams of these sizes fit in a file: one block can list the blocks of the directory,
+-- and the length of the file is a number of four bytes
 pub record Fits (block_size : ℕ) (sizes : List ℕ) : Type 0 where
   pub directory : directory_count block_size sizes ≤ block_size / 4
   pub short : image_length block_size sizes < 2 ^ 32
 
--- streams with these contents can be written: each length is a number of four bytes, and streams of these sizes fit in a file
+-- streams with these contents can be written: each length is a number of four bytes,
+-- and streams of these sizes fit in a file
 pub record Writable (block_size : ℕ) (contents : List (List ℕ)) : Type 0 where
   pub short : All (λ bytes. length bytes < 2 ^ 32) contents
   pub fits : Fits block_size (map length contents)
@@ -123,7 +139,8 @@ image_fields block_size sizes = record {
 unfoldable pub listed_from : ℕ → ℕ → List ℕ → List Listed
 listed_from block_size first [] = []
 listed_from block_size first (size ∷ sizes) =
-    record { size = size; blocks = block_numbers block_size first (blocks_for block_size size) } ∷ listed_from block_size (first + blocks_for block_size size) sizes
+    record { size = size; blocks = block_numbers block_size first (blocks_for block_size size) }
+    ∷ listed_from block_size (first + blocks_for block_size size) sizes
 
 -- the layout of an image
 abbrev pub image_layout : ℕ → List ℕ → LayoutView
@@ -136,4 +153,7 @@ image_layout block_size sizes = record {
 pub record ReadsBack (block_size : ℕ) (contents : List (List ℕ)) : Type 0 where
   pub long : length (image block_size contents) ≡ image_length block_size (map length contents)
   pub layout : HasLayout (image block_size contents) (image_layout block_size (map length contents))
-  pub streams : (s : ℕ) → stream_contents (image block_size contents) (image_layout block_size (map length contents)) s ≡ slice_get contents s
+  pub streams :
+      (s : ℕ)
+      → stream_contents (image block_size contents) (image_layout block_size (map length contents))
+      s ≡ slice_get contents s

@@ -5,29 +5,37 @@ use Rattle.msf_blocks.specs.BlockNumber.{IsBlockSize}
 use Rattle.msf_blocks.specs.FreeMap.{map_block}
 use Rattle.msf_streams.specs.Image.{Fits, image_blocks, superblock_part, block_map_part, directory_part}
 
--- the length of a stretch: how many bytes of data are between the map blocks of one interval and those of the next
+-- the length of a stretch:
+-- how many bytes of data are between the map blocks of one interval and those of the next
 unfoldable pub stretch : ℕ → ℕ
 stretch block_size = block_size * (block_size - 2)
 
--- two map blocks come right before byte p of the data: it is the first byte of a stretch, and the first stretch begins after one block
+-- two map blocks come right before byte p of the data: it is the first byte of a stretch,
+-- and the first stretch begins after one block
 abbrev pub follows_maps : ℕ → ℕ → Bool
 follows_maps block_size p = nat_le block_size p && (p - block_size) % stretch block_size == 0
 
 -- the two map blocks of interval q
 abbrev pub maps_of : ℕ → ℕ → ℕ → List ℕ
-maps_of block_size num_blocks q = map_block block_size num_blocks (q * block_size + 1) ++ map_block block_size num_blocks (q * block_size + 2)
+maps_of block_size num_blocks q =
+    map_block block_size num_blocks (q * block_size + 1)
+    ++ map_block block_size num_blocks (q * block_size + 2)
 
 -- the map blocks right before byte p of the data, if there are any
 unfoldable pub maps_before : ℕ → ℕ → ℕ → List ℕ
 maps_before block_size num_blocks p =
-    if follows_maps block_size p then maps_of block_size num_blocks ((p - block_size) / stretch block_size) else []
+    if follows_maps block_size p
+    then maps_of block_size num_blocks ((p - block_size) / stretch block_size)
+    else []
 
 -- the data from byte p on, with the map blocks that come before its bytes
 unfoldable pub woven : ℕ → ℕ → ℕ → List ℕ → List ℕ
 woven block_size num_blocks p [] = []
-woven block_size num_blocks p (byte ∷ bytes) = maps_before block_size num_blocks p ++ byte ∷ woven block_size num_blocks (p + 1) bytes
+woven block_size num_blocks p (byte ∷ bytes) =
+    maps_before block_size num_blocks p ++ byte ∷ woven block_size num_blocks (p + 1) bytes
 
--- a writer of an image: how many bytes a block has, how many blocks the image has, and the position where the next byte goes
+-- a writer of an image: how many bytes a block has, how many blocks the image has,
+-- and the position where the next byte goes
 pub record WriterView : Type 0 where
   pub block_size : ℕ
   pub num_blocks : ℕ
@@ -44,14 +52,19 @@ woven_from writer bytes = woven writer.block_size writer.num_blocks writer.posit
 
 -- how many bytes of data there are from byte p on, up to the next map blocks
 unfoldable pub room : ℕ → ℕ → ℕ
-room block_size p = if nat_lt p block_size then block_size - p else stretch block_size - (p - block_size) % stretch block_size
+room block_size p =
+    if nat_lt p block_size then block_size - p
+    else stretch block_size - (p - block_size) % stretch block_size
 
 -- a sink took a proper prefix of these bytes, and no more
 abbrev pub AppendsPart : Option (List ℕ) → Option (List ℕ) → List ℕ → Type 0
-AppendsPart old new bytes = (count : ℕ) × (count < length bytes) × Appends old new (take count bytes)
+AppendsPart old new bytes =
+    (count : ℕ) × (count < length bytes) × Appends old new (take count bytes)
 
--- blocks may have this size, streams of these sizes fit in a file of `num_blocks` blocks, and these are the parts of its image before the streams
-pub record IsImageFront (block_size num_blocks : ℕ) (sizes superblock block_map directory : List ℕ) : Type 0 where
+-- blocks may have this size, streams of these sizes fit in a file of `num_blocks` blocks,
+-- and these are the parts of its image before the streams
+pub record IsImageFront (block_size num_blocks : ℕ) (sizes superblock block_map directory : List ℕ)
+    : Type 0 where
   pub size : IsBlockSize block_size
   pub fits : Fits block_size sizes
   pub count : num_blocks ≡ image_blocks block_size sizes

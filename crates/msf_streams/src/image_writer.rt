@@ -77,7 +77,7 @@ pub(crate) struct ImageWriter<A: Allocator> {
     block_size: BlockSize,
     num_blocks: u32,
     position: usize,
-    page: Vec<u8, A>,
+    map_block: Vec<u8, A>,
 }
 
 impl<A: Allocator> Model for ImageWriter<A> {
@@ -89,8 +89,8 @@ impl<A: Allocator> Model for ImageWriter<A> {
     ghost view = { λ w.
         record { block_size = w.block_size; num_blocks = w.num_blocks; position = w.position } };
 
-    // A page has the bytes of one block.
-    ghost invariant = { λ w. length w.page.items ≡ w.block_size };
+    // The map block has the bytes of one block.
+    ghost invariant = { λ w. length w.map_block.items ≡ w.block_size };
 }
 
 impl<A: Allocator> ImageWriter<A> {
@@ -107,7 +107,7 @@ impl<A: Allocator> ImageWriter<A> {
             block_size,
             num_blocks,
             position: 0,
-            page: vec![in alloc; 0; block_size.bytes() as usize]?,
+            map_block: vec![in alloc; 0; block_size.bytes() as usize]?,
         })
     }
 
@@ -120,8 +120,13 @@ impl<A: Allocator> ImageWriter<A> {
         ensures prefix { OnErr result (AppendsPart (W.taken out.old) (W.taken out.new)
             (map_block self.old.block_size self.old.num_blocks k)) }
     {
-        fill_map_block(self.block_size.bytes(), self.num_blocks, k, &mut self.page);
-        put_all(out, &self.page)
+        fill_map_block(
+            self.block_size.bytes(),
+            self.num_blocks,
+            k,
+            &mut self.map_block,
+        );
+        put_all(out, &self.map_block)
     }
 
     /// Puts the two map blocks of an interval.

@@ -1,10 +1,12 @@
 -- Texts that lie one after the other in one list of bytes.
 use Rattle.std.specs.Prelude.{ℕ, ◌≡◌, ◌-◌, ◌*◌, ◌%◌, ◌^◌, ◌<◌, ◌≤◌, List, [], ◌∷◌, length, map, take, drop}
 
--- the texts that end at these offsets; the bytes begin at the offset `from`, and so does the first text
+-- the texts that end at these offsets; the bytes begin at the offset `from`,
+-- and so does the first text
 unfoldable pub texts_in : List ℕ → ℕ → List ℕ → List (List ℕ)
 texts_in bytes from [] = []
-texts_in bytes from (end ∷ ends) = take (end - from) bytes ∷ texts_in (drop (end - from) bytes) end ends
+texts_in bytes from (end ∷ ends) =
+    take (end - from) bytes ∷ texts_in (drop (end - from) bytes) end ends
 
 -- the offsets never fall, the first is `from` or more, and the last is `last`
 abbrev pub Rise : ℕ → List ℕ → ℕ → Type 0

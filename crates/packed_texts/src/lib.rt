@@ -4,6 +4,9 @@
 //! which it ends. The length of each text is a multiple of four bytes. So these offsets count
 //! groups of four bytes, and 32 bits are enough for 16 GB of text.
 //!
+//! [`row_start`] and [`row_end`] say where a row of such a vector begins and ends. The lists of
+//! other crates, whose items are numbers, use them too.
+//!
 //! # Example
 //!
 //! `packed_texts` keeps texts one after the other. This is a test of the crate `test_examples`:
@@ -23,6 +26,9 @@
 ghost use Rattle.std.specs.Prelude.{◌≡◌, ◌+◌, ◌-◌, ◌*◌, ◌%◌, ◌^◌, ◌<◌, ◌≤◌, ◌++◌, ◌↔◌, [], ◌∷◌, ℕ, length, get_or, take, IsTrue, IfOk, IfErr};
 ghost use Rattle.std.specs.List.{concat};
 
+mod rows;
+
+pub use rows::{row_end, row_start};
 use std::alloc::{AllocError, Allocator, Global};
 use std::marker::Model;
 
@@ -46,26 +52,6 @@ impl<A: Allocator> Model for PackedTexts<A> {
     ghost view = { λ p. texts_in p.bytes.items 0 (in_bytes p.ends.items) };
 
     ghost invariant = { λ p. ArePacked p.bytes.items p.ends.items };
-}
-
-/// The offset at which a text begins, in bytes.
-#[tactic(auto, using(crate::proofs::PackedLaws::first_start, crate::proofs::PackedLaws::next_start))]
-fn start_of(ends: &[u32], position: usize) -> usize
-    requires inside { position ≤ length ends.now }
-    ensures { result ≡ 4 * get_or (0 ∷ ends.now) position 0 }
-{
-    match position.checked_sub(1) {
-        Some(before) => 4 * ends[before] as usize,
-        None => 0,
-    }
-}
-
-/// The offset at which a text ends, in bytes.
-fn end_of(ends: &[u32], position: usize) -> usize
-    requires inside { position < length ends.now }
-    ensures { result ≡ 4 * get_or ends.now position 0 }
-{
-    4 * ends[position] as usize
 }
 
 impl<A: Allocator + Copy> PackedTexts<A> {
@@ -113,8 +99,8 @@ impl<A: Allocator> PackedTexts<A> {
         requires inside { position < length self.now }
         ensures { result.now ≡ get_or self.now position [] }
     {
-        let start = start_of(&self.ends, position);
-        let end = end_of(&self.ends, position);
+        let start = 4 * row_start(&self.ends, position);
+        let end = 4 * row_end(&self.ends, position);
         &self.bytes[start..end]
     }
 
@@ -141,7 +127,7 @@ impl<A: Allocator> PackedTexts<A> {
         requires inside { len ≤ length self.old }
         ensures { self.new ≡ take len self.old }
     {
-        let start = start_of(&self.ends, len);
+        let start = 4 * row_start(&self.ends, len);
         self.bytes.truncate(start);
         self.ends.truncate(len);
     }

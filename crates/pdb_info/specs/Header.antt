@@ -6,7 +6,8 @@ use Rattle.pdb_info.specs.Guid.{stored_guid}
 use Rattle.pdb_info.specs.declared.fault.InfoFault.{InfoFault}
 use Rattle.pdb_info.specs.declared.fault.InfoFault.TheVariants.{InfoShort}
 
--- what the header says: three numbers, and the 16 bytes of the GUID in the order in which it is printed
+-- what the header says:
+-- three numbers, and the 16 bytes of the GUID in the order in which it is printed
 pub record HeaderFields : Type 0 where
   pub version : ℕ
   pub signature : ℕ

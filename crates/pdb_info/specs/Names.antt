@@ -1,4 +1,5 @@
--- The named stream map and the feature codes, which follow the header of the info stream ("The PDB Info Stream", "Named Stream Map" and "PDB Feature Codes").
+-- The named stream map and the feature codes, which follow the header of the info stream
+-- ("The PDB Info Stream", "Named Stream Map" and "PDB Feature Codes").
 use Rattle.std.specs.Prelude.{ℕ, Bool, ◌-◌, ◌&&◌, if◌then◌else◌, ◌≡◌, ◌≢◌, ◌⊎◌, ◌+◌, ◌*◌, ◌/◌, ◌%◌, ◌^◌, ◌<◌, ◌≤◌, ◌==◌, nat_le, All, Contains, List, [], ◌∷◌, ◌++◌, length, map, take, drop, get_or, sum_by, count_ones, filter}
 use Rattle.std.specs.List.{range_with_len, flat_map, before_first, list_any}
 use Rattle.byte_fields.specs.Number.{number_at, four_bytes, u32s}
@@ -27,7 +28,11 @@ HasName buffer pair = Contains (drop pair.name_offset buffer) 0
 
 -- the stream of a pair, with its name: the bytes of the buffer from the offset up to the next NUL
 abbrev pub named_in : List ℕ → Pair → NamedStream
-named_in buffer pair = record { text = before_first (λ byte. byte == 0) (drop pair.name_offset buffer); stream = pair.stream }
+named_in buffer pair =
+    record {
+      text = before_first (λ byte. byte == 0) (drop pair.name_offset buffer);
+      stream = pair.stream;
+    }
 
 -- how many buckets are present: how many bits of the present words are 1
 abbrev pub present_count : List ℕ → ℕ
@@ -45,7 +50,8 @@ buckets_below present count = filter (is_present present) (range_with_len 0 coun
 unfoldable pub present_buckets : List ℕ → List ℕ
 present_buckets present = buckets_below present (32 * length present)
 
--- feature codes without a closing word before them do not begin with 0, which would be a closing word
+-- feature codes without a closing word before them do not begin with 0,
+-- which would be a closing word
 abbrev pub IsUnclosed : List ℕ → Type 0
 IsUnclosed [] = Unit {0}
 IsUnclosed (feature ∷ features) = feature ≢ 0
@@ -57,9 +63,15 @@ IsClosing closing features = (closing ≡ 0 ∷ []) ⊎ ((closing ≡ []) × IsU
 -- all numbers after the buffer, in order
 abbrev pub table_numbers : ℕ → ℕ → List ℕ → List ℕ → List Pair → List ℕ → List ℕ → List ℕ
 table_numbers size capacity present deleted pairs closing features =
-    size ∷ capacity ∷ length present ∷ present ++ length deleted ∷ deleted ++ flat_map pair_numbers pairs ++ closing ++ features
+    size ∷ capacity ∷ length present ∷ present
+    ++ length deleted ∷ deleted
+    ++ flat_map pair_numbers pairs
+    ++ closing
+    ++ features
 
--- after the header come the length of the buffer, the buffer, the numbers of the map, the feature codes, and at most three more bytes; Size counts the present buckets, and there is a pair for each of them, in rising order
+-- after the header come the length of the buffer, the buffer, the numbers of the map,
+-- the feature codes, and at most three more bytes; Size counts the present buckets,
+-- and there is a pair for each of them, in rising order
 pub record HasNames (stream : List ℕ) (names : List NamedStream) (features : List ℕ) : Type 0 where
   pub buffer : List ℕ
   pub size : ℕ
@@ -69,9 +81,14 @@ pub record HasNames (stream : List ℕ) (names : List NamedStream) (features : L
   pub pairs : List Pair
   pub closing : List ℕ
   pub rest : List ℕ
-  pub parts : drop 28 stream ≡ four_bytes (length buffer) ++ buffer ++ u32s (table_numbers size capacity present deleted pairs closing features) ++ rest
+  pub parts :
+      drop 28 stream
+      ≡ four_bytes (length buffer) ++ buffer
+      ++ u32s (table_numbers size capacity present deleted pairs closing features) ++ rest
   pub short : length buffer < 2 ^ 32
-  pub small : All (λ number. number < 2 ^ 32) (table_numbers size capacity present deleted pairs closing features)
+  pub small :
+      All (λ number. number < 2 ^ 32)
+      (table_numbers size capacity present deleted pairs closing features)
   pub few : length rest < 4
   pub counted : present_count present ≡ size
   pub paired : length pairs ≡ length (present_buckets present)
@@ -83,7 +100,8 @@ pub record HasNames (stream : List ℕ) (names : List NamedStream) (features : L
 
 -- a field of `count` bytes fits at an offset
 abbrev pub field_check : List ℕ → ℕ → ℕ → Check InfoFault
-field_check stream offset count = record { holds = nat_le (offset + count) (length stream); fault = NamesShort offset }
+field_check stream offset count =
+    record { holds = nat_le (offset + count) (length stream); fault = NamesShort offset }
 
 -- the offset of Size, which follows the buffer
 unfoldable pub size_offset : List ℕ → ℕ
@@ -115,7 +133,8 @@ pairs_offset stream = deleted_offset stream + 4 + 4 * deleted_words stream
 
 -- `count` numbers from an offset on
 abbrev pub numbers_at : List ℕ → ℕ → ℕ → List ℕ
-numbers_at stream offset count = map (λ k. number_at 4 stream (offset + 4 * k)) (range_with_len 0 count)
+numbers_at stream offset count =
+    map (λ k. number_at 4 stream (offset + 4 * k)) (range_with_len 0 count)
 
 -- the present words
 unfoldable pub present_of : List ℕ → List ℕ
@@ -136,7 +155,10 @@ map_checks stream =
     ∷ field_check stream (present_offset stream) (4 * present_words stream)
     ∷ field_check stream (deleted_offset stream) 4
     ∷ field_check stream (deleted_offset stream + 4) (4 * deleted_words stream)
-    ∷ record { holds = size_of stream == present_count (present_of stream); fault = NamesCount (size_of stream) (present_count (present_of stream)) }
+    ∷ record {
+      holds = size_of stream == present_count (present_of stream);
+      fault = NamesCount (size_of stream) (present_count (present_of stream));
+    }
     ∷ []
 
 -- the offset of the k-th pair
@@ -151,7 +173,10 @@ is_named buffer offset = list_any (λ byte. byte == 0) (drop offset buffer)
 unfoldable pub pair_checks : List ℕ → ℕ → List (Check InfoFault)
 pair_checks stream k =
     field_check stream (pair_offset stream k) 8
-    ∷ record { holds = is_named (buffer_of stream) (number_at 4 stream (pair_offset stream k)); fault = NameOffset (get_or (present_buckets (present_of stream)) k 0) }
+    ∷ record {
+      holds = is_named (buffer_of stream) (number_at 4 stream (pair_offset stream k));
+      fault = NameOffset (get_or (present_buckets (present_of stream)) k 0);
+    }
     ∷ []
 
 -- ---- the map during reading
@@ -168,7 +193,11 @@ pub record IsMap (stream : List ℕ) (m : NameMap) : Type 0 where
 
 -- the k-th pair, read at its offset
 unfoldable pub pair_at : List ℕ → ℕ → Pair
-pair_at stream k = record { name_offset = number_at 4 stream (pair_offset stream k); stream = number_at 4 stream (pair_offset stream k + 4) }
+pair_at stream k =
+    record {
+      name_offset = number_at 4 stream (pair_offset stream k);
+      stream = number_at 4 stream (pair_offset stream k + 4);
+    }
 
 -- the first pairs, read at their offsets
 abbrev pub pairs_below : List ℕ → ℕ → List Pair
@@ -184,7 +213,8 @@ pairs_end stream = pairs_offset stream + 8 * size_of stream
 
 -- whether the closing word follows the pairs
 unfoldable pub is_closed : List ℕ → Bool
-is_closed stream = nat_le (pairs_end stream + 4) (length stream) && number_at 4 stream (pairs_end stream) == 0
+is_closed stream =
+    nat_le (pairs_end stream + 4) (length stream) && number_at 4 stream (pairs_end stream) == 0
 
 -- the offset of the feature codes
 unfoldable pub features_offset : List ℕ → ℕ
@@ -192,4 +222,5 @@ features_offset stream = if is_closed stream then pairs_end stream + 4 else pair
 
 -- the feature codes, read at their offsets
 unfoldable pub features_of : List ℕ → List ℕ
-features_of stream = numbers_at stream (features_offset stream) ((length stream - features_offset stream) / 4)
+features_of stream =
+    numbers_at stream (features_offset stream) ((length stream - features_offset stream) / 4)

@@ -21,9 +21,11 @@ pub record Checks (file : List ℕ) (counts : Counts) : Type 0 where
   pub long : counts.bytes ≡ length (concat records)
   pub levels : HasLevels records counts.levels
 
--- this is the first fault of the file on the way to its types; or memory ran out, and the container has no fault
+-- this is the first fault of the file on the way to its types;
+-- or memory ran out, and the container has no fault
 abbrev pub IsFaultOfFile : {A : Type 0} → List ℕ → PdbFault A → Type 0
-IsFaultOfFile file why = HasPdbFault file why ⊎ ((why ≡ Memory) × (first_failing (layout_checks file) ≡ None))
+IsFaultOfFile file why =
+    HasPdbFault file why ⊎ ((why ≡ Memory) × (first_failing (layout_checks file) ≡ None))
 
 -- what is told is such a fault
 pub record RefusesCheck (file : List ℕ) (fault : Fault) : Type 0 where

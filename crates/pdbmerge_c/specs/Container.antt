@@ -13,7 +13,8 @@ use Rattle.pdbmerge_c.specs.declared.layout.ContainerCounts.{ContainerCounts}
 use Rattle.pdbmerge_c.specs.Fault.{IsTold, no_number}
 
 -- these are the numbers of the container of the file, and the sizes of its streams in bytes
-pub record HasContainer (file : List ℕ) (container : ContainerCounts) (sizes : List ℕ) : Type 0 where
+pub record HasContainer (file : List ℕ) (container : ContainerCounts) (sizes : List ℕ)
+    : Type 0 where
   pub layout : LayoutView
   pub has_layout : HasLayout file layout
   pub block_size_is : container.block_size ≡ layout.superblock.block_size
@@ -25,7 +26,10 @@ pub record HasContainer (file : List ℕ) (container : ContainerCounts) (sizes :
 
 -- these are the blocks of all streams of the file, those of one stream after those of another
 abbrev pub AreStreamBlocks : List ℕ → List ℕ → Type 0
-AreStreamBlocks file blocks = (layout : LayoutView) × HasLayout file layout × (blocks ≡ flat_map (λ stream. stream.blocks) layout.streams)
+AreStreamBlocks file blocks =
+    (layout : LayoutView)
+    × HasLayout file layout
+    × (blocks ≡ flat_map (λ stream. stream.blocks) layout.streams)
 
 -- this is the first fault of the container; or memory ran out, and the container has no fault
 abbrev pub IsFaultOfContainer : List ℕ → MsfFault → Type 0

@@ -16,17 +16,21 @@ use Rattle.pdbmerge_c.specs.declared.diff.OneSided.{OneSided}
 use Rattle.pdbmerge_c.specs.declared.fault.Fault.{Fault}
 use Rattle.pdbmerge_c.specs.Fault.{IsTold, input_code}
 
--- the row of the record at this position of a file, by how it stands to the other file: there is one where it is the first record of a type that the other lacks
+-- the row of the record at this position of a file, by how it stands to the other file:
+-- there is one where it is the first record of a type that the other lacks
 abbrev pub row_of : ℕ → ℕ → Standing → List OneSided
 row_of input position Shared = []
 row_of input position Again = []
-row_of input position Follows = record { input = input; index = first_index + position; origin = 0 } ∷ []
-row_of input position Origin = record { input = input; index = first_index + position; origin = 1 } ∷ []
+row_of input position Follows =
+    record { input = input; index = first_index + position; origin = 0 } ∷ []
+row_of input position Origin =
+    record { input = input; index = first_index + position; origin = 1 } ∷ []
 
 -- the rows of records with these standings; the first record is at this position
 abbrev pub rows_from : ℕ → ℕ → List Standing → List OneSided
 rows_from input position [] = []
-rows_from input position (standing ∷ others) = row_of input position standing ++ rows_from input (position + 1) others
+rows_from input position (standing ∷ others) =
+    row_of input position standing ++ rows_from input (position + 1) others
 
 -- these are the rows of two lists of types: by how the records of each stand to the other
 pub record TellApart (records others : List (List ℕ)) (rows : List OneSided) : Type 0 where
@@ -36,7 +40,8 @@ pub record TellApart (records others : List (List ℕ)) (rows : List OneSided) :
   pub seconds : HaveStandings others records second
   pub are : rows ≡ rows_from 0 0 first ++ rows_from 1 0 second
 
--- both files are accepted, and these are the rows of their types; there are none exactly where both have the same types
+-- both files are accepted, and these are the rows of their types;
+-- there are none exactly where both have the same types
 pub record AreDifferences (first second : List ℕ) (rows : List OneSided) : Type 0 where
   pub records : List (List ℕ)
   pub others : List (List ℕ)
@@ -59,5 +64,7 @@ IsFaultOfInput input file _ = ⊥
 -- what is told is the fault of the first file, or, where that is accepted, the fault of the second
 pub record RefusesDiff (first second : List ℕ) (fault : Fault) : Type 0 where
   pub why : MergeFault Global
-  pub is_fault : IsFaultOfInput 0 first why ⊎ (((records : List (List ℕ)) × IsAccepted first records) × IsFaultOfInput 1 second why)
+  pub is_fault :
+      IsFaultOfInput 0 first why
+      ⊎ (((records : List (List ℕ)) × IsAccepted first records) × IsFaultOfInput 1 second why)
   pub told : IsTold fault (merge_number why) (input_code (faulty_file why))

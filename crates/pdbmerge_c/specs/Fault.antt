@@ -16,7 +16,8 @@ pub record IsTold (fault : Fault) (number input : ℕ) : Type 0 where
   pub number_is : fault.number ≡ number
   pub input_is : fault.input ≡ input
 
--- the fault has the number that was returned; it names no input if all went well, or if the fault is one of the call's own
+-- the fault has the number that was returned; it names no input if all went well,
+-- or if the fault is one of the call's own
 pub record IsSaid (fault : Fault) (result : ℕ) : Type 0 where
   pub number_is : fault.number ≡ result
   pub none : result ≡ 0 → fault.input ≡ no_number

@@ -13,7 +13,8 @@ use Rattle.pdbmerge_c.specs.declared.fault.Fault.{Fault}
 use Rattle.pdbmerge_c.specs.declared.identify.Identity.{Identity}
 use Rattle.pdbmerge_c.specs.Fault.{IsTold, no_number}
 
--- the container has blocks of this size, and its stream 1 begins with a header of this age and this GUID
+-- the container has blocks of this size,
+-- and its stream 1 begins with a header of this age and this GUID
 pub record Identifies (file : List ℕ) (identity : Identity) : Type 0 where
   pub layout : LayoutView
   pub has_layout : HasLayout file layout
@@ -25,11 +26,13 @@ pub record Identifies (file : List ℕ) (identity : Identity) : Type 0 where
   pub age_is : identity.age ≡ fields.age
   pub guid_is : identity.guid ≡ fields.guid
 
--- this is the first fault of the file on the way to its header: a fault of its layout, else of stream 1; or memory ran out, and the container has no fault
+-- this is the first fault of the file on the way to its header:
+-- a fault of its layout, else of stream 1; or memory ran out, and the container has no fault
 abbrev pub IsFaultOfIdentity : {A : Type 0} → List ℕ → PdbFault A → Type 0
 IsFaultOfIdentity file (pdb.Msf inner) = first_failing (layout_checks file) ≡ Some inner
 IsFaultOfIdentity file pdb.Memory = first_failing (layout_checks file) ≡ None
-IsFaultOfIdentity file inner = (layout : LayoutView) × HasLayout file layout × HasInfoFault file layout inner
+IsFaultOfIdentity file inner =
+    (layout : LayoutView) × HasLayout file layout × HasInfoFault file layout inner
 
 -- what is told is such a fault
 pub record RefusesIdentity (file : List ℕ) (fault : Fault) : Type 0 where

@@ -11,11 +11,15 @@ use Rattle.pdbmerge_c.specs.Fault.{IsTold, no_number}
 
 -- these are the numbers of the streams that have a name, in the order of the buckets
 abbrev pub AreNamedStreams : List ℕ → List ℕ → Type 0
-AreNamedStreams stream numbers = (info : InfoView) × HasInfo stream info × (numbers ≡ map (λ name. name.stream) info.names)
+AreNamedStreams stream numbers =
+    (info : InfoView) × HasInfo stream info × (numbers ≡ map (λ name. name.stream) info.names)
 
 -- these are their names in the same order, each with a NUL behind it
 abbrev pub AreStreamNames : List ℕ → List ℕ → Type 0
-AreStreamNames stream bytes = (info : InfoView) × HasInfo stream info × (bytes ≡ flat_map (λ name. name.text ++ 0 ∷ []) info.names)
+AreStreamNames stream bytes =
+    (info : InfoView)
+    × HasInfo stream info
+    × (bytes ≡ flat_map (λ name. name.text ++ 0 ∷ []) info.names)
 
 -- these are the feature codes
 abbrev pub AreFeatures : List ℕ → List ℕ → Type 0

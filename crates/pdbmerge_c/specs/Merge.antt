@@ -32,10 +32,18 @@ AreAllowed choices = (choices.limit ≤ limit_of_records) × IsBlockSize choices
 
 -- the settings that were chosen
 abbrev pub settings_of : Choices → SettingsView
-settings_of choices = record { guid = choices.guid; age = choices.age; limit = choices.limit; block_size = choices.block_size }
+settings_of choices =
+    record {
+      guid = choices.guid;
+      age = choices.age;
+      limit = choices.limit;
+      block_size = choices.block_size;
+    }
 
--- this is the file of the types of the files, and the report says how many types it has, how many bytes they have together, and how long it is
-pub record IsReported (files : List (Bor (List ℕ))) (choices : Choices) (report : Report) (file : List ℕ) : Type 0 where
+-- this is the file of the types of the files, and the report says how many types it has,
+-- how many bytes they have together, and how long it is
+pub record IsReported (files : List (Bor (List ℕ))) (choices : Choices) (report : Report)
+    (file : List ℕ) : Type 0 where
   pub records : List (List ℕ)
   pub is_file : IsFileOf (bytes_of_files files) (settings_of choices) file records
   pub types : report.types ≡ length records
@@ -43,24 +51,28 @@ pub record IsReported (files : List (Bor (List ℕ))) (choices : Choices) (repor
   pub long : report.length ≡ length file
 
 -- that file is at the front of `out`
-pub record Merges (files : List (Bor (List ℕ))) (choices : Choices) (report : Report) (old new : List ℕ) : Type 0 where
+pub record Merges (files : List (Bor (List ℕ))) (choices : Choices) (report : Report)
+    (old new : List ℕ) : Type 0 where
   pub file : List ℕ
   pub is_reported : IsReported files choices report file
   pub fills : Fills file old new
 
 -- that file is longer than the room
-pub record LacksRoom (files : List (Bor (List ℕ))) (choices : Choices) (report : Report) (room : ℕ) : Type 0 where
+pub record LacksRoom (files : List (Bor (List ℕ))) (choices : Choices) (report : Report) (room : ℕ)
+    : Type 0 where
   pub file : List ℕ
   pub is_reported : IsReported files choices report file
   pub long : room < length file
 
 -- this is why the files are not merged into memory: they are refused, or memory ran out
 abbrev pub IsRefusal : {A : Type 0} → List (Bor (List ℕ)) → SettingsView → OutFault A → Type 0
-IsRefusal files settings (out.Merge why) = RefusesFiles (inputs_of files) (record_limit settings) why
+IsRefusal files settings (out.Merge why) =
+    RefusesFiles (inputs_of files) (record_limit settings) why
 IsRefusal files settings _ = Unit {0}
 
 -- what is told is why the files are refused
-pub record RefusesMerge (files : List (Bor (List ℕ))) (settings : SettingsView) (fault : Fault) : Type 0 where
+pub record RefusesMerge (files : List (Bor (List ℕ))) (settings : SettingsView) (fault : Fault)
+    : Type 0 where
   pub why : MergeFault Global
   pub is_fault : RefusesFiles (inputs_of files) (record_limit settings) why
   pub told : IsTold fault (merge_number why) (input_code (faulty_file why))

@@ -12,7 +12,8 @@ use Rattle.pdbmerge_c.specs.Given.{Fills}
 abbrev pub IsNamed : List ℕ → Option (List ℕ) → Type 0
 IsNamed bytes name = (r : List ℕ) × BeginsWith bytes r × (name_of r ≡ name)
 
--- the name is at the front of `out`, and this is its length; or there is none, and `out` is as it was
+-- the name is at the front of `out`, and this is its length;
+-- or there is none, and `out` is as it was
 abbrev pub GivesName : List ℕ → ℕ → List ℕ → List ℕ → Type 0
 GivesName bytes size old new =
     ((name : List ℕ) × IsNamed bytes (Some name) × (size ≡ length name) × Fills name old new)

@@ -16,7 +16,10 @@ pub record BeginsAt (stream : List ℕ) (index offset : ℕ) : Type 0 where
 
 -- no record of the stream has this index
 abbrev pub LacksRecord : List ℕ → ℕ → Type 0
-LacksRecord stream index = (records : List (List ℕ)) × HasRecords stream records × ((i : ℕ) → i < length records → index ≢ first_index + i)
+LacksRecord stream index =
+    (records : List (List ℕ))
+    × HasRecords stream records
+    × ((i : ℕ) → i < length records → index ≢ first_index + i)
 
 -- what is told is that no record of the stream has this index
 abbrev pub RefusesIndex : List ℕ → ℕ → Fault → Type 0

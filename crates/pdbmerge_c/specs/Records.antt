@@ -7,7 +7,8 @@ use Rattle.tpi_records.specs.declared.fault.TpiFault.TheVariants.{Memory}
 use Rattle.pdbmerge_c.specs.declared.fault.Fault.{Fault}
 use Rattle.pdbmerge_c.specs.Fault.{IsTold, no_number}
 
--- there is an offset for each record of the stream, and the record begins there: behind the header and the records before it
+-- there is an offset for each record of the stream, and the record begins there:
+-- behind the header and the records before it
 pub record AreOffsets (stream offsets : List ℕ) : Type 0 where
   pub records : List (List ℕ)
   pub has : HasRecords stream records
@@ -16,7 +17,9 @@ pub record AreOffsets (stream offsets : List ℕ) : Type 0 where
 
 -- this is the first fault of the stream; or memory ran out, and the stream has no fault
 abbrev pub IsFaultOfRecords : List ℕ → TpiFault → Type 0
-IsFaultOfRecords stream why = IsFirstFault stream why ⊎ ((why ≡ Memory) × ((records : List (List ℕ)) × HasRecords stream records))
+IsFaultOfRecords stream why =
+    IsFirstFault stream why
+    ⊎ ((why ≡ Memory) × ((records : List (List ℕ)) × HasRecords stream records))
 
 -- what is told is such a fault
 pub record RefusesRecords (stream : List ℕ) (fault : Fault) : Type 0 where

@@ -26,10 +26,13 @@ pub record AreReferences (bytes : List ℕ) (found : List Reference) : Type 0 wh
   pub has_places : HasPlaces r places
   pub are : found ≡ map (reference_in r) places
 
--- this is the first fault of the record at the front of the bytes: of its length, else of its leaf; or memory ran out, and the record has no fault
+-- this is the first fault of the record at the front of the bytes: of its length, else of its leaf;
+-- or memory ran out, and the record has no fault
 abbrev pub IsFaultOfRecord : {A : Type 0} → List ℕ → ℕ → PdbFault A → Type 0
 IsFaultOfRecord bytes index (pdb.Tpi inner) = IsFlaw bytes index inner
-IsFaultOfRecord bytes index (pdb.Type (Leaf at inner)) = (at ≡ index) × ((r : List ℕ) × BeginsWith bytes r × (first_failing (record_checks r) ≡ Some inner))
+IsFaultOfRecord bytes index (pdb.Type (Leaf at inner)) =
+    (at ≡ index)
+    × ((r : List ℕ) × BeginsWith bytes r × (first_failing (record_checks r) ≡ Some inner))
 IsFaultOfRecord bytes index pdb.Memory = (r : List ℕ) × BeginsWith bytes r × IsChecked r
 IsFaultOfRecord bytes index _ = ⊥
 

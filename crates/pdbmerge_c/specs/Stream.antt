@@ -17,10 +17,15 @@ pub record IsStreamOf (file : List ℕ) (stream : ℕ) (bytes : List ℕ) : Type
   pub has_layout : HasLayout file layout
   pub is_stream : stream_contents file layout stream ≡ Some bytes
 
--- this is the first fault on the way to these bytes: a fault of the layout, else that there is no such stream; or memory ran out, and the container has no fault
+-- this is the first fault on the way to these bytes: a fault of the layout,
+-- else that there is no such stream; or memory ran out, and the container has no fault
 abbrev pub IsFaultOfStream : {A : Type 0} → List ℕ → ℕ → PdbFault A → Type 0
 IsFaultOfStream file stream (pdb.Msf inner) = first_failing (layout_checks file) ≡ Some inner
-IsFaultOfStream file stream (pdb.Stream inner) = (layout : LayoutView) × HasLayout file layout × (length layout.streams ≤ stream) × (inner ≡ NoStream stream)
+IsFaultOfStream file stream (pdb.Stream inner) =
+    (layout : LayoutView)
+    × HasLayout file layout
+    × (length layout.streams ≤ stream)
+    × (inner ≡ NoStream stream)
 IsFaultOfStream file stream pdb.Memory = first_failing (layout_checks file) ≡ None
 IsFaultOfStream file stream _ = ⊥
 

@@ -6,4 +6,6 @@ use Rattle.cv_leaves.specs.Named.{named_places}
 pub record HasNamedPlaces (records places : List (List ℕ)) : Type 0 where
   pub listed : places ≡ map named_places records
   -- each place has four bytes of its own
-  pub fit : (k : ℕ) → k < length records → 4 * length (named_places (get_or records k [])) ≤ length (get_or records k [])
+  pub fit :
+      (k : ℕ) → k < length records
+      → 4 * length (named_places (get_or records k [])) ≤ length (get_or records k [])

@@ -3,6 +3,7 @@
 ghost use Rattle.std.specs.Prelude.{◌≡◌, ◌↔◌, IsTrue, ◌+◌, ◌^◌, ◌<◌, ◌≤◌, ◌++◌, [], ◌∷◌, length, get_or, take, IfOk, IfErr};
 ghost use Rattle.std.specs.List.{concat};
 
+use packed_texts::{row_end, row_start};
 use std::alloc::{AllocError, Allocator, Global};
 use std::marker::Model;
 
@@ -25,26 +26,6 @@ impl<A: Allocator> Model for PlaceLists<A> {
 
     ghost invariant = { λ l.
         Rise 0 l.ends.items (length l.places.items) × (length l.places.items < 2 ^ 32) };
-}
-
-/// Where a list begins among all places.
-#[tactic(auto, using(packed_texts::proofs::PackedLaws::first_start, packed_texts::proofs::PackedLaws::next_start))]
-fn start_of(ends: &[u32], position: usize) -> usize
-    requires inside { position ≤ length ends.now }
-    ensures { result ≡ get_or (0 ∷ ends.now) position 0 }
-{
-    match position.checked_sub(1) {
-        Some(before) => ends[before] as usize,
-        None => 0,
-    }
-}
-
-/// Where a list ends among all places.
-fn end_of(ends: &[u32], position: usize) -> usize
-    requires inside { position < length ends.now }
-    ensures { result ≡ get_or ends.now position 0 }
-{
-    ends[position] as usize
 }
 
 impl<A: Allocator + Copy> PlaceLists<A> {
@@ -82,8 +63,8 @@ impl<A: Allocator> PlaceLists<A> {
         requires inside { position < length self.now }
         ensures { result.now ≡ get_or self.now position [] }
     {
-        let start = start_of(&self.ends, position);
-        let end = end_of(&self.ends, position);
+        let start = row_start(&self.ends, position);
+        let end = row_end(&self.ends, position);
         &self.places[start..end]
     }
 
@@ -109,7 +90,7 @@ impl<A: Allocator> PlaceLists<A> {
         requires inside { len ≤ length self.old }
         ensures { self.new ≡ take len self.old }
     {
-        let start = start_of(&self.ends, len);
+        let start = row_start(&self.ends, len);
         self.places.truncate(start);
         self.ends.truncate(len);
     }

@@ -15,7 +15,8 @@ NamesNodes graph = (i n : ℕ) → Names graph i n → n < length graph
 abbrev pub IsRank : List (List ℕ) → (ℕ → ℕ) → Type 0
 IsRank graph rank = (i n : ℕ) → Names graph i n → rank n < rank i
 
--- a graph is kept in two lists: what its nodes name, one node after the other, and where the part of each ends
+-- a graph is kept in two lists: what its nodes name, one node after the other,
+-- and where the part of each ends
 pub record IsGraph (named ends : List ℕ) : Type 0 where
   -- each part ends where the next one begins, and the last one at the end of the list
   pub rise : Rise 0 ends (length named)

@@ -20,10 +20,13 @@ IsPassed marks row n = (n ≤ length row) × All (IsPlaced marks) (take n row)
 
 -- the node names one that was met and isn't on the path
 abbrev pub NamesCaught : List (List ℕ) → List Mark → List ℕ → ℕ → Type 0
-NamesCaught graph marks path i = (n : ℕ) × Names graph i n × (mark_at marks n ≡ Met) × (Contains path n → ⊥)
+NamesCaught graph marks path i =
+    (n : ℕ) × Names graph i n × (mark_at marks n ≡ Met) × (Contains path n → ⊥)
 
--- a walk along a graph: for each node how many of the nodes that it names are passed, the marks, the path from where the walk began, and the order of the nodes that are placed
-pub record IsWalk (graph : List (List ℕ)) (passed : List ℕ) (marks : List Mark) (path order : List ℕ) : Type 0 where
+-- a walk along a graph: for each node how many of the nodes that it names are passed, the marks,
+-- the path from where the walk began, and the order of the nodes that are placed
+pub record IsWalk (graph : List (List ℕ)) (passed : List ℕ) (marks : List Mark)
+    (path order : List ℕ) : Type 0 where
   pub passed_many : length passed ≡ length graph
   pub marks_many : length marks ≡ length graph
   pub passes : (i : ℕ) → IsPassed marks (get_or graph i []) (get_or passed i 0)

@@ -3,6 +3,7 @@
 ghost use Rattle.std.specs.Prelude.{◌≡◌, ◌↔◌, ◌+◌, ◌^◌, ◌<◌, ◌++◌, [], ◌∷◌, IsTrue, length, get_or, IfOk, IfErr};
 ghost use Rattle.std.specs.List.{concat};
 
+use packed_texts::{row_end, row_start};
 use std::alloc::{AllocError, Allocator, Global};
 use std::marker::Model;
 
@@ -28,26 +29,6 @@ impl<A: Allocator> Model for Graph<A> {
     ghost view = { λ g. texts_in g.named.items 0 g.ends.items };
 
     ghost invariant = { λ g. IsGraph g.named.items g.ends.items };
-}
-
-/// Where the part of a node begins in the list of named nodes.
-#[tactic(auto, using(packed_texts::proofs::PackedLaws::first_start, packed_texts::proofs::PackedLaws::next_start))]
-fn start_of(ends: &[u32], node: usize) -> usize
-    requires inside { node < length ends.now }
-    ensures { result ≡ get_or (0 ∷ ends.now) node 0 }
-{
-    match node.checked_sub(1) {
-        Some(before) => ends[before] as usize,
-        None => 0,
-    }
-}
-
-/// Where the part of a node ends in the list of named nodes.
-fn end_of(ends: &[u32], node: usize) -> usize
-    requires inside { node < length ends.now }
-    ensures { result ≡ get_or ends.now node 0 }
-{
-    ends[node] as usize
 }
 
 impl<A: Allocator + Copy> Graph<A> {
@@ -87,8 +68,8 @@ impl<A: Allocator> Graph<A> {
         ensures value { result.now ≡ get_or self.now node [] }
         ensures few { length result.now < 2 ^ 32 }
     {
-        let start = start_of(&self.ends, node);
-        let end = end_of(&self.ends, node);
+        let start = row_start(&self.ends, node);
+        let end = row_end(&self.ends, node);
         &self.named[start..end]
     }
 

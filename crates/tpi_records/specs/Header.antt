@@ -31,6 +31,12 @@ header_checks stream =
     ∷ record { holds = number_at 4 stream 0 == 20040203; fault = Version (number_at 4 stream 0) }
     ∷ record { holds = number_at 4 stream 4 == 56; fault = HeaderSize (number_at 4 stream 4) }
     ∷ record { holds = number_at 4 stream 8 == first_index; fault = Begin (number_at 4 stream 8) }
-    ∷ record { holds = nat_le first_index (number_at 4 stream 12); fault = End (number_at 4 stream 12) }
-    ∷ record { holds = nat_le (number_at 4 stream 16) (length stream - 56); fault = Bytes (number_at 4 stream 16) (length stream - 56) }
+    ∷ record {
+      holds = nat_le first_index (number_at 4 stream 12);
+      fault = End (number_at 4 stream 12);
+    }
+    ∷ record {
+      holds = nat_le (number_at 4 stream 16) (length stream - 56);
+      fault = Bytes (number_at 4 stream 16) (length stream - 56);
+    }
     ∷ []

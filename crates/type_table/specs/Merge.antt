@@ -15,12 +15,14 @@ use Rattle.checked_types.specs.Graph.{graph_of}
 abbrev pub StartsWith : {A : Type 0} → List A → List A → Type 0
 StartsWith list front = (length front ≤ length list) × (take (length front) list ≡ front)
 
--- records that were checked are types, and are walked through so that each comes after those that it names; others are walked through as they stand
+-- records that were checked are types, and are walked through so that each comes after those
+-- that it names; others are walked through as they stand
 unfoldable pub IsRecordWalk : Bool → List (List ℕ) → List ℕ → Type 0
 IsRecordWalk true records order = AreTypes records × IsOrder (graph_of records) order
 IsRecordWalk false records order = order ≡ range_with_len 0 (length records)
 
--- r has places and names only records that have a number; renumbered, it is at k in the texts `after`, which have at most this one text more than `before`
+-- r has places and names only records that have a number;
+-- renumbered, it is at k in the texts `after`, which have at most this one text more than `before`
 pub record IsPut (before after : List (List ℕ)) (numbers r : List ℕ) (k : ℕ) : Type 0 where
   pub checked : IsChecked r
   pub there : NamesThere (length numbers) (references r)

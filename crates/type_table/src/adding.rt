@@ -15,7 +15,7 @@ ghost use Rattle.closed_trees.specs.Table.{IsTable, AreNumbered};
 ghost use Rattle.type_table.specs.Merge.{StartsWith, IsRecordWalk, IsPut, IsAdded};
 ghost use Rattle.type_table.specs.Numbers.{AreNumbers};
 
-use crate::expected::is_at;
+use crate::becomes::is_at;
 use checked_types::{InOrder, record_at};
 use closed_trees::renumber_into;
 use cv_leaves::list_places;
@@ -84,23 +84,23 @@ impl<A: Allocator + Copy> Workspace<A> {
 /// where the record is looked for first. Unless a position is returned, the set stays as it was.
 #[tactic(auto, using(closed_trees::proofs::RenumberLaws::padded_record, closed_trees::proofs::RenumberLaws::long_record, closed_trees::proofs::RenumberLaws::renumbered_long, closed_trees::proofs::NamedLaws::listed_short))]
 fn put_record<S: BuildHasher, A: Allocator>(
-    texts: &mut RecordSet<S, A>,
+    records: &mut RecordSet<S, A>,
     copy: &mut Renumbered<A>,
     bytes: &[u8],
     numbers: &[u32],
     guess: usize,
 ) -> Result<Option<usize>, AllocError>
-    requires table { IsTable texts.old }
+    requires table { IsTable records.old }
     requires framed { IsRecord bytes.now }
-    requires few { length (concat texts.old) + length bytes.now < 2 ^ 33 }
+    requires few { length (concat records.old) + length bytes.now < 2 ^ 33 }
     ensures put { IfOk result (λ found.
-        IfSome found (λ k. IsPut texts.old texts.new numbers.now bytes.now k)) }
+        IfSome found (λ k. IsPut records.old records.new numbers.now bytes.now k)) }
     ensures all { IsChecked bytes.now → AreNumbered numbers.now (references bytes.now) →
         IfOk result (λ found. IfNone found ⊥) }
-    ensures none { IfOk result (λ found. IfNone found (texts.new ≡ texts.old)) }
-    ensures err { IfErr result (λ _. texts.new ≡ texts.old) }
+    ensures none { IfOk result (λ found. IfNone found (records.new ≡ records.old)) }
+    ensures err { IfErr result (λ _. records.new ≡ records.old) }
 {
-    if is_at(texts, guess, bytes, numbers) {
+    if is_at(records, guess, bytes, numbers) {
         return Ok(Some(guess));
     }
     if !list_places(bytes, &mut copy.places)? {
@@ -110,7 +110,7 @@ fn put_record<S: BuildHasher, A: Allocator>(
         return Ok(None);
     }
     are_bytes(&copy.bytes);
-    let position = texts.intern(&copy.bytes, &copy.places)?;
+    let position = records.intern(&copy.bytes, &copy.places)?;
     Ok(Some(position))
 }
 
@@ -124,37 +124,37 @@ fn known_of(checked: bool, many: usize, position: usize) -> usize
     if checked { many } else { position }
 }
 
-/// Puts all records into the set, in this order. Returns whether that succeeded. It always does for
-/// records that were `checked`. If it does not, or if memory runs out, some of them may be in the
-/// set.
+/// Puts all records of an input into the set, in this order. Returns whether that succeeded. It
+/// always does for records that were `checked`. If it does not, or if memory runs out, some of them
+/// may be in the set.
 pub fn add_in_order<S: BuildHasher, A: Allocator + Copy>(
-    texts: &mut RecordSet<S, A>,
+    records: &mut RecordSet<S, A>,
     work: &mut Workspace<A>,
-    records: &Records<'_, A>,
+    input: &Records<'_, A>,
     order: InOrder<'_>,
     checked: bool,
 ) -> Result<bool, AllocError>
-    requires table { IsTable texts.old }
-    requires short { length (concat texts.old) < 2 ^ 32 }
-    requires walk { IsRecordWalk checked records.now order }
-    ensures added { IfOk result (λ all. IsTrue all → IsAdded records.now texts.old texts.new) }
+    requires table { IsTable records.old }
+    requires short { length (concat records.old) < 2 ^ 32 }
+    requires walk { IsRecordWalk checked input.now order }
+    ensures added { IfOk result (λ all. IsTrue all → IsAdded input.now records.old records.new) }
     ensures numbers { IfOk result (λ all.
-        IsTrue all → AreNumbers records.now texts.new work.new.numbers.items) }
+        IsTrue all → AreNumbers input.now records.new work.new.numbers.items) }
     ensures light { IfOk result (λ _.
-        length (concat texts.new) < length (concat texts.old) + 2 ^ 32) }
+        length (concat records.new) < length (concat records.old) + 2 ^ 32) }
     ensures all { checked ≡ true → IfOk result (λ all. IsTrue all) }
-    ensures front { StartsWith texts.new texts.old }
+    ensures front { StartsWith records.new records.old }
 {
-    let many = records.len();
+    let many = input.len();
     let Workspace { numbers, copy } = work;
     numbers.clear();
     numbers.resize(many, 0)?;
     let mut guess = 0;
-    let mut cursor = records.cursor();
+    let mut cursor = input.cursor();
     for position in order {
         let bytes = record_at(&mut cursor, position);
         let known = known_of(checked, many, position);
-        let Some(found) = put_record(texts, copy, bytes, &numbers[..known], guess)? else {
+        let Some(found) = put_record(records, copy, bytes, &numbers[..known], guess)? else {
             return Ok(false);
         };
         numbers[position] = found as u32;

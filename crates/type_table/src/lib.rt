@@ -40,9 +40,9 @@
 #![tactic(auto)]
 
 mod adding;
+mod becomes;
 mod canon;
 mod canon_records;
-mod expected;
 mod fault;
 mod numbers;
 mod table;

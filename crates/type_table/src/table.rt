@@ -24,45 +24,45 @@ use std::hash::BuildHasher;
 use std::marker::Model;
 use tpi_records::Records;
 
-/// Puts all records into the set, in this order, and measures the new ones. Returns whether that
-/// succeeded. It always does for records that were `checked`. If it does not, or if memory runs
-/// out, some of them may be in the set.
+/// Puts all records of an input into the set, in this order, and measures the new ones. Returns
+/// whether that succeeded. It always does for records that were `checked`. If it does not, or if
+/// memory runs out, some of them may be in the set.
 fn add_measured<S: BuildHasher, A: Allocator + Copy>(
-    texts: &mut RecordSet<S, A>,
+    records: &mut RecordSet<S, A>,
     depths: &mut Vec<u32, A>,
     work: &mut Workspace<A>,
-    records: &Records<'_, A>,
+    input: &Records<'_, A>,
     order: InOrder<'_>,
     checked: bool,
 ) -> Result<bool, AllocError>
-    requires table { IsTable texts.old }
-    requires short { length (concat texts.old) < 2 ^ 32 }
-    requires walk { IsRecordWalk checked records.now order }
-    requires depths { HasDepths texts.old depths.old.items }
-    ensures added { IfOk result (λ all. IsTrue all → IsAdded records.now texts.old texts.new) }
-    ensures depths { IfOk result (λ all. IsTrue all → HasDepths texts.new depths.new.items) }
+    requires table { IsTable records.old }
+    requires short { length (concat records.old) < 2 ^ 32 }
+    requires walk { IsRecordWalk checked input.now order }
+    requires depths { HasDepths records.old depths.old.items }
+    ensures added { IfOk result (λ all. IsTrue all → IsAdded input.now records.old records.new) }
+    ensures depths { IfOk result (λ all. IsTrue all → HasDepths records.new depths.new.items) }
     ensures all { checked ≡ true → IfOk result (λ all. IsTrue all) }
-    ensures front { StartsWith texts.new texts.old }
+    ensures front { StartsWith records.new records.old }
     ensures measured { StartsWith depths.new.items depths.old.items }
 {
-    if !add_in_order(texts, work, records, order, checked)? {
+    if !add_in_order(records, work, input, order, checked)? {
         return Ok(false);
     }
-    measure_new(texts, depths)?;
+    measure_new(records, depths)?;
     Ok(true)
 }
 
 /// Keeps the first `held` records and their depths, and removes the others.
 fn undo<S: BuildHasher, A: Allocator>(
-    texts: &mut RecordSet<S, A>,
+    records: &mut RecordSet<S, A>,
     depths: &mut Vec<u32, A>,
     held: usize,
 )
-    requires inside { held ≤ length texts.old }
-    ensures texts { texts.new ≡ take held texts.old }
+    requires inside { held ≤ length records.old }
+    ensures records { records.new ≡ take held records.old }
     ensures depths { depths.new.items ≡ take held depths.old.items }
 {
-    texts.truncate(held);
+    records.truncate(held);
     depths.truncate(held);
 }
 
@@ -88,7 +88,7 @@ fn list_of<A: Allocator + Copy>(
 /// 2^32 bytes together.
 #[derive(Debug, Drop)]
 pub struct Table<S: BuildHasher, A: Allocator = Global> {
-    texts: RecordSet<S, A>,
+    records: RecordSet<S, A>,
     // the depth of each type
     depths: Vec<u32, A>,
     work: Workspace<A>,
@@ -100,9 +100,9 @@ impl<S: BuildHasher, A: Allocator> Model for Table<S, A> {
 
     ghost Value = { List (List ℕ) };
 
-    ghost view = { λ t. t.texts };
+    ghost view = { λ t. t.records };
 
-    ghost invariant = { λ t. IsMeasuredTable t.texts t.depths.items };
+    ghost invariant = { λ t. IsMeasuredTable t.records t.depths.items };
 }
 
 impl<S: BuildHasher, A: Allocator + Copy> Table<S, A> {
@@ -112,7 +112,7 @@ impl<S: BuildHasher, A: Allocator + Copy> Table<S, A> {
         ensures { result ≡ [] }
     {
         Table {
-            texts: RecordSet::with_hasher(alloc, hasher),
+            records: RecordSet::with_hasher(alloc, hasher),
             depths: Vec::new(alloc),
             work: Workspace::new(alloc),
         }
@@ -142,10 +142,10 @@ impl<S: BuildHasher, A: Allocator + Copy> Table<S, A> {
             (limit < bytes)
             × ((l : List Tree) × IsUnion l self.old types.now × (weight l ≡ bytes))) }
     {
-        let held = self.texts.len();
+        let held = self.records.len();
         let order = types.in_order();
         let added = add_measured(
-            &mut self.texts,
+            &mut self.records,
             &mut self.depths,
             &mut self.work,
             types.records(),
@@ -153,13 +153,13 @@ impl<S: BuildHasher, A: Allocator + Copy> Table<S, A> {
             true,
         );
         self.work.clear(alloc);
-        let bytes = self.texts.bytes().len() as u64;
+        let bytes = self.records.bytes().len() as u64;
         if let Err(fault) = added {
-            undo(&mut self.texts, &mut self.depths, held);
+            undo(&mut self.records, &mut self.depths, held);
             return Err(JoinFault::from(fault));
         }
         if bytes > u64::from(limit) {
-            undo(&mut self.texts, &mut self.depths, held);
+            undo(&mut self.records, &mut self.depths, held);
             return Err(JoinFault::TooLarge { bytes });
         }
         Ok(())
@@ -182,10 +182,10 @@ impl<S: BuildHasher, A: Allocator + Copy> Table<S, A> {
         ensures bytes { IsTrue result → length (concat self.new) ≤ limit }
         ensures kept { IsTrue result ⊎ (self.new ≡ self.old) }
     {
-        let held = self.texts.len();
+        let held = self.records.len();
         let order = in_file_order(records.len());
         let added = add_measured(
-            &mut self.texts,
+            &mut self.records,
             &mut self.depths,
             &mut self.work,
             records,
@@ -194,11 +194,11 @@ impl<S: BuildHasher, A: Allocator + Copy> Table<S, A> {
         );
         self.work.clear(alloc);
         if let Ok(true) = added {
-            if self.texts.bytes().len() as u64 <= u64::from(limit) {
+            if self.records.bytes().len() as u64 <= u64::from(limit) {
                 return true;
             }
         }
-        undo(&mut self.texts, &mut self.depths, held);
+        undo(&mut self.records, &mut self.depths, held);
         false
     }
 
@@ -213,18 +213,18 @@ impl<S: BuildHasher, A: Allocator + Copy> Table<S, A> {
         S: Drop,
         ensures { IfOk result (λ table. table ≡ canon.now) }
     {
-        let mut texts = RecordSet::with_hasher(alloc, hasher);
+        let mut records = RecordSet::with_hasher(alloc, hasher);
         let mut places = Vec::new(alloc);
         for position in 0..canon.len() {
             let bytes = canon.texts.get(position);
             // types have places, so all of them are listed
             list_places(bytes, &mut places)?;
-            texts.intern(bytes, &places)?;
+            records.intern(bytes, &places)?;
         }
         let mut depths = Vec::new(alloc);
-        measure_new(&texts, &mut depths)?;
+        measure_new(&records, &mut depths)?;
         Ok(Table {
-            texts,
+            records,
             depths,
             work: Workspace::new(alloc),
         })
@@ -240,7 +240,7 @@ impl<S: BuildHasher, A: Allocator + Copy> Table<S, A> {
         ensures bytes { IfOk result (λ canon. length (concat canon) ≡ length (concat self.now)) }
         ensures memory { IfErr result (λ fault. fault ≡ JoinFault.Memory) }
     {
-        list_of(alloc, &self.texts.listed(), &self.depths)
+        list_of(alloc, &self.records.listed(), &self.depths)
     }
 
     /// Makes the canonical list of the types, and ends the table.
@@ -256,11 +256,11 @@ impl<S: BuildHasher, A: Allocator + Copy> Table<S, A> {
         ensures memory { IfErr result (λ fault. fault ≡ JoinFault.Memory) }
     {
         let Table {
-            texts,
+            records,
             depths,
             work: _,
         } = self;
-        let (records, places) = texts.into_parts();
+        let (records, places) = records.into_parts();
         list_of(alloc, &Listed::new(&records, &places), &depths)
     }
 }

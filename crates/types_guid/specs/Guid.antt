@@ -9,7 +9,8 @@ use Rattle.pdb_info.specs.Settings.{SettingsView}
 
 -- the GUID of the types of a canonical list of these records
 abbrev pub types_guid : List (List ℕ) → List ℕ
-types_guid records = with_version (with_variant (take 16 (sha256 (concat records))) variant.RFC4122) version.Custom
+types_guid records =
+    with_version (with_variant (take 16 (sha256 (concat records))) variant.RFC4122) version.Custom
 
 -- these settings, with the GUID of the types of these records
 abbrev pub named : SettingsView → List (List ℕ) → SettingsView

@@ -12,23 +12,31 @@ use Rattle.types_guid.specs.Guid.{named}
 
 -- this is the file of the types that have P, whose GUID is made of them
 abbrev pub MergedByTypes : (Tree → Type 0) → SettingsView → List ℕ → Type 0
-MergedByTypes P settings file = (records : List (List ℕ)) × IsCanonOf records P × (file ≡ merged_file (named settings records) records)
+MergedByTypes P settings file =
+    (records : List (List ℕ))
+    × IsCanonOf records P
+    × (file ≡ merged_file (named settings records) records)
 
 -- any files with the same types give this file, if age and block size are equal
 abbrev pub IsSameByTypes : List (List ℕ) → SettingsView → List ℕ → Type 0
 IsSameByTypes files settings file =
-    (others : List (List ℕ)) (its : SettingsView) (other : List ℕ) → its.age ≡ settings.age → its.block_size ≡ settings.block_size
+    (others : List (List ℕ)) (its : SettingsView) (other : List ℕ)
+    → its.age ≡ settings.age
+    → its.block_size ≡ settings.block_size
     → SameTypes files others → MergedByTypes (HasType others) its other → other ≡ file
 
 -- this is the file of the types of some files, with these records, and its GUID is made of them
-pub record IsFileByTypes (files : List (List ℕ)) (settings : SettingsView) (file : List ℕ) (records : List (List ℕ)) : Type 0 where
+pub record IsFileByTypes (files : List (List ℕ)) (settings : SettingsView) (file : List ℕ)
+    (records : List (List ℕ)) : Type 0 where
   -- it has all that a file with this GUID has
   pub is_file : IsFileOf files (named settings records) file records
   -- the same types give the same GUID and the same bytes
   pub same : IsSameByTypes files settings file
 
--- a sink took this file, and the summary says how many types it has, how many bytes they have together, and how long the file is
-pub record WroteByTypes (files : List (List ℕ)) (settings : SettingsView) (old new : Option (List ℕ)) (summary : Summary) : Type 0 where
+-- a sink took this file, and the summary says how many types it has,
+-- how many bytes they have together, and how long the file is
+pub record WroteByTypes (files : List (List ℕ)) (settings : SettingsView)
+    (old new : Option (List ℕ)) (summary : Summary) : Type 0 where
   pub file : List ℕ
   pub records : List (List ℕ)
   pub taken : Appends old new file
@@ -38,7 +46,8 @@ pub record WroteByTypes (files : List (List ℕ)) (settings : SettingsView) (old
   pub long : summary.length ≡ length file
 
 -- a sink took the first bytes of that file, but not all of them
-pub record WrotePartByTypes (files : List (List ℕ)) (settings : SettingsView) (old new : Option (List ℕ)) : Type 0 where
+pub record WrotePartByTypes (files : List (List ℕ)) (settings : SettingsView)
+    (old new : Option (List ℕ)) : Type 0 where
   pub file : List ℕ
   pub records : List (List ℕ)
   pub taken : AppendsPart old new file

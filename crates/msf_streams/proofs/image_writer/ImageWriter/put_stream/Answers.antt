@@ -1,10 +1,18 @@
-use Rattle.std.proofs.Common.{◌≡◌, ◌+◌, length, arith, ap}
+use Rattle.std.proofs.Common.{◌≡◌, ◌+◌, ◌++◌, length, arith, ap}
 use Rattle.std.specs.Io.KnownBytes.{Appends}
 use Rattle.std.proofs.lemmas.List.{length-append}
 use Rattle.msf_streams.specs.Image.{padded, joined}
 use Rattle.msf_streams.specs.Put.{WriterView, woven_from, AppendsPart}
 use Rattle.msf_streams.proofs.PutLaws.{at_err, on_ok, on_err, filled_after, filled_longer, part_fails, fill_fails, part_taken}
+use Rattle.msf_streams.proofs.image_writer.ImageWriter.put_stream.Given.{Over}
+use Rattle.msf_streams.proofs.image_writer.ImageWriter.put_stream.Goals.{After-zeros-fill}
 use Rattle.msf_streams.proofs.image_writer.ImageWriter.put_stream.Goals as goal
+
+-- the bytes of the stream, and what fills their last block, are the padded stream
+filled : (g : Over) (c : After-zeros-fill g) → padded c.args.self.now.block_size (joined c.args.parts.now) ≡ joined c.args.parts.now ++ c.zeros-fill.result.now
+filled g c =
+    let put = c.in_ok-put_joined.ensures in
+    filled_after c.args.self.now c.put_joined.new.self _ _ (joined c.args.parts.now) c.zeros-fill.result.now c.fill_len.result c.self.view_is c.self-2.view_is put.same put.end c.fill_len.ensures.value c.zeros-fill.ensures
 
 pub put_joined-requires : goal.put_joined-requires
 put_joined-requires g c = record { few = omega (arith, c.requires.few, filled_longer c.args.self.now.block_size (joined c.args.parts.now)) }
@@ -25,51 +33,39 @@ fill_len-requires g c =
 
 pub put_bytes-requires : goal.put_bytes-requires
 put_bytes-requires g c =
-    let w = c.args.self.now in
-    let v = c.put_joined.new.self in
-    let put = c.in_ok-put_joined.ensures in
-    let bytes = joined c.args.parts.now in
-    let fill = c.zeros-fill.result.now in
-    let is = filled_after w v _ _ bytes fill c.fill_len.result c.self.view_is c.self-2.view_is put.same put.end c.fill_len.ensures.value c.zeros-fill.ensures in
-    record { few = omega (arith, put.end, c.requires.few, ap length is, length-append bytes fill) }
+    let is = filled g (goal.at.put_bytes-requires g c).After-zeros-fill in
+    record { few = omega (arith, c.in_ok-put_joined.ensures.end, c.requires.few, ap length is, length-append (joined c.args.parts.now) c.zeros-fill.result.now) }
 
 pub returns-clause-end : goal.returns-clause-end
 returns-clause-end g c =
     let w = c.args.self.now in
     let v = c.put_joined.new.self in
-    let put = c.in_ok-put_joined.ensures in
     let bytes = joined c.args.parts.now in
     let fill = c.zeros-fill.result.now in
-    let is = filled_after w v _ _ bytes fill c.fill_len.result c.self.view_is c.self-2.view_is put.same put.end c.fill_len.ensures.value c.zeros-fill.ensures in
+    let is = filled g (goal.at.returns-clause-end g c).After-zeros-fill in
     let end = c.put_bytes.new.self.position in
-    on_ok (end ≡ v.position + length fill) (end ≡ w.position + length (padded w.block_size bytes)) c.put_bytes.result (λ e. omega (arith, e, put.end, ap length is, length-append bytes fill)) c.put_bytes.ensures.end
+    on_ok (end ≡ v.position + length fill) (end ≡ w.position + length (padded w.block_size bytes)) c.put_bytes.result (λ e. omega (arith, e, c.in_ok-put_joined.ensures.end, ap length is, length-append bytes fill)) c.put_bytes.ensures.end
 
 pub returns-clause-ok : goal.returns-clause-ok
 returns-clause-ok g c =
     let w = c.args.self.now in
-    let v = c.put_joined.new.self in
-    let put = c.in_ok-put_joined.ensures in
     let bytes = joined c.args.parts.now in
-    let fill = c.zeros-fill.result.now in
-    let is = filled_after w v _ _ bytes fill c.fill_len.result c.self.view_is c.self-2.view_is put.same put.end c.fill_len.ensures.value c.zeros-fill.ensures in
+    let put = c.in_ok-put_joined.ensures in
+    let is = filled g (goal.at.returns-clause-ok g c).After-zeros-fill in
     let old = g.W.Sink.taken c.args.out.now in
     let between = g.W.Sink.taken c.put_joined.new.out in
     let new = g.W.Sink.taken c.put_bytes.new.out in
-    let all = woven_from w (padded w.block_size bytes) in
-    on_ok (Appends between new (woven_from v fill)) (Appends old new all) c.put_bytes.result
-    (λ h. part_taken old between new w.block_size w.num_blocks w.position bytes fill is put.ok (rw (put.same.block_size, put.same.num_blocks, put.end) at h)) c.put_bytes.ensures.ok
+    on_ok (Appends between new (woven_from c.put_joined.new.self c.zeros-fill.result.now)) (Appends old new (woven_from w (padded w.block_size bytes))) c.put_bytes.result
+    (λ h. part_taken old between new w.block_size w.num_blocks w.position bytes c.zeros-fill.result.now is put.ok (rw (put.same.block_size, put.same.num_blocks, put.end) at h)) c.put_bytes.ensures.ok
 
 pub returns-clause-prefix : goal.returns-clause-prefix
 returns-clause-prefix g c =
     let w = c.args.self.now in
-    let v = c.put_joined.new.self in
-    let put = c.in_ok-put_joined.ensures in
-    let bytes = joined c.args.parts.now in
-    let fill = c.zeros-fill.result.now in
-    let is = filled_after w v _ _ bytes fill c.fill_len.result c.self.view_is c.self-2.view_is put.same put.end c.fill_len.ensures.value c.zeros-fill.ensures in
+    let stream = joined c.args.parts.now in
+    let is = filled g (goal.at.returns-clause-prefix g c).After-zeros-fill in
+    let first = c.in_ok-put_joined.ensures in
     let old = g.W.Sink.taken c.args.out.now in
     let between = g.W.Sink.taken c.put_joined.new.out in
     let new = g.W.Sink.taken c.put_bytes.new.out in
-    let all = woven_from w (padded w.block_size bytes) in
-    on_err (AppendsPart between new (woven_from v fill)) (AppendsPart old new all) c.put_bytes.result
-    (λ h. fill_fails old between new w.block_size w.num_blocks w.position bytes fill is put.ok (rw (put.same.block_size, put.same.num_blocks, put.end) at h)) c.put_bytes.ensures.prefix
+    on_err (AppendsPart between new (woven_from c.put_joined.new.self c.zeros-fill.result.now)) (AppendsPart old new (woven_from w (padded w.block_size stream))) c.put_bytes.result
+    (λ h. fill_fails old between new w.block_size w.num_blocks w.position stream c.zeros-fill.result.now is first.ok (rw (first.same.block_size, first.same.num_blocks, first.end) at h)) c.put_bytes.ensures.prefix

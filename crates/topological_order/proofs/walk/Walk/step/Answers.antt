@@ -1,8 +1,14 @@
 use Rattle.std.proofs.Common.{◌≡◌, ◌<◌, ◌≤◌, ◌++◌, ◌∷◌, [], ◌∙◌, sym, length, get_or, arith, length-append}
-use Rattle.topological_order.specs.Walk.{mark_at}
+use Rattle.topological_order.specs.Walk.{IsPassed, mark_at}
 use Rattle.topological_order.specs.declared.walk.Mark.TheVariants.{Placed}
 use Rattle.topological_order.proofs.WalkLaws.{mark_read, next_marked, top_marked, top_inside, top_passed, top_names, is_met, step_places, step_meets, step_stops, count_meets, count_top}
+use Rattle.topological_order.proofs.walk.Walk.step.Given.{Over}
+use Rattle.topological_order.proofs.walk.Walk.step.Goals.{After-first_unplaced-at}
 use Rattle.topological_order.proofs.walk.Walk.step.Goals as goal
+
+-- the nodes that the top names are passed up to the one that was found
+passed_of : (g : Over) (c : After-first_unplaced-at g) → IsPassed c.args.self.now.marks.items (get_or c.args.graph.now c.args.top []) c.first_unplaced-at.result
+passed_of g c = rw (c.deref.ensures.value, c.get-named.ensures.value) at c.first_unplaced-at.ensures.passed
 
 pub get-named-requires : goal.get-named-requires
 get-named-requires g c = record { inside = top_inside _ _ _ _ _ _ c.requires.walk }
@@ -26,9 +32,8 @@ place-requires g c = top_marked _ _ _ _ _ _ c.requires.walk
 pub returns-then-at-named-clause-walk : goal.returns-then-at-named-clause-walk
 returns-then-at-named-clause-walk g c =
     let ok = c.in_ok-place.ensures in
-    let passed = rw (c.deref.ensures.value, c.get-named.ensures.value) at c.first_unplaced-at.ensures.passed in
     let all : length (get_or c.args.graph.now c.args.top []) ≤ c.first_unplaced-at.result = rw (sym c.get-named.ensures.value) (omega arith) in
-    rw (ok.passed, ok.marks, ok.path, ok.order) (step_places _ _ _ _ _ _ c.first_unplaced-at.result c.requires.walk passed all)
+    rw (ok.passed, ok.marks, ok.path, ok.order) (step_places _ _ _ _ _ _ c.first_unplaced-at.result c.requires.walk (passed_of g (goal.at.returns-then-at-named-clause-walk g c).After-first_unplaced-at) all)
 
 pub returns-then-at-named-clause-less : goal.returns-then-at-named-clause-less
 returns-then-at-named-clause-less g c =
@@ -52,11 +57,10 @@ returns-in_ok-meet-in-New-clause-walk g c =
     let at = c.first_unplaced-at.result in
     let to = get_or named at 0 in
     let lt : at < length named = omega (arith, c.first_unplaced-at.ensures.passed.0) in
-    let passed = rw (c.deref.ensures.value, c.get-named.ensures.value) at c.first_unplaced-at.ensures.passed in
     let names = top_names c.args.graph.now named c.args.top at c.get-named.ensures.value lt in
     let inside = next_marked _ _ _ _ _ named _ at c.requires.nodes c.requires.walk c.get-named.ensures.value lt in
     rw (ok.passed, ok.marks, ok.path, ok.order, c.in_ok-push-in-New.ensures.items)
-    (step_meets _ _ _ _ _ c.args.top at to c.requires.nodes c.requires.walk passed names (mark_read c.args.self.now.marks.items to c.index-2.result.now inside c.index-2.ensures ∙ c.in-New.is))
+    (step_meets _ _ _ _ _ c.args.top at to c.requires.nodes c.requires.walk (passed_of g (goal.at.returns-in_ok-meet-in-New-clause-walk g c).After-first_unplaced-at) names (mark_read c.args.self.now.marks.items to c.index-2.result.now inside c.index-2.ensures ∙ c.in-New.is))
 
 pub returns-in_ok-meet-in-New-clause-less : goal.returns-in_ok-meet-in-New-clause-less
 returns-in_ok-meet-in-New-clause-less g c =
@@ -77,14 +81,13 @@ returns-in_default g c =
     let at = c.first_unplaced-at.result in
     let to = get_or named at 0 in
     let lt : at < length named = omega (arith, c.first_unplaced-at.ensures.passed.0) in
-    let passed = rw (c.deref.ensures.value, c.get-named.ensures.value) at c.first_unplaced-at.ensures.passed in
     let names = top_names c.args.graph.now named c.args.top at c.get-named.ensures.value lt in
     let inside = next_marked _ _ _ _ _ named _ at c.requires.nodes c.requires.walk c.get-named.ensures.value lt in
     let read = mark_read marks to c.index-2.result.now inside c.index-2.ensures in
     let unplaced : mark_at marks to ≡ Placed → ⊥ = rw c.deref.ensures.value at (c.first_unplaced-at.ensures.unplaced lt) in
     let met = is_met (mark_at marks to) (λ new. c.in_default.not-New (sym read ∙ new)) unplaced in
     record {
-      walk = rw c.clear.ensures.items (step_stops _ _ _ _ _ c.args.top at to c.requires.walk passed names met);
+      walk = rw c.clear.ensures.items (step_stops _ _ _ _ _ c.args.top at to c.requires.walk (passed_of g (goal.at.returns-in_default g c).After-first_unplaced-at) names met);
       marked = λ i marked. marked;
       less = rw c.clear.ensures.items (omega arith);
     }

@@ -18,26 +18,26 @@ pub measure_new-requires-clause-table : goal.measure_new-requires-clause-table
 measure_new-requires-clause-table g c =
     let canon = c.args.canon.now in
     let last : c.loop-position.position ≡ length canon = search rules in
-    let whole : c.loop-position.texts ≡ canon = whole_taken canon c.loop-position.texts c.loop-position.position c.loop-position.invariant last in
+    let whole : c.loop-position.records ≡ canon = whole_taken canon c.loop-position.records c.loop-position.position c.loop-position.invariant last in
     rw whole c.len-position-end.ensures.canon.table
 
 pub measure_new-requires-clause-few : goal.measure_new-requires-clause-few
 measure_new-requires-clause-few g c =
     let canon = c.args.canon.now in
     let last : c.loop-position.position ≡ length canon = search rules in
-    let whole : c.loop-position.texts ≡ canon = whole_taken canon c.loop-position.texts c.loop-position.position c.loop-position.invariant last in
+    let whole : c.loop-position.records ≡ canon = whole_taken canon c.loop-position.records c.loop-position.position c.loop-position.invariant last in
     rw whole (omega (arith, table_small canon c.len-position-end.ensures.canon.table (canon_short canon c.len-position-end.ensures.canon)))
 
 pub measure_new-requires-clause-known : goal.measure_new-requires-clause-known
 measure_new-requires-clause-known g c =
     let none : c.new-depths.result.items ≡ [] = search rules in
-    rw none (knows_none c.loop-position.texts)
+    rw none (knows_none c.loop-position.records)
 
 pub invariant_of-result : goal.invariant_of-result
 invariant_of-result g c =
     let canon = c.args.canon.now in
     let last : c.loop-position.position ≡ length canon = search rules in
-    let whole : c.loop-position.texts ≡ canon = whole_taken canon c.loop-position.texts c.loop-position.position c.loop-position.invariant last in
+    let whole : c.loop-position.records ≡ canon = whole_taken canon c.loop-position.records c.loop-position.position c.loop-position.invariant last in
     record { table = rw whole c.len-position-end.ensures.canon.table; short = rw whole (canon_short canon c.len-position-end.ensures.canon); measured = c.in_ok-measure_new.ensures.ok }
 
 pub intern-requires-clause-listed : goal.intern-requires-clause-listed
@@ -63,4 +63,4 @@ loop-position-preserved g c =
     let inside : k + 1 ≤ length canon = search rules in
     let is : c.get-bytes.result.now ≡ get_or canon k [] = rw c.canon.view_is at c.get-bytes.ensures in
     let ok = c.in_ok-intern.ensures in
-    taken_more canon c.loop-position.texts c.intern.new.self k c.in_ok-intern.field-0 c.len-position-end.ensures.canon.table c.loop-position.invariant (omega (arith, inside)) (rw is at ok.holds) ok.at.0 (ok.at.1 ∙ is)
+    taken_more canon c.loop-position.records c.intern.new.self k c.in_ok-intern.field-0 c.len-position-end.ensures.canon.table c.loop-position.invariant (omega (arith, inside)) (rw is at ok.holds) ok.at.0 (ok.at.1 ∙ is)

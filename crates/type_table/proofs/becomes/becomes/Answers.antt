@@ -2,7 +2,7 @@ use Rattle.std.proofs.Common.{◌≡◌, ◌+◌, [], ℕ, drop, length, get_or,
 use Rattle.std.proofs.lemmas.List.{drop_more, drop_all}
 use Rattle.std.specs.Prelude.{IsTrue}
 use Rattle.type_table.proofs.GuessLaws.{Became, becoming_starts, becoming_more, becoming_ends, became, all_left, first_left, next_left, offset_inside}
-use Rattle.type_table.proofs.expected.becomes.Goals as goal
+use Rattle.type_table.proofs.becomes.becomes.Goals as goal
 
 pub loop-place-init : goal.loop-place-init
 loop-place-init c = record {

@@ -82,19 +82,25 @@ pub fn becomes(bytes: &[u8], numbers: &[u32], entry: &[u8], places: &[u16]) -> b
 /// Whether a record becomes the record at this position of a table.
 #[tactic(auto, using(crate::proofs::GuessLaws::entry_framed, crate::proofs::GuessLaws::entry_checked, crate::proofs::GuessLaws::entry_bytes))]
 pub fn is_at<S: BuildHasher, A: Allocator>(
-    texts: &RecordSet<S, A>,
+    records: &RecordSet<S, A>,
     position: usize,
     bytes: &[u8],
     numbers: &[u32],
 ) -> bool
-    requires table { IsTable texts.now }
+    requires table { IsTable records.now }
     ensures at { IsTrue result →
-        (position < length texts.now)
-        × (get_or texts.now position [] ≡ renumbered (λ k. get_or numbers.now k 0) bytes.now) }
+        (position < length records.now)
+        × (get_or records.now position [] ≡ renumbered (λ k. get_or numbers.now k 0) bytes.now) }
     ensures small { IsTrue result → position < 2 ^ 31 }
     ensures bytes { IsTrue result → AreBytes (renumbered (λ k. get_or numbers.now k 0) bytes.now) }
     ensures checked { IsTrue result → IsChecked bytes.now }
     ensures there { IsTrue result → NamesThere (length numbers.now) (references bytes.now) }
 {
-    position < texts.len() && becomes(bytes, numbers, texts.get(position), texts.places(position))
+    position < records.len()
+        && becomes(
+            bytes,
+            numbers,
+            records.get(position),
+            records.places(position),
+        )
 }

@@ -1,7 +1,7 @@
 use Rattle.std.proofs.Common.{◌≡◌, drop, length, get_or}
 use Rattle.cv_leaves.specs.Checks.{places_of}
 use Rattle.type_table.proofs.GuessLaws.{Becomes, IsLeft}
-use Rattle.type_table.proofs.expected.becomes.Given as goal
+use Rattle.type_table.proofs.becomes.becomes.Given as goal
 
 abbrev pub invariant-loop-place : goal.invariant-loop-place
 invariant-loop-place l = record {
