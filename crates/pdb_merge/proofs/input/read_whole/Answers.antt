@@ -7,7 +7,7 @@ pub read_with-requires : goal.read_with-requires
 read_with-requires g c κs =
     let known = g.I.Inputs.known c.args.inputs.now in (
       (refl, (refl, tt)),
-      (c.requires.few, c.requires.inside, more_read known c.args.input c.requires.before (some_bytes known c.args.input c.in-Ok.file.now c.in-Ok.ensures.value)),
+      (c.requires.few, (c.requires.inside, more_read known c.args.input c.requires.before (some_bytes known c.args.input c.in-Ok.file.now c.in-Ok.ensures.value))),
     )
 
 pub returns-in-Err-clause-own : goal.returns-in-Err-clause-own
