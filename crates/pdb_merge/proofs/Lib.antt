@@ -1,5 +1,6 @@
 pub mod StreamLaws
 pub mod ReadLaws
+pub mod KnownLaws
 pub mod MemoryLaws
 pub mod UnionLaws
 pub mod MergingLaws

@@ -24,7 +24,7 @@ use Rattle.pdb_merge.proofs.UnionLaws.{union_weighs}
 -- texts of a container that are refused
 pub texts_refused : {A : Type 0} (bytes : Bytes) (inner : MsfFault) (outer : PdbFault A) → outer ≡ pdb_from_msf inner → TextsRefuse bytes inner → IsLayoutFaultRead bytes outer ⊎ (outer ≡ fault.Memory)
 texts_refused bytes msf.Memory outer made refused = inr made
-texts_refused bytes inner outer made refused = inl (rw made refused)
+texts_refused bytes inner outer made refused = inl (rw made (refused, λ is. cc))
 
 -- bytes of stream 2 that are refused
 pub bytes_refused : {A : Type 0} (bytes : Bytes) (layout : LayoutView) (stream : List ℕ) (inner : TpiFault) (outer : PdbFault A) → WasRead bytes layout 2 stream → outer ≡ pdb_from_tpi inner

@@ -9,7 +9,8 @@ use Rattle.msf_streams.specs.Streams.{stream_contents, listed_contents}
 use Rattle.msf_blocks.specs.Blocks.{in_blocks}
 use Rattle.pdb_merge.specs.Read.{HasLongInfo, HasShortInfo, ListsLongInfo}
 
-length-text : (file : List ℕ) (block_size : ℕ) (stream : Listed) → length (listed_contents file block_size stream) ≡ bytes_of stream.size
+-- the contents of a listed stream have its size
+pub length-text : (file : List ℕ) (block_size : ℕ) (stream : Listed) → length (listed_contents file block_size stream) ≡ bytes_of stream.size
 unfolding in_blocks
 length-text file block_size stream = length-map-range_with_len _ 0 (bytes_of stream.size)
 

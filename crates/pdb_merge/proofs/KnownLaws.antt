@@ -1,0 +1,104 @@
+-- What reads gave of a file that is known is what the file has: its records, its types and its first fault.
+use Rattle.std.proofs.Common.{◌≡◌, ℕ, List, Some, refl, arith, inl, inr}
+use Rattle.std.proofs.lemmas.Option.{slice_get_cases}
+use Rattle.byte_fields.specs.Bytes.{AreBytes}
+use Rattle.byte_io.specs.At.{stable}
+use Rattle.msf_blocks.specs.Directory.{bytes_of}
+use Rattle.msf_blocks.specs.Layout.{LayoutView, HasLayout, HasTexts}
+use Rattle.msf_blocks.proofs.KnownLayoutLaws.{fault_known, layout_given, layout_known}
+use Rattle.msf_streams.specs.Streams.{listed_contents}
+use Rattle.msf_streams.proofs.AtLaws.{stream_given, stream_known}
+use Rattle.pdb_merge.specs.Read.{HasInfoFault, HasInfoFaultRead, HasFaultOfTexts, HasLongInfo, HasPdbFault, HasPdbFaultRead, HasRecordsFault, HasStreamFault, HasStreamFaultRead, IsAccepted, IsLayoutFault, IsLayoutFaultRead, ListsLongInfo, ListsRecords, ListsTypes, RecordsWereRead, TypesWereRead}
+use Rattle.pdb_merge.specs.declared.fault.PdbFault.{PdbFault}
+use Rattle.pdb_merge.specs.declared.fault.PdbFault.TheVariants as fault
+use Rattle.pdb_merge.proofs.ReadLaws.{info_refused, listed_accepted}
+use Rattle.pdb_merge.proofs.StreamLaws.{length-text, long_info, short_info}
+
+-- ---- records and types
+
+-- records that reads gave are those of the file
+pub records_known : (file : List ℕ) (layout : LayoutView) (records : List (List ℕ)) → HasLayout file layout → RecordsWereRead (stable file) layout records → ListsRecords file layout records
+records_known file layout records has (stream, read, lists) = record { stream = stream; is_stream = stream_known file layout 2 stream has read; has_records = lists }
+
+-- a stream 1 that is listed with enough bytes has them
+pub info_known : (file : List ℕ) (layout : LayoutView) → ListsLongInfo layout → HasLongInfo file layout
+info_known file layout (info, listed, long) = long_info file layout (bytes_of info.size) (rw listed refl) long
+
+-- the records of a layout that is listed with a long enough stream 1 are listed by the file
+pub lists_known : (file : List ℕ) (layout : LayoutView) (records : List (List ℕ)) → AreBytes file → HasLayout file layout → RecordsWereRead (stable file) layout records → ListsLongInfo layout → ListsTypes file records
+lists_known file layout records bytes has read info = record {
+  bytes = bytes;
+  has = record { layout = layout; has_layout = has; lists = records_known file layout records has read };
+  info = info_known file layout info;
+}
+
+-- types that reads gave are those of the file, which is accepted
+pub types_known : (file : List ℕ) (layout : LayoutView) (records : List (List ℕ)) → AreBytes file → HasLayout file layout → TypesWereRead (stable file) layout records → IsAccepted file records
+types_known file layout records bytes has (read, info, types) = listed_accepted file records (lists_known file layout records bytes has read info) types
+
+-- ---- the way back
+
+-- a stream 1 of enough bytes is listed with them
+info_listed : (file : List ℕ) (layout : LayoutView) → HasLongInfo file layout → ListsLongInfo layout
+info_listed file layout (text, is, long) = elim (slice_get_cases layout.streams 1).1 [
+  | inl (stream, lt, there, at) ↦
+      let both : Some (listed_contents file layout.superblock.block_size stream) ≡ Some text = rw there at is in
+      let same : listed_contents file layout.superblock.block_size stream ≡ text = cc in
+      (stream, there, omega (arith, length-text file layout.superblock.block_size stream, rw (← same) at long))
+  | inr (le, none) ↦ let bad = rw none at is in absurd cc
+]
+
+-- reads of a file give the records that it lists
+pub lists_read : (file : List ℕ) (records : List (List ℕ)) → ListsTypes file records → (layout : LayoutView) × HasTexts (stable file) layout × RecordsWereRead (stable file) layout records × ListsLongInfo layout
+lists_read file records lists =
+    let has = lists.has in
+    let its = has.lists in (
+      has.layout,
+      layout_given file has.layout has.has_layout,
+      (its.stream, stream_given file has.layout 2 its.stream has.has_layout its.is_stream, its.has_records),
+      info_listed file has.layout lists.info,
+    )
+
+-- ---- faults
+
+-- a fault of stream 1 that the layout shows is that of the file
+info_fault_known : {A : Type 0} (file : List ℕ) (layout : LayoutView) (inner : PdbFault A) → HasInfoFaultRead layout inner → HasInfoFault file layout inner
+info_fault_known file layout (fault.Stream inner) refused = refused
+info_fault_known file layout (fault.Info inner) (info, listed, short, is) = (short_info file layout (bytes_of info.size) (rw listed refl) short, is)
+info_fault_known file layout inner refused = absurd refused
+
+-- a fault that reads gave of stream 2 is that of the file's
+pub stream_fault_known : {A : Type 0} (file : List ℕ) (layout : LayoutView) (inner : PdbFault A) → HasLayout file layout → HasStreamFaultRead (stable file) layout inner → HasStreamFault file layout inner
+stream_fault_known file layout (fault.Stream inner) has refused = refused
+stream_fault_known file layout (fault.Tpi inner) has (stream, read, first) = (stream, stream_known file layout 2 stream has read, first)
+stream_fault_known file layout inner has refused = absurd refused
+
+-- it is the first fault on the way to the records
+pub records_fault_known : {A : Type 0} (file : List ℕ) (layout : LayoutView) (inner : PdbFault A) → HasLayout file layout → HasStreamFaultRead (stable file) layout inner → HasRecordsFault file inner
+records_fault_known file layout (fault.Stream inner) has refused = (layout, has, refused)
+records_fault_known {A = A} file layout (fault.Tpi inner) has refused = (layout, has, stream_fault_known {A = A} file layout (fault.Tpi inner) has refused)
+records_fault_known file layout inner has refused = absurd refused
+
+-- a fault that reads gave on the way to the types of a layout is that of the file
+pub pdb_fault_known : {A : Type 0} (file : List ℕ) (layout : LayoutView) (inner : PdbFault A) → HasLayout file layout → HasPdbFaultRead (stable file) layout inner → HasPdbFault file inner
+pdb_fault_known file layout inner has (inl refused) = info_refused file layout inner has (info_fault_known file layout inner refused)
+pdb_fault_known file layout (fault.Stream inner) has (inr (info, inl refused)) = (layout, has, inr (info_known file layout info, refused))
+pdb_fault_known {A = A} file layout (fault.Tpi inner) has (inr (info, inl refused)) = (layout, has, inr (info_known file layout info, stream_fault_known {A = A} file layout (fault.Tpi inner) has refused))
+pdb_fault_known file layout (fault.Type inner) has (inr (info, inr (records, read, refused))) =
+    (records, record { layout = layout; has_layout = has; lists = records_known file layout records has read }, info_known file layout info, refused)
+pdb_fault_known file layout inner has (inr (info, inl refused)) = absurd refused
+pdb_fault_known file layout inner has (inr (info, inr refused)) = absurd refused
+
+-- a fault that reads gave of the layout is that of the file's
+pub layout_fault_known : {A : Type 0} (file : List ℕ) (inner : PdbFault A) → IsLayoutFaultRead (stable file) inner → IsLayoutFault file inner
+layout_fault_known file (fault.Msf inner) (refused, named) = elim (fault_known file inner refused) [
+  | inl first ↦ first
+  | inr want ↦ absurd (named want.0)
+]
+layout_fault_known file inner refused = absurd refused
+
+-- a fault that reads gave of the file is its own
+pub texts_fault_known : {A : Type 0} (file : List ℕ) (inner : PdbFault A) → HasFaultOfTexts (HasPdbFaultRead {A = A}) (stable file) inner → HasPdbFault file inner
+texts_fault_known {A = A} file (fault.Msf inner) (inl refused) = layout_fault_known {A = A} file (fault.Msf inner) refused
+texts_fault_known file inner (inl refused) = absurd refused
+texts_fault_known file inner (inr (layout, has, refused)) = pdb_fault_known file layout inner (layout_known file layout has) refused
