@@ -4,9 +4,9 @@ use Rattle.msf_streams.specs.declared.fault.StreamFault.TheVariants.{NoStream}
 use Rattle.byte_fields.specs.Bytes.{AreBytes}
 use Rattle.byte_fields.specs.Check.{first_failing}
 use Rattle.byte_io.specs.At.{Bytes}
-use Rattle.msf_blocks.specs.declared.fault.MsfFault.TheVariants as msf
 use Rattle.msf_blocks.specs.Directory.{Listed, bytes_of}
 use Rattle.msf_blocks.specs.Layout.{LayoutView, HasLayout, HasTexts, TextsRefuse, layout_checks}
+use Rattle.msf_blocks.specs.declared.fault.MsfFault.TheVariants as msf
 use Rattle.msf_streams.specs.Streams.{WasRead, stream_contents}
 use Rattle.pdb_info.specs.declared.fault.InfoFault.TheVariants.{InfoShort}
 use Rattle.tpi_records.specs.Records.{HasRecords, IsFirstFault}
@@ -115,7 +115,7 @@ HasTypeFaultRead bytes layout _ = ⊥
 abbrev pub HasPdbFaultRead : {A : Type 0} → Bytes → LayoutView → PdbFault A → Type 0
 HasPdbFaultRead bytes layout inner = HasInfoFaultRead layout inner ⊎ (ListsLongInfo layout × (HasStreamFaultRead bytes layout inner ⊎ HasTypeFaultRead bytes layout inner))
 
--- reads gave bytes of a container, and its layout has this fault
+-- reads gave bytes of a container, and its layout has this fault, which is not out of memory
 abbrev pub IsLayoutFaultRead : {A : Type 0} → Bytes → PdbFault A → Type 0
 IsLayoutFaultRead bytes (fault.Msf inner) = TextsRefuse bytes inner × (inner ≢ msf.Memory)
 IsLayoutFaultRead bytes _ = ⊥

@@ -16,7 +16,7 @@ pub mod KnownLayoutLaws
 pub mod RefusedLaws
 pub mod AtLayoutLaws
 pub mod BlockLaws
-pub mod FreeMapLaws
 pub mod CountLaws
+pub mod FreeLaws
 pub mod OneLayoutLaws
 pub mod WrittenLaws

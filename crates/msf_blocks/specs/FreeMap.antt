@@ -1,6 +1,7 @@
 -- The free block map in force ("The MSF File Format", "The Free Block Map").
-use Rattle.std.specs.Prelude.{ℕ, ◌+◌, ◌-◌, ◌*◌, ◌/◌, ◌%◌, ◌^◌, ◌==◌, ◌&&◌, nat_lt, min, Bool, count_by, List, map, slice_index, if◌then◌else◌}
+use Rattle.std.specs.Prelude.{ℕ, ◌≡◌, ◌+◌, ◌-◌, ◌*◌, ◌/◌, ◌%◌, ◌^◌, ◌<◌, ◌==◌, ◌&&◌, nat_lt, min, Bool, false, count_by, List, length, map, get_or, slice_index, if◌then◌else◌}
 use Rattle.std.specs.List.{range_with_len}
+use Rattle.byte_io.specs.At.{AreGiven, Bytes}
 use lib.ListN.{replicate}
 use Rattle.msf_blocks.specs.Superblock.{Fields}
 
@@ -26,6 +27,49 @@ is_free file fields block =
 -- how many blocks of the file are free
 unfoldable pub free_blocks : List ℕ → Fields → ℕ
 free_blocks file fields = count_by (is_free file fields) (range_with_len 0 fields.num_blocks)
+
+-- ---- the free block map in force, of which one block is read at a time
+
+-- whether a bit of a map block is 1, counted from the lowest bit of its first byte
+abbrev pub bit_of : List ℕ → ℕ → Bool
+bit_of map_block bit = slice_index map_block (bit / 8) / 2 ^ (bit % 8) % 2 == 1
+
+-- the block is free, by the map block with its bit, if that is in the file
+abbrev pub is_free_by : List ℕ → Fields → ℕ → Bool
+is_free_by map_block fields block =
+    nat_lt (map_block_of fields block) fields.num_blocks
+    && bit_of map_block (block % blocks_per_map_block fields)
+
+-- reads gave the map block with the bit of this block, if that map block is in the file
+abbrev pub IsMapGiven : Bytes → Fields → ℕ → List ℕ → Type 0
+IsMapGiven bytes fields block map_block =
+    map_block_of fields block < fields.num_blocks
+    → AreGiven bytes (map_block_of fields block * fields.block_size) map_block
+
+-- the same, unless the block is the first that has its bit in this map block
+abbrev pub IsMapHeld : Bytes → Fields → ℕ → List ℕ → Type 0
+IsMapHeld bytes fields block map_block =
+    (block % blocks_per_map_block fields ≡ 0 → ⊥) → IsMapGiven bytes fields block map_block
+
+-- reads gave a map block with this mark of a block: whether the block is free
+pub record IsMark (bytes : Bytes) (fields : Fields) (block : ℕ) (mark : Bool) : Type 0 where
+  pub map_block : List ℕ
+  pub room : length map_block ≡ fields.block_size
+  pub given : IsMapGiven bytes fields block map_block
+  pub mark_is : mark ≡ is_free_by map_block fields block
+
+-- reads gave these marks of the first blocks of the file
+abbrev pub AreMarks : Bytes → Fields → List Bool → Type 0
+AreMarks bytes fields marks =
+    (block : ℕ) → block < length marks → IsMark bytes fields block (get_or marks block false)
+
+-- reads gave marks of the first `end` blocks of the file, and `free` of these marks say that the
+-- block is free
+pub record IsFreeCount (bytes : Bytes) (fields : Fields) (end free : ℕ) : Type 0 where
+  pub marks : List Bool
+  pub count : length marks ≡ end
+  pub given : AreMarks bytes fields marks
+  pub free_is : free ≡ count_by (λ mark. mark) marks
 
 -- ---- the map blocks of a file in which every block is in use
 

@@ -1,19 +1,31 @@
 //! The free block maps: reads the one in force, and writes those of a file whose blocks are all in
 //! use.
 
-ghost use Rattle.std.specs.Prelude.{◌≡◌, ◌⊎◌, ◌<◌, ◌≤◌, ◌+◌, ◌*◌, ◌/◌, ◌%◌, ◌^◌, ◌↔◌, length, IsTrue, IfSome, IfNone};
+ghost use Rattle.std.specs.Prelude.{◌≡◌, ◌⊎◌, ◌<◌, ◌≤◌, ◌/◌, length, IfSome, IfNone};
+ghost use Rattle.byte_io.specs.At.{Breaks, IfKnown};
 ghost use Rattle.msf_blocks.specs.BlockNumber.{IsBlockSize};
-ghost use Rattle.msf_blocks.specs.FreeMap.{free_blocks, is_free, map_block_of, map_byte, map_block};
+ghost use Rattle.msf_blocks.specs.FreeMap.{IsFreeCount, IsMapGiven, IsMapHeld, IsMark, bit_of, free_blocks, is_free, is_free_by, map_block_of, map_byte, map_block as full_map_block};
 ghost use Rattle.msf_blocks.specs.Superblock.{HoldsBlocks};
 
 use crate::superblock::Superblock;
+use byte_io::ReadAt;
 
-/// Whether bit `bit` of a byte is 1. Bit 0 is the lowest bit.
-fn is_set(byte: u8, bit: u32) -> bool
-    requires { bit < 8 }
-    ensures { IsTrue result ↔ (byte / 2 ^ bit % 2 ≡ 1) }
+/// The number of the map block with the bit of a block.
+#[tactic(auto, using(crate::proofs::SizeLaws::size_facts))]
+fn map_block_of(superblock: &Superblock, block: u32) -> u64
+    ensures { result ≡ map_block_of superblock.now block }
 {
-    (byte >> bit) % 2 == 1
+    let block_size = superblock.block_size();
+    let interval = u64::from(block / (8 * block_size));
+    interval * u64::from(block_size) + u64::from(superblock.free_map_block())
+}
+
+/// Whether a bit of a map block is 1. Bit 0 is the lowest bit of the first byte.
+fn is_set(map_block: &[u8], bit: u32) -> bool
+    requires { bit / 8 < length map_block.now }
+    ensures { result ≡ bit_of map_block.now bit }
+{
+    (map_block[(bit / 8) as usize] >> (bit % 8)) % 2 == 1
 }
 
 /// Whether block `n` is free, by the free block map in force, which the superblock names.
@@ -29,16 +41,14 @@ pub fn free_bit(file: &[u8], superblock: &Superblock, n: u32) -> Option<bool>
     ensures outside { IfNone result ((superblock.now.num_blocks ≤ n)
         ⊎ (superblock.now.num_blocks ≤ map_block_of superblock.now n)) }
 {
-    let block_size = superblock.block_size();
-    let per_map_block = 8 * block_size;
-    let interval = u64::from(n / per_map_block);
-    let map_block = interval * u64::from(block_size) + u64::from(superblock.free_map_block());
-    if n >= superblock.num_blocks() || map_block >= u64::from(superblock.num_blocks()) {
+    let number = map_block_of(superblock, n);
+    if n >= superblock.num_blocks() || number >= u64::from(superblock.num_blocks()) {
         return None;
     }
-    let bit = n % per_map_block;
-    let byte = map_block as usize * block_size as usize + (bit / 8) as usize;
-    Some(is_set(file[byte], bit % 8))
+    let block_size = superblock.block_size();
+    let first = number as usize * block_size as usize;
+    let map_block = &file[first..first + block_size as usize];
+    Some(is_set(map_block, n % (8 * block_size)))
 }
 
 /// How many blocks of the file are free, by the free block map in force. A block whose bit is in
@@ -60,6 +70,115 @@ pub fn free_blocks(file: &[u8], superblock: &Superblock) -> u32
     free
 }
 
+/// Whether a block of the file is free, by the map block with its bit.
+#[tactic(auto, using(crate::proofs::SizeLaws::size_facts))]
+fn is_free_by(map_block: &[u8], superblock: &Superblock, block: u32) -> bool
+    requires { length map_block.now ≡ superblock.now.block_size }
+    ensures value { result ≡ is_free_by map_block.now superblock.now block }
+    ensures listed { IsBlockSize superblock.now.block_size }
+{
+    let bit = block % (8 * superblock.block_size());
+    map_block_of(superblock, block) < u64::from(superblock.num_blocks()) && is_set(map_block, bit)
+}
+
+/// Reads the map block with the bit of a block, if that map block is in the file.
+fn read_map<R: ReadAt>(
+    input: &mut R,
+    superblock: &Superblock,
+    block: u32,
+    map_block: &mut [u8],
+) -> Option<()>
+    requires whole { IfKnown (R.bytes input.old) (λ file. HoldsBlocks file superblock.now) }
+    requires room { length map_block.old ≡ superblock.now.block_size }
+    ensures keeps { R.bytes input.new ≡ R.bytes input.old }
+    ensures room { length map_block.new ≡ superblock.now.block_size }
+    ensures given { IfSome result (λ _.
+        IsMapGiven (R.bytes input.old) superblock.now block map_block.new) }
+    ensures read { IfNone result (Breaks (R.bytes input.old) (R.is_broken input.new)) }
+{
+    let number = map_block_of(superblock, block);
+    if number < u64::from(superblock.num_blocks()) {
+        return input.read_at(number * u64::from(superblock.block_size()), map_block);
+    }
+    Some(())
+}
+
+/// Makes `map_block` the map block with the bit of a block. A map block is read once, at the first
+/// block whose bit it has.
+#[tactic(auto, using(crate::proofs::SizeLaws::size_facts))]
+fn turn_to<R: ReadAt>(
+    input: &mut R,
+    superblock: &Superblock,
+    block: u32,
+    map_block: &mut [u8],
+) -> Option<()>
+    requires whole { IfKnown (R.bytes input.old) (λ file. HoldsBlocks file superblock.now) }
+    requires room { length map_block.old ≡ superblock.now.block_size }
+    requires held { IsMapHeld (R.bytes input.old) superblock.now block map_block.old }
+    ensures keeps { R.bytes input.new ≡ R.bytes input.old }
+    ensures room { length map_block.new ≡ superblock.now.block_size }
+    ensures given { IfSome result (λ _.
+        IsMapGiven (R.bytes input.old) superblock.now block map_block.new) }
+    ensures read { IfNone result (Breaks (R.bytes input.old) (R.is_broken input.new)) }
+{
+    if block % (8 * superblock.block_size()) == 0 {
+        read_map(input, superblock, block, map_block)?;
+    }
+    Some(())
+}
+
+/// Whether a block of the file is free, by the map block that `map_block` holds then.
+fn is_free_at<R: ReadAt>(
+    input: &mut R,
+    superblock: &Superblock,
+    block: u32,
+    map_block: &mut [u8],
+) -> Option<bool>
+    requires whole { IfKnown (R.bytes input.old) (λ file. HoldsBlocks file superblock.now) }
+    requires room { length map_block.old ≡ superblock.now.block_size }
+    requires held { IsMapHeld (R.bytes input.old) superblock.now block map_block.old }
+    ensures keeps { R.bytes input.new ≡ R.bytes input.old }
+    ensures room { length map_block.new ≡ superblock.now.block_size }
+    ensures mark { IfSome result (IsMark (R.bytes input.old) superblock.now block) }
+    ensures listed { IfSome result (λ _. IsBlockSize superblock.now.block_size) }
+    ensures given { IfSome result (λ _.
+        IsMapGiven (R.bytes input.old) superblock.now block map_block.new) }
+    ensures read { IfNone result (Breaks (R.bytes input.old) (R.is_broken input.new)) }
+{
+    turn_to(input, superblock, block, map_block)?;
+    Some(is_free_by(map_block, superblock, block))
+}
+
+/// How many blocks of a file that is read by position are free, as [`free_blocks`] says it of a
+/// whole file. Of the file only the free block map in force is read, a map block at a time, and each
+/// of them once.
+///
+/// `map_block` has as many bytes as a block, and each map block is read into it. `None` where a read
+/// failed. This does not allocate. ("The MSF File Format", "The Free Block Map".)
+pub fn free_blocks_at<R: ReadAt>(
+    input: &mut R,
+    superblock: &Superblock,
+    map_block: &mut [u8],
+) -> Option<u32>
+    requires whole { IfKnown (R.bytes input.old) (λ file. HoldsBlocks file superblock.now) }
+    requires room { length map_block.old ≡ superblock.now.block_size }
+    ensures keeps { R.bytes input.new ≡ R.bytes input.old }
+    ensures value { IfSome result (λ free.
+        IfKnown (R.bytes input.old) (λ file. free ≡ free_blocks file superblock.now)) }
+    // Even if the file's bytes are not known, these are the marks of map blocks that reads gave.
+    ensures marks { IfSome result
+        (IsFreeCount (R.bytes input.old) superblock.now superblock.now.num_blocks) }
+    ensures read { IfNone result (Breaks (R.bytes input.old) (R.is_broken input.new)) }
+{
+    let mut free = 0;
+    for block in 0..superblock.num_blocks() {
+        if is_free_at(input, superblock, block, map_block)? {
+            free += 1;
+        }
+    }
+    Some(free)
+}
+
 /// The byte of map 1 for the eight blocks that begin with block `first`. The bits of blocks of the
 /// file are 0, and the others are 1.
 fn map_byte(num_blocks: u64, first: u64) -> u8
@@ -69,24 +188,24 @@ fn map_byte(num_blocks: u64, first: u64) -> u8
     (256 - (1u32 << in_file)) as u8
 }
 
-/// Fills `page` with the map block that is block `k` of a file of `num_blocks` blocks, all of which
-/// are in use.
+/// Fills `map_block` with the map block that is block `k` of a file of `num_blocks` blocks, all of
+/// which are in use.
 ///
-/// `page` has as many bytes as a block. In map 1 the bits of blocks of the file are 0, and the
+/// `map_block` has as many bytes as a block. In map 1 the bits of blocks of the file are 0, and the
 /// others are 1. In map 2 all bits are 1. This does not allocate. ("The MSF File Format", "The Free
 /// Block Map".)
 #[tactic(auto, using(crate::proofs::SizeLaws::some_bytes), unfolding(crate::specs::FreeMap::map_block))]
-pub fn fill_map_block(block_size: u32, num_blocks: u32, k: u32, page: &mut [u8])
+pub fn fill_map_block(block_size: u32, num_blocks: u32, k: u32, map_block: &mut [u8])
     requires size { IsBlockSize block_size }
-    requires long { length page.old ≡ block_size }
-    ensures { page.new ≡ map_block block_size num_blocks k }
+    requires long { length map_block.old ≡ block_size }
+    ensures { map_block.new ≡ full_map_block block_size num_blocks k }
 {
     if k % block_size != 1 {
-        page.fill(0xFF);
+        map_block.fill(0xFF);
         return;
     }
     let first = u64::from(block_size) * u64::from(k / block_size);
-    for i in 0..page.len() {
-        page[i] = map_byte(u64::from(num_blocks), 8 * (first + i as u64));
+    for i in 0..map_block.len() {
+        map_block[i] = map_byte(u64::from(num_blocks), 8 * (first + i as u64));
     }
 }

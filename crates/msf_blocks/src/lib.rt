@@ -15,7 +15,8 @@
 //! - [`superblock_bytes`], [`block_map_bytes`], [`directory_bytes`] and [`fill_map_block`] write the
 //!   parts of an image that are not streams.
 //! - [`nth_block`] and [`is_map_block`] tell map blocks from other blocks. [`free_bit`] reads the
-//!   free block map in force, and [`free_blocks`] counts the blocks that it says are free.
+//!   free block map in force, and [`free_blocks`] counts the blocks that it says are free, as
+//!   [`free_blocks_at`] does by position.
 //! - [`Sink`], [`Source`] and what belongs to them are those of the crate `byte_io`.
 //! - [`laws`] says what holds of every container: a file has at most one layout, and what reads gave
 //!   of a file that is known is what the file has.
@@ -59,6 +60,6 @@ pub use blocks::read_blocks;
 pub use byte_io::{In, NotTaken, Out, Sink, Source, put_all};
 pub use directory::{block_map_bytes, directory_bytes};
 pub use fault::{MsfFault, WithinFault};
-pub use free_map::{fill_map_block, free_bit, free_blocks};
+pub use free_map::{fill_map_block, free_bit, free_blocks, free_blocks_at};
 pub use layout::Layout;
 pub use superblock::{MAGIC, Superblock, superblock_bytes};

@@ -9,12 +9,12 @@ use Rattle.closed_trees.specs.Tree.{Tree, IsType}
 use Rattle.closed_trees.specs.Types.{AreTypes}
 use Rattle.pdb_merge.specs.Answer.{RefusesReading}
 use Rattle.pdb_merge.specs.Fault.{NamesFault}
-use Rattle.pdb_merge.specs.Read.{IsAccepted}
+use Rattle.file_types.specs.Read.{IsAccepted}
 use Rattle.pdb_merge.specs.Union.{HasType, SameTypes, AcceptedBelow}
 use Rattle.pdb_merge.specs.declared.fault.MergeFault.{MergeFault}
 use Rattle.pdb_merge.specs.declared.fault.MergeFault.TheVariants as merges
 use Rattle.pdb_merge.specs.declared.fault.OutFault.TheVariants as outs
-use Rattle.pdb_merge.proofs.ReadLaws.{one_list}
+use Rattle.file_types.proofs.ReadLaws.{one_list}
 use Rattle.pdb_merge.proofs.FileLaws.{one_merged_file, merged_files_differ}
 use Rattle.pdb_merge.proofs.UnionLaws.{types_of_first, accepted_more, none_accepted}
 use Rattle.command_texts.specs.Difference.{ShowsDifference}

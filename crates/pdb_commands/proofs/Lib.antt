@@ -1,8 +1,6 @@
 pub mod BoundLaws
 pub mod DifferenceLaws
-pub mod FreeLaws
 pub mod InfoLaws
-pub mod LayoutLaws
 pub mod MergeLaws
 pub mod ShowLaws
 pub mod ShownLaws

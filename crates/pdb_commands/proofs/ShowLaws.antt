@@ -1,17 +1,24 @@
 -- A command whose read by position failed.
-use Rattle.std.proofs.Common.{◌≡◌, ◌⊎◌, ℕ, ◌-◌, ◌^◌, ◌≤◌, Bool, List, Option, arith, refl, ap, inl, inr}
-use Rattle.std.specs.Prelude.{Result, Ok, Err, IfErr}
+use Rattle.std.proofs.Common.{◌≡◌, ◌⊎◌, ℕ, ◌-◌, ◌^◌, ◌≤◌, Bool, List, Option, arith, refl, ap, ◌∙◌, inl, inr}
+use Rattle.std.specs.Prelude.{Result, Ok, Err, IfOk, IfErr}
 use Rattle.std.proofs.lemmas.Bool.{cases_lt}
+use Rattle.byte_fields.specs.Bytes.{AreBytes}
 use Rattle.byte_io.specs.At.{Breaks, Bytes, IfKnown, IfOf}
 use Rattle.byte_io.specs.Input.{GivesAll}
 use Rattle.byte_io.specs.declared.at.AtFault.{AtFault}
 use Rattle.byte_io.specs.declared.at.AtFault.TheVariants as at
 use Rattle.byte_io.specs.declared.input.ReadFault.TheVariants as reads
-use Rattle.msf_blocks.specs.Layout.{LayoutView, HasLongDirectory, TextsRefuse, TextsRefuseWithin}
+use Rattle.msf_blocks.specs.Layout.{LayoutView, HasLayout, HasWithinFault, TextsRefuse, TextsRefuseWithin}
 use Rattle.msf_blocks.specs.declared.fault.MsfFault.{MsfFault}
+use Rattle.msf_blocks.specs.declared.fault.MsfFault.TheVariants as msf
 use Rattle.msf_blocks.specs.declared.fault.WithinFault.{WithinFault}
 use Rattle.msf_blocks.specs.declared.fault.WithinFault.TheVariants as within
-use Rattle.pdb_commands.specs.Show.{Answers, AnswersAt, GivesRefused, IfOfFile, IsOfText, PrintsPart, RefusesBounded, ShowsBounded}
+use Rattle.msf_blocks.proofs.AtLayoutLaws.{short_directory}
+use Rattle.file_types.specs.Fault.{pdb_from_msf}
+use Rattle.file_types.specs.declared.fault.PdbFault.{PdbFault}
+use Rattle.pdb_commands.specs.Fault.{run_from_pdb}
+use Rattle.pdb_commands.specs.Show.{Answers, AnswersAt, GivesRefused, IfOfFile, IsOfText, PrintsPart, RefusesBounded, RefusesKnown, RefusesUnlaid, ShowsBounded, ShowsKnown}
+use Rattle.pdb_commands.specs.Streams.{RefusesLayout}
 use Rattle.pdb_commands.specs.declared.fault.RunFault.{RunFault}
 use Rattle.pdb_commands.specs.declared.fault.RunFault.TheVariants.{Read, Memory, Write}
 
@@ -41,17 +48,41 @@ not_read (Err fault) never = λ is. never (ap (λ f. Err f) is)
 
 -- ---- a limit on the directory
 
--- the fault of a command whose directory is within the limit
-pub refuses_bounded : {T A : Type 0} (limit : ℕ) (Refuses : List ℕ → RunFault A → Type 0) (bytes : Bytes) (answer : Result T (AtFault (RunFault A))) → IfKnown bytes (λ file. HasLongDirectory limit file → ⊥)
-    → IfErr answer (IfOf (λ fault. IfKnown bytes (λ file. Refuses file fault ⊎ (fault ≡ Memory)))) → IfErr answer (IfOf (λ fault. IfKnown bytes (λ file. RefusesBounded limit Refuses file fault ⊎ (fault ≡ Memory))))
-refuses_bounded limit Refuses bytes (Ok text) short refused = tt
-refuses_bounded limit Refuses bytes (Err at.Read) short refused = tt
-refuses_bounded limit Refuses bytes (Err (at.Of fault)) short refused = λ file known. elim (refused file known) [
-  | inl own ↦ inl (inr (short file known, own))
-  | inr want ↦ inr want
-]
+-- the text that a command makes of a file that is known
+pub text_known : {T F : Type 0} (bytes_of : T → List ℕ) (Shows : List ℕ → List ℕ → Type 0) (ShowsRead : Bytes → LayoutView → List ℕ → Type 0) (limit : ℕ) (bytes : Bytes) (layout : LayoutView) (answer : Result T F) → ShowsKnown Shows ShowsRead
+    → IfKnown bytes AreBytes → IfKnown bytes (λ file. HasLayout file layout) → layout.superblock.directory_bytes ≤ limit
+    → IfOk answer (λ text. ShowsRead bytes layout (bytes_of text)) → IfOk answer (λ text. IfKnown bytes (λ file. ShowsBounded limit Shows file (bytes_of text)))
+text_known bytes_of Shows ShowsRead limit bytes layout (Ok text) each small has short shows = λ file known.
+    let there = has file known in
+    (short_directory limit file layout.superblock there.superblock short, each file layout (bytes_of text) (small file known) there (rw known at shows))
+text_known bytes_of Shows ShowsRead limit bytes layout (Err fault) each small has short shows = tt
 
--- and the fault of a layout whose directory is within the limit
+-- and its fault
+pub fault_known : {T A : Type 0} (Refuses : List ℕ → RunFault A → Type 0) (RefusesRead : Bytes → LayoutView → RunFault A → Type 0) (limit : ℕ) (bytes : Bytes) (layout : LayoutView) (answer : Result T (AtFault (RunFault A))) → RefusesKnown Refuses RefusesRead
+    → IfKnown bytes AreBytes → IfKnown bytes (λ file. HasLayout file layout) → layout.superblock.directory_bytes ≤ limit
+    → IfErr answer (IfOf (λ fault. RefusesRead bytes layout fault ⊎ (fault ≡ Memory))) → IfErr answer (IfOf (λ fault. IfKnown bytes (λ file. RefusesBounded limit Refuses file fault ⊎ (fault ≡ Memory))))
+fault_known Refuses RefusesRead limit bytes layout (Ok text) each small has short refused = tt
+fault_known Refuses RefusesRead limit bytes layout (Err at.Read) each small has short refused = tt
+fault_known Refuses RefusesRead limit bytes layout (Err (at.Of fault)) each small has short (inl own) = λ file known.
+    let there = has file known in
+    inl (inr (short_directory limit file layout.superblock there.superblock short, each file layout fault (small file known) there (rw known at own)))
+fault_known Refuses RefusesRead limit bytes layout (Err (at.Of fault)) each small has short (inr want) = λ file known. inr want
+
+-- ---- a fault of the container
+
+-- it is the fault of the file
+pub layout_refused : {A : Type 0} (Refuses : List ℕ → RunFault A → Type 0) (limit : ℕ) (file : List ℕ) (fault : MsfFault) (inner : PdbFault A) (outer : RunFault A) → RefusesUnlaid Refuses → AreBytes file → inner ≡ pdb_from_msf fault → outer ≡ run_from_pdb inner
+    → HasWithinFault limit file (within.Of fault) → RefusesBounded limit Refuses file outer ⊎ (outer ≡ Memory)
+layout_refused Refuses limit file msf.Memory inner outer each bytes is made refused = inr (made ∙ ap run_from_pdb is)
+layout_refused Refuses limit file fault inner outer each bytes is made (short, inl first) = inl (rw (made, is) (inr (short, each file fault bytes first)))
+layout_refused Refuses limit file fault inner outer each bytes is made (short, inr want) = absurd (let bad = want.0 in cc)
+
+-- and that of what reads gave
+pub texts_refused : {A : Type 0} (bytes : Bytes) (fault : MsfFault) (inner : PdbFault A) (outer : RunFault A) → inner ≡ pdb_from_msf fault → outer ≡ run_from_pdb inner → TextsRefuse bytes fault → RefusesLayout bytes outer ⊎ (outer ≡ Memory)
+texts_refused bytes msf.Memory inner outer is made refused = inr (made ∙ ap run_from_pdb is)
+texts_refused bytes fault inner outer is made refused = inl (rw (made, is) (refused, λ memory. cc))
+
+-- the fault of a layout whose directory is within the limit
 pub refused_of : (limit : ℕ) (bytes : Bytes) (fault : WithinFault) (inner : MsfFault) → fault ≡ within.Of inner → TextsRefuseWithin limit bytes fault → TextsRefuse bytes inner
 refused_of limit bytes fault inner is refused = rw is at refused
 

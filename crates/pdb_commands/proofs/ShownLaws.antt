@@ -1,42 +1,14 @@
 -- What a command prints, with a limit on the stream that it reads.
 use Rattle.std.proofs.Common.{◌≡◌, ◌⊎◌, ℕ, List, Some, inl, inr}
 use Rattle.std.specs.Prelude.{Result, Ok, Err, IfOk, IfErr, OnOk}
-use Rattle.byte_io.specs.At.{Bytes, IfKnown, IfOf}
+use Rattle.byte_io.specs.At.{Bytes, IfOf}
 use Rattle.byte_io.specs.declared.at.AtFault.{AtFault}
 use Rattle.byte_io.specs.declared.at.AtFault.TheVariants as at
 use Rattle.msf_blocks.specs.Layout.{LayoutView}
-use Rattle.pdb_commands.specs.Shown.{HasLongStream, ListsLongStream, ReadsTooLong, ListsTooLong, ShowsIt, ShowsItRead, RefusesIt, RefusesItRead, ShowsWithin, ShowsWithinRead, RefusesWithin, RefusesWithinRead, stream_of}
+use Rattle.pdb_commands.specs.Shown.{ListsLongStream, ListsTooLong, RefusesItRead, RefusesWithinRead, ShowsItRead, ShowsWithinRead, stream_of}
 use Rattle.pdb_commands.specs.declared.fault.RunFault.{RunFault}
 use Rattle.pdb_commands.specs.declared.fault.RunFault.TheVariants.{Memory}
 use Rattle.pdb_commands.specs.declared.shown.Shown.{Shown}
-
--- the stream that a command reads is the one that was held against the limit
-pub reads_short : {T F : Type 0} (answer : Result T F) (command : Shown) (limit s : ℕ) (file : List ℕ) → stream_of command ≡ Some s → OnOk answer (HasLongStream limit s file → ⊥) → OnOk answer (ReadsTooLong command limit file → ⊥)
-reads_short (Ok done) command limit s file is short = λ long. let there = long.1 in let same : long.0 ≡ s = cc in short (rw same at long.2)
-reads_short (Err fault) command limit s file is short = tt
-
-pub reads_long : {T F : Type 0} (answer : Result T F) (command : Shown) (limit s : ℕ) (file : List ℕ) → stream_of command ≡ Some s → IfErr answer (λ _. HasLongStream limit s file) → IfErr answer (λ _. ReadsTooLong command limit file)
-reads_long (Ok done) command limit s file is long = tt
-reads_long (Err fault) command limit s file is long = (s, is, long)
-
--- the text of a command whose stream is within the limit, of a file that is read by position
-pub shows_within : {T F : Type 0} (bytes_of : T → List ℕ) (Shows : List ℕ → List ℕ → Type 0) (command : Shown) (limit : ℕ) (bytes : Bytes) (answer : Result T F) → ((file text : List ℕ) → Shows file text → ShowsIt command limit file text)
-    → IfKnown bytes (λ file. ReadsTooLong command limit file → ⊥) → IfOk answer (λ text. IfKnown bytes (λ file. Shows file (bytes_of text))) → IfOk answer (λ text. IfKnown bytes (λ file. ShowsWithin command limit file (bytes_of text)))
-shows_within bytes_of Shows command limit bytes (Ok text) each short shows = λ file is. (short file is, each file (bytes_of text) (shows file is))
-shows_within bytes_of Shows command limit bytes (Err fault) each short shows = tt
-
--- and the fault of such a command
-pub refuses_within : {T A : Type 0} (Refuses : List ℕ → RunFault A → Type 0) (command : Shown) (limit : ℕ) (bytes : Bytes) (answer : Result T (AtFault (RunFault A))) → ((file : List ℕ) (fault : RunFault A) → Refuses file fault → RefusesIt command limit file fault)
-    → IfKnown bytes (λ file. ReadsTooLong command limit file → ⊥) → IfErr answer (IfOf (λ fault. IfKnown bytes (λ file. Refuses file fault ⊎ (fault ≡ Memory))))
-    → IfErr answer (IfOf (λ fault. IfKnown bytes (λ file. RefusesWithin command limit file fault ⊎ (fault ≡ Memory))))
-refuses_within Refuses command limit bytes (Ok text) each short refused = tt
-refuses_within Refuses command limit bytes (Err at.Read) each short refused = tt
-refuses_within Refuses command limit bytes (Err (at.Of fault)) each short refused = λ file is. elim (refused file is) [
-  | inl own ↦ inl (inr (short file is, each file fault own))
-  | inr want ↦ inr want
-]
-
--- ---- of texts that reads gave
 
 -- the stream that a command reads is the one that was held against the limit
 pub lists_short : {T F : Type 0} (answer : Result T F) (command : Shown) (limit s : ℕ) (layout : LayoutView) → stream_of command ≡ Some s → OnOk answer (ListsLongStream limit s layout → ⊥) → OnOk answer (ListsTooLong command limit layout → ⊥)

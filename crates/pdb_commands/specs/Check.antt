@@ -4,7 +4,7 @@ use Rattle.std.specs.List.{concat}
 use Rattle.closed_trees.specs.Depth.{HasLevels}
 use Rattle.byte_io.specs.At.{Bytes}
 use Rattle.msf_blocks.specs.Layout.{LayoutView}
-use Rattle.pdb_merge.specs.Read.{IsAccepted, TypesWereRead, HasPdbFault, HasPdbFaultRead}
+use Rattle.file_types.specs.Read.{IsAccepted, TypesWereRead, HasPdbFault, HasPdbFaultRead}
 use Rattle.command_texts.specs.Check.{checked_lines}
 use Rattle.pdb_commands.specs.declared.fault.RunFault.{RunFault}
 use Rattle.pdb_commands.specs.declared.fault.RunFault.TheVariants.{Pdb}

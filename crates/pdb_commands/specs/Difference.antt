@@ -8,7 +8,7 @@ use Rattle.closed_trees.specs.Types.{AreTypes}
 use Rattle.msf_streams.specs.Put.{AppendsPart}
 use Rattle.pdb_info.specs.Settings.{SettingsView, AreSettings, record_limit}
 use Rattle.pdb_merge.specs.Merged.{Merged}
-use Rattle.pdb_merge.specs.Read.{IsAccepted}
+use Rattle.file_types.specs.Read.{IsAccepted}
 use Rattle.pdb_merge.specs.Union.{HasType, SameTypes, Within}
 use Rattle.command_texts.specs.Difference.{ShowsDifference}
 use Rattle.command_texts.specs.declared.difference.Scope.{Scope}

@@ -1,8 +1,8 @@
 -- The faults of crates below, as faults of a command. Out of memory is always `Memory`.
 use Rattle.pdb_info.specs.declared.fault.InfoFault.{InfoFault}
 use Rattle.pdb_info.specs.declared.fault.InfoFault.TheVariants as infos
-use Rattle.pdb_merge.specs.declared.fault.PdbFault.{PdbFault}
-use Rattle.pdb_merge.specs.declared.fault.PdbFault.TheVariants as pdb
+use Rattle.file_types.specs.declared.fault.PdbFault.{PdbFault}
+use Rattle.file_types.specs.declared.fault.PdbFault.TheVariants as pdb
 use Rattle.pdb_merge.specs.declared.fault.MergeFault.{MergeFault}
 use Rattle.pdb_merge.specs.declared.fault.MergeFault.TheVariants as merges
 use Rattle.pdb_merge.specs.declared.fault.OutFault.{OutFault}
@@ -13,7 +13,8 @@ use Rattle.std.specs.Prelude.{ℕ}
 use Rattle.byte_io.specs.Fault.{read_number}
 use Rattle.cv_leaves.specs.Fault.{leaf_number}
 use Rattle.pdb_info.specs.Fault.{info_number}
-use Rattle.pdb_merge.specs.Fault.{pdb_number, merge_number}
+use Rattle.file_types.specs.Fault.{pdb_number}
+use Rattle.pdb_merge.specs.Fault.{merge_number}
 use Rattle.pdb_commands.specs.declared.fault.RunFault.{RunFault}
 use Rattle.pdb_commands.specs.declared.fault.RunFault.TheVariants.{Read, TooLong, Info, Pdb, Merge, NoRecord, Leaf, Memory, Write}
 

@@ -9,3 +9,4 @@ pub mod Show
 pub mod Shown
 pub mod Streams
 pub mod Types
+pub mod Known

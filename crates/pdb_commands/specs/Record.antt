@@ -7,7 +7,7 @@ use Rattle.cv_leaves.specs.Place.{HasPlaces}
 use Rattle.cv_leaves.specs.Name.{name_of}
 use Rattle.byte_io.specs.At.{Bytes}
 use Rattle.msf_blocks.specs.Layout.{LayoutView}
-use Rattle.pdb_merge.specs.Read.{HasTypeRecords, RecordsWereRead}
+use Rattle.file_types.specs.Read.{HasTypeRecords, RecordsWereRead}
 use Rattle.command_texts.specs.Record.{bytes_line, place_line, name_lines}
 use Rattle.pdb_commands.specs.Records.{RefusesRecords, RefusesRecordsRead}
 use Rattle.pdb_commands.specs.declared.fault.RunFault.{RunFault}

@@ -2,7 +2,7 @@
 use Rattle.std.specs.Prelude.{ℕ, ◌≡◌, List}
 use Rattle.byte_io.specs.At.{Bytes}
 use Rattle.msf_blocks.specs.Layout.{LayoutView}
-use Rattle.pdb_merge.specs.Read.{HasTypeRecords, RecordsWereRead, HasRecordsFault, HasStreamFaultRead}
+use Rattle.file_types.specs.Read.{HasTypeRecords, RecordsWereRead, HasRecordsFault, HasStreamFaultRead}
 use Rattle.command_texts.specs.Records.{record_lines}
 use Rattle.pdb_commands.specs.declared.fault.RunFault.{RunFault}
 use Rattle.pdb_commands.specs.declared.fault.RunFault.TheVariants.{Pdb}

@@ -1,14 +1,18 @@
 -- How a command that shows a file answers: it reads the whole file, makes a text from it and prints the text, or is refused.
-use Rattle.std.specs.Prelude.{ℕ, ◌≡◌, ◌<◌, ◌≤◌, ◌⊎◌, Bool, true, List, length, take, Option, Result, OnOk, IfErr}
+use Rattle.std.specs.Prelude.{ℕ, ◌≡◌, ◌<◌, ◌≤◌, ◌⊎◌, Bool, true, List, length, take, Option, Some, Result, OnOk, IfErr}
 use Rattle.std.specs.Io.KnownBytes.{Appends}
-use Rattle.byte_io.specs.At.{Breaks, Bytes, IfKnown}
+use Rattle.byte_fields.specs.Bytes.{AreBytes}
+use Rattle.byte_fields.specs.Check.{first_failing}
+use Rattle.byte_io.specs.At.{Breaks, Bytes, IfKnown, stable}
 use Rattle.byte_io.specs.Input.{GivesAll, IsNotRead, HasGiven}
 use Rattle.byte_io.specs.declared.input.ReadFault.{ReadFault}
 use Rattle.byte_io.specs.declared.input.ReadFault.TheVariants as reads
-use Rattle.msf_blocks.specs.Layout.{LayoutView, GivesLongDirectory, HasLongDirectory, HasTexts}
+use Rattle.msf_blocks.specs.Layout.{LayoutView, GivesLongDirectory, HasLayout, HasLongDirectory, HasTexts, layout_checks}
+use Rattle.msf_blocks.specs.declared.fault.MsfFault.{MsfFault}
+use Rattle.file_types.specs.declared.fault.PdbFault.TheVariants.{Msf}
 use Rattle.pdb_commands.specs.Streams.{RefusesLayout}
 use Rattle.pdb_commands.specs.declared.fault.RunFault.{RunFault}
-use Rattle.pdb_commands.specs.declared.fault.RunFault.TheVariants.{Read, TooLong, Memory, Write}
+use Rattle.pdb_commands.specs.declared.fault.RunFault.TheVariants.{Read, TooLong, Pdb, Memory, Write}
 
 -- the source gave a file, and the sink took the text that shows it
 abbrev pub Prints : (List ℕ → List ℕ → Type 0) → ℕ → Option (List ℕ) → Option (List ℕ) → Option (List ℕ) → Option (List ℕ) → Type 0
@@ -126,6 +130,27 @@ pub record AnswersAt {A W T : Type 0} (Shows : List ℕ → List ℕ → Type 0)
   pub memory : IfErr result (λ fault. fault ≡ Memory → IfKnown bytes (λ file. length file ≤ limit))
   pub write : IfErr result (λ fault. fault ≡ Write → (is_broken after ≡ true) × PrintsPartRead limit ShowsRead bytes (taken before) (taken after) × IfKnown bytes (λ file. PrintsPartAt Shows limit file (taken before) (taken after)))
   pub untouched : IfErr result (λ fault. (fault ≡ Write) ⊎ (after ≡ before))
+
+-- ---- what each command has to show
+
+-- of a file that is known, the text of what reads gave is the text that shows the file
+abbrev pub ShowsKnown : (List ℕ → List ℕ → Type 0) → (Bytes → LayoutView → List ℕ → Type 0) → Type 0
+ShowsKnown Shows ShowsRead =
+    (file : List ℕ) (layout : LayoutView) (text : List ℕ) → AreBytes file → HasLayout file layout
+    → ShowsRead (stable file) layout text → Shows file text
+
+-- of a file that is known, the fault of what reads gave is the fault of the file
+abbrev pub RefusesKnown : {A : Type 0} → (List ℕ → RunFault A → Type 0)
+    → (Bytes → LayoutView → RunFault A → Type 0) → Type 0
+RefusesKnown {A = A} Refuses RefusesRead =
+    (file : List ℕ) (layout : LayoutView) (fault : RunFault A) → AreBytes file
+    → HasLayout file layout → RefusesRead (stable file) layout fault → Refuses file fault
+
+-- the first fault of its container is the fault of the file
+abbrev pub RefusesUnlaid : {A : Type 0} → (List ℕ → RunFault A → Type 0) → Type 0
+RefusesUnlaid Refuses =
+    (file : List ℕ) (fault : MsfFault) → AreBytes file
+    → first_failing (layout_checks file) ≡ Some fault → Refuses file (Pdb (Msf fault))
 
 -- ---- a file that is read by position, and whole where a read by position fails
 

@@ -7,7 +7,7 @@ use Rattle.cv_leaves.specs.Place.{HasPlaces, IsChecked}
 use Rattle.cv_leaves.specs.declared.fault.LeafFault.{LeafFault}
 use Rattle.byte_io.specs.At.{Bytes}
 use Rattle.msf_blocks.specs.Layout.{LayoutView}
-use Rattle.pdb_merge.specs.Read.{RecordsWereRead, HasTypeRecords}
+use Rattle.file_types.specs.Read.{RecordsWereRead, HasTypeRecords}
 use Rattle.command_texts.specs.Types.{type_line}
 use Rattle.pdb_commands.specs.Records.{RefusesRecords, RefusesRecordsRead}
 use Rattle.pdb_commands.specs.declared.fault.RunFault.{RunFault}

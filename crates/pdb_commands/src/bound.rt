@@ -1,10 +1,8 @@
 //! A limit on the directory and on a stream of a file.
 
-ghost use Rattle.std.specs.Prelude.{◌≡◌, ◌⊎◌, ℕ, List, OnOk, IfErr};
-ghost use Rattle.byte_fields.specs.Bytes.{AreBytes};
+ghost use Rattle.std.specs.Prelude.{◌≡◌, ◌⊎◌, OnOk, IfErr};
 ghost use Rattle.byte_io.specs.At.{Breaks, IfKnown, IfOf};
-ghost use Rattle.msf_blocks.specs.Layout.{HasLayout};
-ghost use Rattle.pdb_commands.specs.Shown.{HasLongPart, HasLongStream, ListsLongStream, MayRunOut};
+ghost use Rattle.pdb_commands.specs.Shown.{HasLongPart, ListsLongStream, MayRunOut};
 
 use crate::fault::RunFault;
 use byte_io::{AtFault, ReadAt};
@@ -22,10 +20,6 @@ pub(crate) fn check_size<L: Allocator, A: Allocator>(
     stream: u32,
     limit: u32,
 ) -> Result<(), RunFault<A>>
-    ensures value { (file : List ℕ) → AreBytes file → HasLayout file layout.now →
-        OnOk result (HasLongStream limit stream file → ⊥) }
-    ensures first { (file : List ℕ) → HasLayout file layout.now →
-        IfErr result (λ fault. HasLongStream limit stream file) }
     ensures short { OnOk result (ListsLongStream limit stream layout.now → ⊥) }
     ensures long { IfErr result (λ _. ListsLongStream limit stream layout.now) }
     ensures own { IfErr result (λ fault. fault ≡ RunFault.TooLong) }

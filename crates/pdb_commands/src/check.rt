@@ -1,25 +1,24 @@
 //! The command `check`: whether the types of a file can be trusted.
 
-ghost use Rattle.std.specs.Prelude.{◌≡◌, ℕ, List, IfOk, IfErr, string_bytes};
+ghost use Rattle.std.specs.Prelude.{◌≡◌, IfOk, IfErr, string_bytes};
 ghost use Rattle.byte_io.specs.At.{Bytes};
 ghost use Rattle.msf_blocks.specs.Layout.{LayoutView};
+ghost use Rattle.pdb_commands.specs.Known.{checked_shown, check_refused};
 ghost use Rattle.pdb_commands.specs.Check.{ShowsChecked, ShowsCheckedRead, RefusesCheck, RefusesCheckRead};
 ghost use Rattle.pdb_commands.specs.Show.{Answers};
-ghost use Rattle.pdb_merge.specs.Read.{IsAccepted, TypesWereRead};
+ghost use Rattle.file_types.specs.Read.{TypesWereRead};
 
-use crate::command::{Show, ShowAt, run};
+use crate::command::{Show, run};
 use crate::fault::RunFault;
 use byte_io::{AtFault, ReadAt, Sink, Source};
 use checked_types::Types;
 use command_texts::push_checked;
-use msf_blocks::{Layout, MsfFault};
-use pdb_merge::{Buffer, PdbFault, read_types_of};
+use msf_blocks::Layout;
+use file_types::{Buffer, read_types_of};
 use std::alloc::Allocator;
 
 /// The text of types.
 fn types_text<A: Allocator + Copy>(alloc: A, types: &Types<'_, A>) -> Result<String<A>, RunFault<A>>
-    ensures value { IfOk result (λ text.
-        (file : List ℕ) → IsAccepted file types.now → ShowsChecked file (string_bytes text)) }
     ensures texts { IfOk result (λ text.
         (bytes : Bytes) (layout : LayoutView) → TypesWereRead bytes layout types.now →
         ShowsCheckedRead bytes layout (string_bytes text)) }
@@ -37,22 +36,16 @@ fn types_text<A: Allocator + Copy>(alloc: A, types: &Types<'_, A>) -> Result<Str
 
 /// The command `check`.
 #[derive(Clone, Copy, Debug)]
-pub(crate) struct Check;
+pub(crate) struct ShowCheck;
 
-impl<A: Allocator + Copy> Show<A> for Check {
+impl<A: Allocator + Copy> Show<A> for ShowCheck {
     ghost shows = { λ _. ShowsChecked };
 
     ghost refuses = { λ _. RefusesCheck };
-}
 
-impl<A: Allocator + Copy> ShowAt<A> for Check {
     ghost shows_read = { λ _. ShowsCheckedRead };
 
     ghost refuses_read = { λ _. RefusesCheckRead };
-
-    fn refuse_layout(&self, fault: MsfFault) -> RunFault<A> {
-        RunFault::from(PdbFault::from(fault))
-    }
 
     fn text_of<R: ReadAt>(
         &self,
@@ -68,6 +61,12 @@ impl<A: Allocator + Copy> ShowAt<A> for Check {
         };
         Ok(types_text(alloc, &types)?)
     }
+
+    ghost shows_known = { λ _. checked_shown };
+
+    ghost refuses_known = { λ _. check_refused };
+
+    ghost refuses_layout = { λ _ _ _ _ first. first };
 }
 
 /// Runs the command `check`: writes that the file is accepted, how many type records it has, how
@@ -87,5 +86,5 @@ pub fn run_check<R: Source, W: Sink, A: Allocator + Copy>(
     ensures { Answers ShowsChecked RefusesCheck limit (R.left input.old) (R.left input.new)
         (R.is_broken input.new) W.taken W.is_broken out.old out.new result }
 {
-    run(alloc, &Check, input, limit, out)
+    run(alloc, &ShowCheck, input, limit, out)
 }

@@ -2,45 +2,33 @@
 
 ghost use Rattle.std.specs.Prelude.{◌≡◌, ◌⊎◌, ℕ, List, IfOk, IfErr, string_bytes};
 ghost use Rattle.byte_fields.specs.Bytes.{AreBytes};
-ghost use Rattle.byte_fields.specs.Check.{Refuses, first_failing};
 ghost use Rattle.byte_io.specs.At.{Breaks, Bytes, IfKnown, IfOf};
-ghost use Rattle.msf_blocks.specs.Layout.{HasLayout, TextsRefuse, layout_checks};
+ghost use Rattle.msf_blocks.specs.Layout.{HasLayout};
 ghost use Rattle.pdb_commands.specs.Show.{Answers, AnswersAt, IsOfText, IsOfTexts, IsFaultOfTexts, RefusesBounded, ShowsBounded};
-ghost use Rattle.pdb_commands.specs.Streams.{RefusesLayout};
 ghost use Rattle.pdb_commands.specs.declared.fault.RunFault.{RunFault};
 
 use crate::fault::RunFault;
 use byte_io::{AtFault, ReadAt, ReadFault, Sink, Source, put_all, read_all};
-use msf_blocks::{Layout, MsfFault, WithinFault};
+use msf_blocks::{Layout, WithinFault};
+use file_types::PdbFault;
 use std::alloc::Allocator;
 
-/// What a command that shows a file prints and refuses.
+/// A command that shows a file, and reads by position only the parts of it that it needs.
 pub trait Show<A: Allocator + Copy> {
+    ghost use Rattle.msf_blocks.specs.Layout.{LayoutView};
+    ghost use Rattle.pdb_commands.specs.Show.{RefusesKnown, RefusesUnlaid, ShowsKnown};
+
     /// The command prints this text for this file.
     ghost shows: { Self → List ℕ → List ℕ → Type 0 };
 
     /// The command refuses this file with this fault, which is the first that it meets.
     ghost refuses: { Self → List ℕ → RunFault A → Type 0 };
-}
-
-/// A command that shows a file, and reads by position only the parts of it that it needs.
-pub trait ShowAt<A: Allocator + Copy>: Show<A> {
-    ghost use Rattle.msf_blocks.specs.Layout.{LayoutView, HasLayout};
 
     /// The command prints this text of what reads gave of this layout.
     ghost shows_read: { Self → Bytes → LayoutView → List ℕ → Type 0 };
 
     /// The command refuses what reads gave of this layout with this fault.
     ghost refuses_read: { Self → Bytes → LayoutView → RunFault A → Type 0 };
-
-    /// The fault of the command for a file whose container has this fault.
-    fn refuse_layout(&self, fault: MsfFault) -> RunFault<A>
-        ensures first { (file : List ℕ) → AreBytes file →
-            Refuses MsfFault.Memory (first_failing (layout_checks file)) fault →
-            Self.refuses self.now file result ⊎ (result ≡ RunFault.Memory) }
-        ensures refused { (bytes : Bytes) → TextsRefuse bytes fault →
-            RefusesLayout bytes result ⊎ (result ≡ RunFault.Memory) }
-        ensures pure { IsOfText result };
 
     /// Makes the whole text of a file with this layout.
     fn text_of<R: ReadAt>(
@@ -51,23 +39,28 @@ pub trait ShowAt<A: Allocator + Copy>: Show<A> {
     ) -> Result<String<A>, AtFault<RunFault<A>>>
         requires bytes { IfKnown (R.bytes input.old) AreBytes }
         requires layout { IfKnown (R.bytes input.old) (λ file. HasLayout file layout.now) }
-        ensures value { IfOk result (λ text.
-            IfKnown (R.bytes input.old) (λ file. Self.shows self.now file (string_bytes text))) }
         ensures texts { IfOk result (λ text.
             shows_read self.now (R.bytes input.old) layout.now (string_bytes text)) }
-        ensures first { IfErr result (IfOf (λ fault. IfKnown (R.bytes input.old) (λ file.
-            Self.refuses self.now file fault ⊎ (fault ≡ RunFault.Memory)))) }
         ensures refused { IfErr result (IfOf (λ fault.
             refuses_read self.now (R.bytes input.old) layout.now fault
             ⊎ (fault ≡ RunFault.Memory))) }
         ensures pure { IfErr result (IfOf IsOfText) }
         ensures read { IfErr result (λ fault.
             fault ≡ AtFault.Read → Breaks (R.bytes input.old) (R.is_broken input.new)) };
+
+    /// Of a file that is known, the text of what reads gave is the text that shows the file.
+    ghost shows_known: { (command : Self) → ShowsKnown (shows command) (shows_read command) };
+
+    /// Of a file that is known, the fault of what reads gave is the fault of the file.
+    ghost refuses_known: { (command : Self) → RefusesKnown (refuses command) (refuses_read command) };
+
+    /// The first fault of its container is the fault of the file.
+    ghost refuses_layout: { (command : Self) → RefusesUnlaid (refuses command) };
 }
 
 /// Makes the whole text of a file that is read by position. Its layout is read once, and its
 /// directory may have at most `limit` bytes.
-fn text_at<C: ShowAt<A>, R: ReadAt, A: Allocator + Copy>(
+fn text_at<C: Show<A>, R: ReadAt, A: Allocator + Copy>(
     alloc: A,
     command: &C,
     input: &mut R,
@@ -90,7 +83,7 @@ fn text_at<C: ShowAt<A>, R: ReadAt, A: Allocator + Copy>(
         Ok(layout) => layout,
         Err(AtFault::Of(WithinFault::TooLong)) => return Err(AtFault::Of(RunFault::TooLong)),
         Err(AtFault::Of(WithinFault::Of(fault))) => {
-            return Err(AtFault::Of(command.refuse_layout(fault)));
+            return Err(AtFault::Of(RunFault::from(PdbFault::from(fault))));
         }
         Err(AtFault::Read) => return Err(AtFault::Read),
     };
@@ -106,7 +99,7 @@ fn text_at<C: ShowAt<A>, R: ReadAt, A: Allocator + Copy>(
 /// `Read` where a read failed; and `Write`, where the sink did not take the whole text. After
 /// `Write` the sink is broken and took the first bytes of the text. After any other fault it took
 /// nothing.
-pub fn run_at<C: ShowAt<A>, R: ReadAt, W: Sink, A: Allocator + Copy>(
+pub fn run_at<C: Show<A>, R: ReadAt, W: Sink, A: Allocator + Copy>(
     alloc: A,
     command: &C,
     input: &mut R,
@@ -131,7 +124,7 @@ pub fn run_at<C: ShowAt<A>, R: ReadAt, W: Sink, A: Allocator + Copy>(
 }
 
 /// Makes the whole text of a file in memory, whose directory may have at most `bound` bytes.
-fn text_in<C: ShowAt<A>, A: Allocator + Copy>(
+fn text_in<C: Show<A>, A: Allocator + Copy>(
     alloc: A,
     command: &C,
     file: &[u8],
@@ -159,7 +152,7 @@ fn text_in<C: ShowAt<A>, A: Allocator + Copy>(
 /// if it says that the directory has more bytes; those of the command for this file; and `Write`,
 /// where the sink did not take the whole text. After `Write` the sink is broken and took the first
 /// bytes of the text. After any other fault it took nothing.
-pub fn run_bounded<C: ShowAt<A>, R: Source, W: Sink, A: Allocator + Copy>(
+pub fn run_bounded<C: Show<A>, R: Source, W: Sink, A: Allocator + Copy>(
     alloc: A,
     command: &C,
     input: &mut R,
@@ -178,7 +171,7 @@ pub fn run_bounded<C: ShowAt<A>, R: Source, W: Sink, A: Allocator + Copy>(
 }
 
 /// Runs a command, as [`run_bounded`] does, with no limit on the directory.
-pub fn run<C: ShowAt<A>, R: Source, W: Sink, A: Allocator + Copy>(
+pub fn run<C: Show<A>, R: Source, W: Sink, A: Allocator + Copy>(
     alloc: A,
     command: &C,
     input: &mut R,

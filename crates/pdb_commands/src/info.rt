@@ -1,20 +1,21 @@
 //! The command `info`: what identifies a file.
 
-ghost use Rattle.std.specs.Prelude.{◌≡◌, ◌⊎◌, Some, OnOk, IfOk, IfErr, string_bytes};
+ghost use Rattle.std.specs.Prelude.{◌≡◌, ◌⊎◌, OnOk, IfOk, IfErr, string_bytes};
 ghost use Rattle.byte_io.specs.At.{Breaks, IfKnown, IfOf};
-ghost use Rattle.msf_blocks.specs.Layout.{LayoutView, HasLayout};
-ghost use Rattle.msf_streams.specs.Streams.{WasRead, stream_contents};
+ghost use Rattle.msf_blocks.specs.Layout.{HasLayout};
+ghost use Rattle.msf_streams.specs.Streams.{WasRead};
+ghost use Rattle.pdb_commands.specs.Known.{info_shown, info_refused};
 ghost use Rattle.pdb_commands.specs.Show.{Answers};
-ghost use Rattle.pdb_commands.specs.Info.{ShowsInfo, ShowsInfoRead, ShowsInfoWithin, RefusesInfo, RefusesInfoRead, RefusesInfoWithin, HasLongNames, HasNoInfoStream, HasNoInfoStreamRead, HasShortNames, IsInfoFault, IsInfoText};
+ghost use Rattle.pdb_commands.specs.Info.{ShowsInfo, ShowsInfoRead, ShowsInfoWithin, RefusesInfo, RefusesInfoRead, RefusesInfoWithin, HasLongNames, HasNoInfoStreamRead, HasShortNames, IsInfoFault, IsInfoText};
 
-use crate::command::{Show, ShowAt, run};
+use crate::command::{Show, run};
 use crate::fault::RunFault;
 use byte_io::{AtFault, ReadAt, Sink, Source};
 use command_texts::{push_features, push_info_header, push_names};
-use msf_blocks::{Layout, MsfFault};
+use msf_blocks::Layout;
 use msf_streams::gather_at;
 use pdb_info::{info_stream, names_length};
-use pdb_merge::PdbFault;
+use file_types::PdbFault;
 use std::alloc::Allocator;
 
 /// Reads stream 1 of a file with this layout by position into the buffer.
@@ -24,12 +25,7 @@ fn stream_bytes_of<R: ReadAt, L: Allocator, A: Allocator>(
     buffer: &mut Vec<u8, A>,
 ) -> Result<(), AtFault<PdbFault<A>>>
     requires { IfKnown (R.bytes input.old) (λ file. HasLayout file layout.now) }
-    ensures value { OnOk result (IfKnown (R.bytes input.old) (λ file.
-        (layout : LayoutView) × HasLayout file layout
-        × (stream_contents file layout 1 ≡ Some buffer.new.items))) }
     ensures texts { OnOk result (WasRead (R.bytes input.old) layout.now 1 buffer.new.items) }
-    ensures first { IfErr result (IfOf (λ fault. IfKnown (R.bytes input.old) (λ file.
-        HasNoInfoStream file fault ⊎ (fault ≡ PdbFault.Memory)))) }
     ensures refused { IfErr result
         (IfOf (λ fault. HasNoInfoStreamRead layout.now fault ⊎ (fault ≡ PdbFault.Memory))) }
     ensures read { IfErr result (λ fault.
@@ -87,24 +83,18 @@ fn stream_text<A: Allocator + Copy>(
 
 /// The command `info`, and how many bytes the names may have together.
 #[derive(Clone, Copy, Debug)]
-pub(crate) struct Info {
+pub(crate) struct ShowInfo {
     pub(crate) limit: u32,
 }
 
-impl<A: Allocator + Copy> Show<A> for Info {
-    ghost shows = { λ s. ShowsInfoWithin s.limit };
+impl<A: Allocator + Copy> Show<A> for ShowInfo {
+    ghost shows = { λ c. ShowsInfoWithin c.limit };
 
-    ghost refuses = { λ s. RefusesInfoWithin s.limit };
-}
+    ghost refuses = { λ c. RefusesInfoWithin c.limit };
 
-impl<A: Allocator + Copy> ShowAt<A> for Info {
-    ghost shows_read = { λ s. ShowsInfoRead s.limit };
+    ghost shows_read = { λ c. ShowsInfoRead c.limit };
 
-    ghost refuses_read = { λ s. RefusesInfoRead s.limit };
-
-    fn refuse_layout(&self, fault: MsfFault) -> RunFault<A> {
-        RunFault::from(PdbFault::from(fault))
-    }
+    ghost refuses_read = { λ c. RefusesInfoRead c.limit };
 
     fn text_of<R: ReadAt>(
         &self,
@@ -121,6 +111,12 @@ impl<A: Allocator + Copy> ShowAt<A> for Info {
         let text = stream_text(alloc, &buffer, self.limit)?;
         Ok(text)
     }
+
+    ghost shows_known = { λ c. info_shown c.limit };
+
+    ghost refuses_known = { λ c. info_refused c.limit };
+
+    ghost refuses_layout = { λ _ _ _ _ first. first };
 }
 
 /// Runs the command `info`: writes the version, the signature, the age and the GUID, each on a
@@ -139,5 +135,5 @@ pub fn run_info<R: Source, W: Sink, A: Allocator + Copy>(
     ensures { Answers ShowsInfo RefusesInfo limit (R.left input.old) (R.left input.new)
         (R.is_broken input.new) W.taken W.is_broken out.old out.new result }
 {
-    run(alloc, &Info { limit: u32::MAX }, input, limit, out)
+    run(alloc, &ShowInfo { limit: u32::MAX }, input, limit, out)
 }

@@ -1,19 +1,20 @@
 //! The command `record`: one type record of a file, with the types that it names.
 
-ghost use Rattle.std.specs.Prelude.{◌≡◌, ◌≤◌, ◌^◌, ◌⊎◌, List, ℕ, IfOk, IfErr, IfSome, option_map, string_bytes, length};
+ghost use Rattle.std.specs.Prelude.{◌≡◌, ◌≤◌, ◌^◌, ◌⊎◌, IfOk, IfErr, IfSome, option_map, string_bytes, length};
 ghost use Rattle.byte_io.specs.At.{Bytes};
 ghost use Rattle.msf_blocks.specs.Layout.{LayoutView};
+ghost use Rattle.pdb_commands.specs.Known.{record_shown, record_refused};
 ghost use Rattle.pdb_commands.specs.Record.{ShowsRecord, ShowsRecordRead, RefusesRecord, RefusesRecordRead, record_of};
 ghost use Rattle.pdb_commands.specs.Show.{Answers, IsOfText};
-ghost use Rattle.pdb_merge.specs.Read.{HasTypeRecords, RecordsWereRead};
+ghost use Rattle.file_types.specs.Read.{RecordsWereRead};
 
-use crate::command::{Show, ShowAt, run};
+use crate::command::{Show, run};
 use crate::fault::RunFault;
 use byte_io::{AtFault, ReadAt, Sink, Source};
 use command_texts::record_text;
 use cv_leaves::check;
-use msf_blocks::{Layout, MsfFault};
-use pdb_merge::{Buffer, PdbFault, read_records_of};
+use msf_blocks::Layout;
+use file_types::{Buffer, read_records_of};
 use std::alloc::Allocator;
 use tpi_records::{FIRST_INDEX, Records};
 
@@ -33,15 +34,9 @@ fn indexed_text<A: Allocator + Copy>(
     records: &Records<'_, A>,
     index: u32,
 ) -> Result<String<A>, RunFault<A>>
-    ensures value { IfOk result (λ text.
-        (file : List ℕ) → HasTypeRecords file records.now →
-        ShowsRecord index file (string_bytes text)) }
     ensures texts { IfOk result (λ text.
         (bytes : Bytes) (layout : LayoutView) → RecordsWereRead bytes layout records.now →
         ShowsRecordRead index bytes layout (string_bytes text)) }
-    ensures first { IfErr result (λ fault.
-        (file : List ℕ) → HasTypeRecords file records.now →
-        RefusesRecord index file fault ⊎ (fault ≡ RunFault.Memory)) }
     ensures refused { IfErr result (λ fault.
         (bytes : Bytes) (layout : LayoutView) → RecordsWereRead bytes layout records.now →
         RefusesRecordRead index bytes layout fault ⊎ (fault ≡ RunFault.Memory)) }
@@ -58,24 +53,18 @@ fn indexed_text<A: Allocator + Copy>(
 
 /// The command `record`.
 #[derive(Clone, Copy, Debug)]
-pub(crate) struct Record {
+pub(crate) struct ShowRecord {
     pub(crate) index: u32,
 }
 
-impl<A: Allocator + Copy> Show<A> for Record {
+impl<A: Allocator + Copy> Show<A> for ShowRecord {
     ghost shows = { λ c. ShowsRecord c.index };
 
     ghost refuses = { λ c. RefusesRecord c.index };
-}
 
-impl<A: Allocator + Copy> ShowAt<A> for Record {
     ghost shows_read = { λ c. ShowsRecordRead c.index };
 
     ghost refuses_read = { λ c. RefusesRecordRead c.index };
-
-    fn refuse_layout(&self, fault: MsfFault) -> RunFault<A> {
-        RunFault::from(PdbFault::from(fault))
-    }
 
     fn text_of<R: ReadAt>(
         &self,
@@ -94,6 +83,12 @@ impl<A: Allocator + Copy> ShowAt<A> for Record {
             Err(fault) => Err(AtFault::Of(fault)),
         }
     }
+
+    ghost shows_known = { λ c. record_shown c.index };
+
+    ghost refuses_known = { λ c. record_refused c.index };
+
+    ghost refuses_layout = { λ _ _ _ _ first. first };
 }
 
 /// Runs the command `record`: writes the record that has the type index `index`. The first line has
@@ -113,5 +108,5 @@ pub fn run_record<R: Source, W: Sink, A: Allocator + Copy>(
     ensures { Answers (ShowsRecord index) (RefusesRecord index) limit (R.left input.old)
         (R.left input.new) (R.is_broken input.new) W.taken W.is_broken out.old out.new result }
 {
-    run(alloc, &Record { index }, input, limit, out)
+    run(alloc, &ShowRecord { index }, input, limit, out)
 }

@@ -1,34 +1,29 @@
 //! The command `records`: a line for each type record of a file.
 
+ghost use Rattle.pdb_commands.specs.Known.{records_shown, records_refused};
 ghost use Rattle.pdb_commands.specs.Records.{ShowsRecords, ShowsRecordsRead, RefusesRecords, RefusesRecordsRead};
 ghost use Rattle.pdb_commands.specs.Show.{Answers};
 
-use crate::command::{Show, ShowAt, run};
+use crate::command::{Show, run};
 use crate::fault::RunFault;
 use byte_io::{AtFault, ReadAt, Sink, Source};
 use command_texts::record_lines;
-use msf_blocks::{Layout, MsfFault};
-use pdb_merge::{Buffer, PdbFault, read_records_of};
+use msf_blocks::Layout;
+use file_types::{Buffer, read_records_of};
 use std::alloc::Allocator;
 
 /// The command `records`.
 #[derive(Clone, Copy, Debug)]
-pub(crate) struct Records;
+pub(crate) struct ShowRecords;
 
-impl<A: Allocator + Copy> Show<A> for Records {
+impl<A: Allocator + Copy> Show<A> for ShowRecords {
     ghost shows = { λ _. ShowsRecords };
 
     ghost refuses = { λ _. RefusesRecords };
-}
 
-impl<A: Allocator + Copy> ShowAt<A> for Records {
     ghost shows_read = { λ _. ShowsRecordsRead };
 
     ghost refuses_read = { λ _. RefusesRecordsRead };
-
-    fn refuse_layout(&self, fault: MsfFault) -> RunFault<A> {
-        RunFault::from(PdbFault::from(fault))
-    }
 
     fn text_of<R: ReadAt>(
         &self,
@@ -47,6 +42,12 @@ impl<A: Allocator + Copy> ShowAt<A> for Records {
             Err(_) => Err(AtFault::Of(RunFault::Memory)),
         }
     }
+
+    ghost shows_known = { λ _. records_shown };
+
+    ghost refuses_known = { λ _. records_refused };
+
+    ghost refuses_layout = { λ _ _ _ _ first. first };
 }
 
 /// Runs the command `records`: writes a line for each type record, with its type index, its kind
@@ -64,5 +65,5 @@ pub fn run_records<R: Source, W: Sink, A: Allocator + Copy>(
     ensures { Answers ShowsRecords RefusesRecords limit (R.left input.old) (R.left input.new)
         (R.is_broken input.new) W.taken W.is_broken out.old out.new result }
 {
-    run(alloc, &Records, input, limit, out)
+    run(alloc, &ShowRecords, input, limit, out)
 }

@@ -1,24 +1,25 @@
 //! The commands that show a file, with a limit on what they read.
 
-ghost use Rattle.std.specs.Prelude.{◌≡◌, ◌⊎◌, ℕ, List, true, false, Err, OnOk, IfErr};
+ghost use Rattle.std.specs.Prelude.{◌≡◌, ◌⊎◌, true, false, Err, OnOk, IfOk, IfErr, string_bytes};
 ghost use Rattle.byte_fields.specs.Bytes.{AreBytes};
+ghost use Rattle.byte_io.specs.At.{Breaks, IfKnown, IfOf};
 ghost use Rattle.msf_blocks.specs.Layout.{HasLayout};
-ghost use Rattle.pdb_commands.specs.Show.{Answers, AnswersAt, IsByPosition, IsByWhole, RefusesBounded, ShowsBounded};
-ghost use Rattle.pdb_commands.specs.Shown.{ShowsWithin, ShowsWithinRead, RefusesWithin, RefusesWithinRead, stream_of, ReadsTooLong, ListsTooLong};
+ghost use Rattle.pdb_commands.specs.Known.{within_refused, within_shown, within_unlaid};
+ghost use Rattle.pdb_commands.specs.Show.{Answers, AnswersAt, IsByPosition, IsByWhole, IsOfText, RefusesBounded, ShowsBounded};
+ghost use Rattle.pdb_commands.specs.Shown.{ListsTooLong, RefusesItRead, RefusesWithin, RefusesWithinRead, ShowsItRead, ShowsWithin, ShowsWithinRead, stream_of};
 
 use crate::bound::{TPI_STREAM, check_size};
-use crate::check::Check;
-use crate::command::{Show, ShowAt, run_at, run_bounded};
+use crate::check::ShowCheck;
+use crate::command::{Show, run_at, run_bounded};
 use crate::fault::RunFault;
-use crate::info::Info;
-use crate::record::Record;
-use crate::records::Records;
-use crate::streams::Streams;
-use crate::types::Types;
+use crate::info::ShowInfo;
+use crate::record::ShowRecord;
+use crate::records::ShowRecords;
+use crate::streams::ShowStreams;
+use crate::types::ShowTypes;
 use byte_io::{AtFault, ReadAt, ReadFault, Sink, Source};
-use msf_blocks::{Layout, MsfFault};
+use msf_blocks::Layout;
 use pdb_info::INFO_STREAM;
-use pdb_merge::PdbFault;
 use std::alloc::Allocator;
 
 /// A command that shows a file.
@@ -44,9 +45,9 @@ impl Shown {
         ensures { result ≡ stream_of self }
     {
         match self {
+            Shown::Records | Shown::Record(_) | Shown::Types | Shown::Check => Some(TPI_STREAM),
             Shown::Info => Some(INFO_STREAM),
             Shown::Streams => None,
-            _ => Some(TPI_STREAM),
         }
     }
 }
@@ -65,10 +66,6 @@ impl Within {
         &self,
         layout: &Layout<L>,
     ) -> Result<(), RunFault<A>>
-        ensures value { (file : List ℕ) → AreBytes file → HasLayout file layout.now →
-            OnOk result (ReadsTooLong self.now.command self.now.limit file → ⊥) }
-        ensures first { (file : List ℕ) → HasLayout file layout.now →
-            IfErr result (λ fault. ReadsTooLong self.now.command self.now.limit file) }
         ensures short { OnOk result (ListsTooLong self.now.command self.now.limit layout.now → ⊥) }
         ensures long { IfErr result (λ _. ListsTooLong self.now.command self.now.limit layout.now) }
         ensures own { IfErr result (λ fault. fault ≡ RunFault.TooLong) }
@@ -78,22 +75,44 @@ impl Within {
             None => Ok(()),
         }
     }
+
+    /// Makes the whole text of a file with this layout, whose stream was checked.
+    fn checked_text<R: ReadAt, A: Allocator + Copy>(
+        &self,
+        alloc: A,
+        input: &mut R,
+        layout: &Layout<A>,
+    ) -> Result<String<A>, AtFault<RunFault<A>>>
+        requires bytes { IfKnown (R.bytes input.old) AreBytes }
+        requires layout { IfKnown (R.bytes input.old) (λ file. HasLayout file layout.now) }
+        ensures texts { IfOk result (λ text. ShowsItRead self.now.command self.now.limit
+            (R.bytes input.old) layout.now (string_bytes text)) }
+        ensures refused { IfErr result (IfOf (λ fault.
+            RefusesItRead self.now.command self.now.limit (R.bytes input.old) layout.now fault
+            ⊎ (fault ≡ RunFault.Memory))) }
+        ensures pure { IfErr result (IfOf IsOfText) }
+        ensures read { IfErr result (λ fault.
+            fault ≡ AtFault.Read → Breaks (R.bytes input.old) (R.is_broken input.new)) }
+    {
+        match self.command {
+            Shown::Records => ShowRecords.text_of(alloc, input, layout),
+            Shown::Record(index) => ShowRecord { index }.text_of(alloc, input, layout),
+            Shown::Types => ShowTypes.text_of(alloc, input, layout),
+            Shown::Check => ShowCheck.text_of(alloc, input, layout),
+            Shown::Info => ShowInfo { limit: self.limit }.text_of(alloc, input, layout),
+            Shown::Streams => ShowStreams.text_of(alloc, input, layout),
+        }
+    }
 }
 
 impl<A: Allocator + Copy> Show<A> for Within {
-    ghost shows = { λ s. ShowsWithin s.command s.limit };
+    ghost shows = { λ c. ShowsWithin c.command c.limit };
 
-    ghost refuses = { λ s. RefusesWithin s.command s.limit };
-}
+    ghost refuses = { λ c. RefusesWithin c.command c.limit };
 
-impl<A: Allocator + Copy> ShowAt<A> for Within {
-    ghost shows_read = { λ s. ShowsWithinRead s.command s.limit };
+    ghost shows_read = { λ c. ShowsWithinRead c.command c.limit };
 
-    ghost refuses_read = { λ s. RefusesWithinRead s.command s.limit };
-
-    fn refuse_layout(&self, fault: MsfFault) -> RunFault<A> {
-        RunFault::from(PdbFault::from(fault))
-    }
+    ghost refuses_read = { λ c. RefusesWithinRead c.command c.limit };
 
     fn text_of<R: ReadAt>(
         &self,
@@ -102,15 +121,14 @@ impl<A: Allocator + Copy> ShowAt<A> for Within {
         layout: &Layout<A>,
     ) -> Result<String<A>, AtFault<RunFault<A>>> {
         self.check_layout(layout)?;
-        match self.command {
-            Shown::Records => Records.text_of(alloc, input, layout),
-            Shown::Record(index) => Record { index }.text_of(alloc, input, layout),
-            Shown::Types => Types.text_of(alloc, input, layout),
-            Shown::Check => Check.text_of(alloc, input, layout),
-            Shown::Info => Info { limit: self.limit }.text_of(alloc, input, layout),
-            Shown::Streams => Streams.text_of(alloc, input, layout),
-        }
+        self.checked_text(alloc, input, layout)
     }
+
+    ghost shows_known = { λ c. within_shown c.command c.limit };
+
+    ghost refuses_known = { λ c. within_refused c.command c.limit };
+
+    ghost refuses_layout = { λ c. within_unlaid c.command c.limit };
 }
 
 /// Runs a command that shows a file, as the command's own call does, with more limits.

@@ -6,17 +6,18 @@ ghost use Rattle.tpi_records.specs.Records.{IsRecord};
 ghost use Rattle.cv_leaves.specs.Checks.{record_checks};
 ghost use Rattle.cv_leaves.specs.Place.{HasPlaces};
 ghost use Rattle.cv_leaves.specs.declared.fault.LeafFault.{LeafFault};
+ghost use Rattle.pdb_commands.specs.Known.{types_shown, types_refused};
 ghost use Rattle.pdb_commands.specs.Show.{Answers};
 ghost use Rattle.pdb_commands.specs.Types.{ShowsTypes, ShowsTypesRead, RefusesTypes, RefusesTypesRead, AreTypeLines, HasLeafFault};
 ghost use Rattle.command_texts.specs.Types.{type_line};
 
-use crate::command::{Show, ShowAt, run};
+use crate::command::{Show, run};
 use crate::fault::RunFault;
 use byte_io::{AtFault, ReadAt, Sink, Source};
 use command_texts::push_type_line;
 use cv_leaves::check;
-use msf_blocks::{Layout, MsfFault};
-use pdb_merge::{Buffer, PdbFault, read_records_of};
+use msf_blocks::Layout;
+use file_types::{Buffer, read_records_of};
 use std::alloc::Allocator;
 use tpi_records::{FIRST_INDEX, Records};
 
@@ -64,22 +65,16 @@ fn type_lines<A: Allocator + Copy>(
 
 /// The command `types`.
 #[derive(Clone, Copy, Debug)]
-pub(crate) struct Types;
+pub(crate) struct ShowTypes;
 
-impl<A: Allocator + Copy> Show<A> for Types {
+impl<A: Allocator + Copy> Show<A> for ShowTypes {
     ghost shows = { λ _. ShowsTypes };
 
     ghost refuses = { λ _. RefusesTypes };
-}
 
-impl<A: Allocator + Copy> ShowAt<A> for Types {
     ghost shows_read = { λ _. ShowsTypesRead };
 
     ghost refuses_read = { λ _. RefusesTypesRead };
-
-    fn refuse_layout(&self, fault: MsfFault) -> RunFault<A> {
-        RunFault::from(PdbFault::from(fault))
-    }
 
     fn text_of<R: ReadAt>(
         &self,
@@ -98,6 +93,12 @@ impl<A: Allocator + Copy> ShowAt<A> for Types {
             Err(fault) => Err(AtFault::Of(fault)),
         }
     }
+
+    ghost shows_known = { λ _. types_shown };
+
+    ghost refuses_known = { λ _. types_refused };
+
+    ghost refuses_layout = { λ _ _ _ _ first. first };
 }
 
 /// Runs the command `types`: writes a line for each type record. The line has the record's type
@@ -116,5 +117,5 @@ pub fn run_types<R: Source, W: Sink, A: Allocator + Copy>(
     ensures { Answers ShowsTypes RefusesTypes limit (R.left input.old) (R.left input.new)
         (R.is_broken input.new) W.taken W.is_broken out.old out.new result }
 {
-    run(alloc, &Types, input, limit, out)
+    run(alloc, &ShowTypes, input, limit, out)
 }

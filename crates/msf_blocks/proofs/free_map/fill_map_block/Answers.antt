@@ -10,5 +10,5 @@ returns c =
     let b = c.args.block_size in
     let k = c.args.k in
     let here : nat_eq (k % b) 1 ≡ true = grind (arith, nat_tests, c.if-k-block_size-ne1.false) in
-    rw here (fill_by_all (λ (i : ℕ). map_byte c.args.num_blocks (8 * (b * (k / b) + i))) c.loop-i.page b 0 c.loop-i.invariant.0
+    rw here (fill_by_all (λ (i : ℕ). map_byte c.args.num_blocks (8 * (b * (k / b) + i))) c.loop-i.map_block b 0 c.loop-i.invariant.0
     (λ j lt. c.loop-i.invariant.1 j (omega (arith, lt, c.loop-i-test.false, c.loop-i.invariant.0))))

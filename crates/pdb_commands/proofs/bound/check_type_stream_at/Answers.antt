@@ -1,9 +1,18 @@
 use Rattle.std.proofs.Common.{arith, inl, inr}
+use Rattle.msf_blocks.proofs.AtLayoutLaws.{short_directory}
+use Rattle.pdb_commands.specs.Known.{listed_long, long_listed}
 use Rattle.pdb_commands.proofs.BoundLaws.{no_long_part, sound_without_memory, unlaid}
 use Rattle.pdb_commands.proofs.bound.check_type_stream_at.Goals as goal
 
 pub returns-in-Ok-clause-first : goal.returns-in-Ok-clause-first
-returns-in-Ok-clause-first g c = inl (c.in-Err.ensures.own, λ file known. inr (c.in-Err.ensures.first file (c.in-Ok.ensures.value file known)))
+returns-in-Ok-clause-first g c = inl (c.in-Err.ensures.own, λ file known. inr (listed_long c.args.limit 2 file c.in-Ok.layout (c.in-Ok.ensures.value file known) c.in-Err.ensures.long))
+
+pub returns-in-Ok-check_size-clause-value : goal.returns-in-Ok-check_size-clause-value
+returns-in-Ok-check_size-clause-value g c = λ file known.
+    let layout = c.in-Ok.ensures in
+    let has = layout.value file known in
+    no_long_part c.args.limit 2 file (short_directory c.args.limit file c.in-Ok.layout.superblock has.superblock layout.short)
+    (λ long. c.in-Ok-check_size.ensures.short (long_listed c.args.limit 2 file c.in-Ok.layout (layout.small file known) has long))
 
 pub returns-in-Memory-clause-memory : goal.returns-in-Memory-clause-memory
 returns-in-Memory-clause-memory g c = λ same file known.
