@@ -1,7 +1,7 @@
 //! A limit on the directory and on a stream of a file.
 
 ghost use Rattle.std.specs.Prelude.{◌≡◌, ◌⊎◌, OnOk, IfErr};
-ghost use Rattle.byte_io.specs.At.{Breaks, IfKnown, IfOf};
+ghost use Rattle.byte_io.specs.At.{IfKnown, IfOf, Reads};
 ghost use Rattle.pdb_commands.specs.Shown.{HasLongPart, ListsLongStream, MayRunOut};
 
 use crate::fault::RunFault;
@@ -65,7 +65,6 @@ pub fn check_type_stream_at<R: ReadAt, A: Allocator + Copy>(
     input: &mut R,
     limit: u32,
 ) -> Result<(), AtFault<RunFault<A>>>
-    ensures keeps { R.bytes input.new ≡ R.bytes input.old }
     ensures value { OnOk result
         (IfKnown (R.bytes input.old) (λ file. HasLongPart limit 2 file → ⊥)) }
     ensures first { IfErr result (IfOf (λ fault.
@@ -73,8 +72,7 @@ pub fn check_type_stream_at<R: ReadAt, A: Allocator + Copy>(
         ⊎ (fault ≡ RunFault.Memory))) }
     ensures memory { IfErr result
         (IfOf (λ fault. fault ≡ RunFault.Memory → IfKnown (R.bytes input.old) (MayRunOut limit))) }
-    ensures read { IfErr result (λ fault.
-        fault ≡ AtFault.Read → Breaks (R.bytes input.old) (R.is_broken input.new)) }
+    ensures reads { Reads R.bytes R.is_broken input.old input.new result }
 {
     if limit == u32::MAX {
         return Ok(());

@@ -1,7 +1,7 @@
 //! The command `check`: whether the types of a file can be trusted.
 
 ghost use Rattle.std.specs.Prelude.{◌≡◌, IfOk, IfErr, string_bytes};
-ghost use Rattle.byte_io.specs.At.{Bytes};
+ghost use Rattle.byte_io.specs.At.{Bytes, Reads};
 ghost use Rattle.msf_blocks.specs.Layout.{LayoutView};
 ghost use Rattle.pdb_commands.specs.Known.{checked_shown, check_refused};
 ghost use Rattle.pdb_commands.specs.Check.{ShowsChecked, ShowsCheckedRead, RefusesCheck, RefusesCheckRead};
@@ -10,11 +10,11 @@ ghost use Rattle.file_types.specs.Read.{TypesWereRead};
 
 use crate::command::{Show, run};
 use crate::fault::RunFault;
-use byte_io::{AtFault, ReadAt, Sink, Source};
+use byte_io::{AtFault, Lend, Sink, Source};
 use checked_types::Types;
 use command_texts::push_checked;
-use msf_blocks::Layout;
 use file_types::{Buffer, read_types_of};
+use msf_blocks::Layout;
 use std::alloc::Allocator;
 
 /// The text of types.
@@ -47,7 +47,7 @@ impl<A: Allocator + Copy> Show<A> for ShowCheck {
 
     ghost refuses_read = { λ _. RefusesCheckRead };
 
-    fn text_of<R: ReadAt>(
+    fn text_of<'b, R: Lend<'b>>(
         &self,
         alloc: A,
         input: &mut R,

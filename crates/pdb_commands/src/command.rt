@@ -2,15 +2,15 @@
 
 ghost use Rattle.std.specs.Prelude.{◌≡◌, ◌⊎◌, ℕ, List, IfOk, IfErr, string_bytes};
 ghost use Rattle.byte_fields.specs.Bytes.{AreBytes};
-ghost use Rattle.byte_io.specs.At.{Breaks, Bytes, IfKnown, IfOf};
+ghost use Rattle.byte_io.specs.At.{Bytes, IfKnown, IfOf, Reads};
 ghost use Rattle.msf_blocks.specs.Layout.{HasLayout};
 ghost use Rattle.pdb_commands.specs.Show.{Answers, AnswersAt, IsOfText, IsOfTexts, IsFaultOfTexts, RefusesBounded, ShowsBounded};
 ghost use Rattle.pdb_commands.specs.declared.fault.RunFault.{RunFault};
 
 use crate::fault::RunFault;
-use byte_io::{AtFault, ReadAt, ReadFault, Sink, Source, put_all, read_all};
-use msf_blocks::{Layout, WithinFault};
+use byte_io::{AtFault, Lend, ReadFault, Sink, Source, put_all, read_all};
 use file_types::PdbFault;
+use msf_blocks::{Layout, WithinFault};
 use std::alloc::Allocator;
 
 /// A command that shows a file, and reads by position only the parts of it that it needs.
@@ -31,7 +31,7 @@ pub trait Show<A: Allocator + Copy> {
     ghost refuses_read: { Self → Bytes → LayoutView → RunFault A → Type 0 };
 
     /// Makes the whole text of a file with this layout.
-    fn text_of<R: ReadAt>(
+    fn text_of<'b, R: Lend<'b>>(
         &self,
         alloc: A,
         input: &mut R,
@@ -45,8 +45,7 @@ pub trait Show<A: Allocator + Copy> {
             refuses_read self.now (R.bytes input.old) layout.now fault
             ⊎ (fault ≡ RunFault.Memory))) }
         ensures pure { IfErr result (IfOf IsOfText) }
-        ensures read { IfErr result (λ fault.
-            fault ≡ AtFault.Read → Breaks (R.bytes input.old) (R.is_broken input.new)) };
+        ensures reads { Reads R.bytes R.is_broken input.old input.new result };
 
     /// Of a file that is known, the text of what reads gave is the text that shows the file.
     ghost shows_known: { (command : Self) → ShowsKnown (shows command) (shows_read command) };
@@ -60,7 +59,7 @@ pub trait Show<A: Allocator + Copy> {
 
 /// Makes the whole text of a file that is read by position. Its layout is read once, and its
 /// directory may have at most `limit` bytes.
-fn text_at<C: Show<A>, R: ReadAt, A: Allocator + Copy>(
+fn text_at<'b, C: Show<A>, R: Lend<'b>, A: Allocator + Copy>(
     alloc: A,
     command: &C,
     input: &mut R,
@@ -76,8 +75,7 @@ fn text_at<C: Show<A>, R: ReadAt, A: Allocator + Copy>(
         IsFaultOfTexts limit (C.refuses_read command.now) (R.bytes input.old) fault
         ⊎ (fault ≡ RunFault.Memory))) }
     ensures pure { IfErr result (IfOf IsOfText) }
-    ensures read { IfErr result (λ fault.
-        fault ≡ AtFault.Read → Breaks (R.bytes input.old) (R.is_broken input.new)) }
+    ensures reads { Reads R.bytes R.is_broken input.old input.new result }
 {
     let layout = match Layout::read_within(alloc, input, limit) {
         Ok(layout) => layout,
@@ -99,7 +97,7 @@ fn text_at<C: Show<A>, R: ReadAt, A: Allocator + Copy>(
 /// `Read` where a read failed; and `Write`, where the sink did not take the whole text. After
 /// `Write` the sink is broken and took the first bytes of the text. After any other fault it took
 /// nothing.
-pub fn run_at<C: Show<A>, R: ReadAt, W: Sink, A: Allocator + Copy>(
+pub fn run_at<'b, C: Show<A>, R: Lend<'b>, W: Sink, A: Allocator + Copy>(
     alloc: A,
     command: &C,
     input: &mut R,

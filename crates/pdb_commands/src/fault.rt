@@ -6,8 +6,8 @@ ghost use Rattle.pdb_commands.specs.declared.fault.RunFault.TheVariants.{Memory,
 
 use byte_io::{NotTaken, ReadFault};
 use cv_leaves::LeafFault;
-use pdb_info::InfoFault;
 use file_types::PdbFault;
+use pdb_info::InfoFault;
 use pdb_merge::{MergeFault, OutFault};
 use std::alloc::{AllocError, Allocator, Global};
 use thiserror::Error;

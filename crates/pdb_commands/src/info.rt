@@ -1,7 +1,7 @@
 //! The command `info`: what identifies a file.
 
 ghost use Rattle.std.specs.Prelude.{◌≡◌, ◌⊎◌, OnOk, IfOk, IfErr, string_bytes};
-ghost use Rattle.byte_io.specs.At.{Breaks, IfKnown, IfOf};
+ghost use Rattle.byte_io.specs.At.{IfKnown, IfOf, Reads};
 ghost use Rattle.msf_blocks.specs.Layout.{HasLayout};
 ghost use Rattle.msf_streams.specs.Streams.{WasRead};
 ghost use Rattle.pdb_commands.specs.Known.{info_shown, info_refused};
@@ -10,33 +10,34 @@ ghost use Rattle.pdb_commands.specs.Info.{ShowsInfo, ShowsInfoRead, ShowsInfoWit
 
 use crate::command::{Show, run};
 use crate::fault::RunFault;
-use byte_io::{AtFault, ReadAt, Sink, Source};
+use byte_io::{AtFault, Lend, Sink, Source};
 use command_texts::{push_features, push_info_header, push_names};
-use msf_blocks::Layout;
-use msf_streams::gather_at;
-use pdb_info::{info_stream, names_length};
 use file_types::PdbFault;
+use msf_blocks::Layout;
+use msf_streams::contents_at;
+use pdb_info::{info_stream, names_length};
 use std::alloc::Allocator;
 
-/// Reads stream 1 of a file with this layout by position into the buffer.
-fn stream_bytes_of<R: ReadAt, L: Allocator, A: Allocator>(
+/// The bytes of stream 1 of a file with this layout. They are in the buffer, unless the file lends
+/// them.
+fn stream_bytes_of<'a, 'b: 'a, R: Lend<'b>, L: Allocator, A: Allocator>(
     input: &mut R,
     layout: &Layout<L>,
-    buffer: &mut Vec<u8, A>,
-) -> Result<(), AtFault<PdbFault<A>>>
+    buffer: &'a mut Vec<u8, A>,
+) -> Result<&'a [u8], AtFault<PdbFault<A>>>
     requires { IfKnown (R.bytes input.old) (λ file. HasLayout file layout.now) }
-    ensures texts { OnOk result (WasRead (R.bytes input.old) layout.now 1 buffer.new.items) }
+    ensures reads { Reads R.bytes R.is_broken input.old input.new result }
+    ensures texts { IfOk result (λ stream.
+        WasRead (R.bytes input.old) layout.now 1 stream.now) }
     ensures refused { IfErr result
         (IfOf (λ fault. HasNoInfoStreamRead layout.now fault ⊎ (fault ≡ PdbFault.Memory))) }
-    ensures read { IfErr result (λ fault.
-        fault ≡ AtFault.Read → Breaks (R.bytes input.old) (R.is_broken input.new)) }
 {
     let stream = match info_stream(layout) {
         Ok(stream) => stream,
         Err(fault) => return Err(AtFault::Of(PdbFault::from(fault))),
     };
-    match gather_at(input, layout, stream, buffer) {
-        Ok(()) => Ok(()),
+    match contents_at(input, layout, stream, buffer) {
+        Ok(bytes) => Ok(bytes),
         Err(AtFault::Of(fault)) => Err(AtFault::Of(PdbFault::from(fault))),
         Err(AtFault::Read) => Err(AtFault::Read),
     }
@@ -96,19 +97,19 @@ impl<A: Allocator + Copy> Show<A> for ShowInfo {
 
     ghost refuses_read = { λ c. RefusesInfoRead c.limit };
 
-    fn text_of<R: ReadAt>(
+    fn text_of<'b, R: Lend<'b>>(
         &self,
         alloc: A,
         input: &mut R,
         layout: &Layout<A>,
     ) -> Result<String<A>, AtFault<RunFault<A>>> {
         let mut buffer = Vec::new(alloc);
-        match stream_bytes_of(input, layout, &mut buffer) {
-            Ok(()) => {}
+        let stream = match stream_bytes_of(input, layout, &mut buffer) {
+            Ok(stream) => stream,
             Err(AtFault::Of(fault)) => return Err(AtFault::Of(RunFault::from(fault))),
             Err(AtFault::Read) => return Err(AtFault::Read),
-        }
-        let text = stream_text(alloc, &buffer, self.limit)?;
+        };
+        let text = stream_text(alloc, stream, self.limit)?;
         Ok(text)
     }
 

@@ -1,7 +1,7 @@
 //! The command `record`: one type record of a file, with the types that it names.
 
 ghost use Rattle.std.specs.Prelude.{◌≡◌, ◌≤◌, ◌^◌, ◌⊎◌, IfOk, IfErr, IfSome, option_map, string_bytes, length};
-ghost use Rattle.byte_io.specs.At.{Bytes};
+ghost use Rattle.byte_io.specs.At.{Bytes, Reads};
 ghost use Rattle.msf_blocks.specs.Layout.{LayoutView};
 ghost use Rattle.pdb_commands.specs.Known.{record_shown, record_refused};
 ghost use Rattle.pdb_commands.specs.Record.{ShowsRecord, ShowsRecordRead, RefusesRecord, RefusesRecordRead, record_of};
@@ -10,11 +10,11 @@ ghost use Rattle.file_types.specs.Read.{RecordsWereRead};
 
 use crate::command::{Show, run};
 use crate::fault::RunFault;
-use byte_io::{AtFault, ReadAt, Sink, Source};
+use byte_io::{AtFault, Lend, Sink, Source};
 use command_texts::record_text;
 use cv_leaves::check;
-use msf_blocks::Layout;
 use file_types::{Buffer, read_records_of};
+use msf_blocks::Layout;
 use std::alloc::Allocator;
 use tpi_records::{FIRST_INDEX, Records};
 
@@ -66,7 +66,7 @@ impl<A: Allocator + Copy> Show<A> for ShowRecord {
 
     ghost refuses_read = { λ c. RefusesRecordRead c.index };
 
-    fn text_of<R: ReadAt>(
+    fn text_of<'b, R: Lend<'b>>(
         &self,
         alloc: A,
         input: &mut R,

@@ -6,10 +6,10 @@ ghost use Rattle.pdb_commands.specs.Show.{Answers};
 
 use crate::command::{Show, run};
 use crate::fault::RunFault;
-use byte_io::{AtFault, ReadAt, Sink, Source};
+use byte_io::{AtFault, Lend, Sink, Source};
 use command_texts::record_lines;
-use msf_blocks::Layout;
 use file_types::{Buffer, read_records_of};
+use msf_blocks::Layout;
 use std::alloc::Allocator;
 
 /// The command `records`.
@@ -25,7 +25,7 @@ impl<A: Allocator + Copy> Show<A> for ShowRecords {
 
     ghost refuses_read = { λ _. RefusesRecordsRead };
 
-    fn text_of<R: ReadAt>(
+    fn text_of<'b, R: Lend<'b>>(
         &self,
         alloc: A,
         input: &mut R,

@@ -2,7 +2,7 @@
 
 ghost use Rattle.std.specs.Prelude.{◌≡◌, ◌⊎◌, true, false, Err, OnOk, IfOk, IfErr, string_bytes};
 ghost use Rattle.byte_fields.specs.Bytes.{AreBytes};
-ghost use Rattle.byte_io.specs.At.{Breaks, IfKnown, IfOf};
+ghost use Rattle.byte_io.specs.At.{IfKnown, IfOf, Reads};
 ghost use Rattle.msf_blocks.specs.Layout.{HasLayout};
 ghost use Rattle.pdb_commands.specs.Known.{within_refused, within_shown, within_unlaid};
 ghost use Rattle.pdb_commands.specs.Show.{Answers, AnswersAt, IsByPosition, IsByWhole, IsOfText, RefusesBounded, ShowsBounded};
@@ -17,7 +17,7 @@ use crate::record::ShowRecord;
 use crate::records::ShowRecords;
 use crate::streams::ShowStreams;
 use crate::types::ShowTypes;
-use byte_io::{AtFault, ReadAt, ReadFault, Sink, Source};
+use byte_io::{AtFault, Lend, ReadFault, Sink, Source};
 use msf_blocks::Layout;
 use pdb_info::INFO_STREAM;
 use std::alloc::Allocator;
@@ -77,7 +77,7 @@ impl Within {
     }
 
     /// Makes the whole text of a file with this layout, whose stream was checked.
-    fn checked_text<R: ReadAt, A: Allocator + Copy>(
+    fn checked_text<'b, R: Lend<'b>, A: Allocator + Copy>(
         &self,
         alloc: A,
         input: &mut R,
@@ -91,8 +91,7 @@ impl Within {
             RefusesItRead self.now.command self.now.limit (R.bytes input.old) layout.now fault
             ⊎ (fault ≡ RunFault.Memory))) }
         ensures pure { IfErr result (IfOf IsOfText) }
-        ensures read { IfErr result (λ fault.
-            fault ≡ AtFault.Read → Breaks (R.bytes input.old) (R.is_broken input.new)) }
+        ensures reads { Reads R.bytes R.is_broken input.old input.new result }
     {
         match self.command {
             Shown::Records => ShowRecords.text_of(alloc, input, layout),
@@ -114,7 +113,7 @@ impl<A: Allocator + Copy> Show<A> for Within {
 
     ghost refuses_read = { λ c. RefusesWithinRead c.command c.limit };
 
-    fn text_of<R: ReadAt>(
+    fn text_of<'b, R: Lend<'b>>(
         &self,
         alloc: A,
         input: &mut R,
@@ -157,7 +156,7 @@ pub fn run_shown<R: Source, W: Sink, A: Allocator + Copy>(
 /// Runs a command that shows a file by position, as [`run_shown`] does for a whole file, with the
 /// same limits. `TooLong` comes first, if the input says that it has more than `limit` bytes.
 /// `Read` comes where a read that is needed fails.
-pub fn run_shown_at<R: ReadAt, W: Sink, A: Allocator + Copy>(
+pub fn run_shown_at<'b, R: Lend<'b>, W: Sink, A: Allocator + Copy>(
     alloc: A,
     command: Shown,
     input: &mut R,
@@ -185,7 +184,7 @@ fn is_unread<A: Allocator>(answer: &Result<(), RunFault<A>>) -> bool
 ///
 /// `input` and `whole` are the same file. If no read by position fails, the answer is that of
 /// [`run_shown_at`]. Otherwise it is that of [`run_shown`].
-pub fn run_shown_file<R: ReadAt, S: Source, W: Sink, A: Allocator + Copy>(
+pub fn run_shown_file<'b, R: Lend<'b>, S: Source, W: Sink, A: Allocator + Copy>(
     alloc: A,
     command: Shown,
     input: &mut R,

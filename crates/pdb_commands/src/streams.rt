@@ -6,7 +6,7 @@ ghost use Rattle.pdb_commands.specs.Streams.{RefusesStreams, RefusesStreamsRead,
 
 use crate::command::{Show, run};
 use crate::fault::RunFault;
-use byte_io::{AtFault, ReadAt, Sink, Source};
+use byte_io::{AtFault, Lend, Sink, Source};
 use command_texts::layout_text;
 use msf_blocks::{Layout, free_blocks_at};
 use std::alloc::Allocator;
@@ -24,7 +24,7 @@ impl<A: Allocator + Copy> Show<A> for ShowStreams {
 
     ghost refuses_read = { λ _. RefusesStreamsRead };
 
-    fn text_of<R: ReadAt>(
+    fn text_of<'b, R: Lend<'b>>(
         &self,
         alloc: A,
         input: &mut R,

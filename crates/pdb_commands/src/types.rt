@@ -13,11 +13,11 @@ ghost use Rattle.command_texts.specs.Types.{type_line};
 
 use crate::command::{Show, run};
 use crate::fault::RunFault;
-use byte_io::{AtFault, ReadAt, Sink, Source};
+use byte_io::{AtFault, Lend, Sink, Source};
 use command_texts::push_type_line;
 use cv_leaves::check;
-use msf_blocks::Layout;
 use file_types::{Buffer, read_records_of};
+use msf_blocks::Layout;
 use std::alloc::Allocator;
 use tpi_records::{FIRST_INDEX, Records};
 
@@ -76,7 +76,7 @@ impl<A: Allocator + Copy> Show<A> for ShowTypes {
 
     ghost refuses_read = { λ _. RefusesTypesRead };
 
-    fn text_of<R: ReadAt>(
+    fn text_of<'b, R: Lend<'b>>(
         &self,
         alloc: A,
         input: &mut R,
