@@ -14,7 +14,8 @@ pub record Bytes : Type 0 where
 
 -- a list of bytes that are known, and do not change
 abbrev pub stable : List ℕ → Bytes
-stable file = record { known = Some file; told = length file; gives = λ offset byte. get_or file offset 256 == byte }
+stable file =
+    record { known = Some file; told = length file; gives = λ offset byte. get_or file offset 256 == byte }
 
 -- this holds of the bytes, where they are known
 abbrev pub IfKnown : Bytes → (List ℕ → Type 0) → Type 0
@@ -26,11 +27,13 @@ unknown told = record { known = None; told = told; gives = λ _ _. true }
 
 -- reads gave these bytes, from this offset on
 abbrev pub AreGiven : Bytes → ℕ → List ℕ → Type 0
-AreGiven bytes offset text = (i : ℕ) → i < length text → bytes.gives (offset + i) (get_or text i 0) ≡ true
+AreGiven bytes offset text =
+    (i : ℕ) → i < length text → bytes.gives (offset + i) (get_or text i 0) ≡ true
 
 -- the buffer has the bytes that it had, and after them bytes that reads gave from this offset on
 abbrev pub GivesBehind : Bytes → ℕ → List ℕ → List ℕ → Type 0
-GivesBehind bytes offset before after = (more : List ℕ) × (after ≡ before ++ more) × AreGiven bytes offset more
+GivesBehind bytes offset before after =
+    (more : List ℕ) × (after ≡ before ++ more) × AreGiven bytes offset more
 
 -- these bytes are in the file from this offset on
 pub record StandsAt (file : List ℕ) (offset : ℕ) (bytes : List ℕ) : Type 0 where

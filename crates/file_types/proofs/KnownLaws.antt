@@ -1,15 +1,14 @@
 -- What reads gave of a file that is known is what the file has: its records, its types and its first fault.
-use Rattle.std.proofs.Common.{◌≡◌, ◌⊎◌, ℕ, ◌≤◌, List, Option, Some, None, length, refl, ◌∙◌, arith, inl, inr}
-use Rattle.std.specs.Prelude.{slice_get}
+use Rattle.std.proofs.Common.{◌≡◌, ◌⊎◌, ℕ, List, Some, refl, arith, inl, inr}
 use Rattle.std.proofs.lemmas.Option.{slice_get_cases}
 use Rattle.byte_fields.specs.Bytes.{AreBytes}
 use Rattle.byte_io.specs.At.{Bytes, IfKnown, stable}
-use Rattle.msf_blocks.specs.Directory.{Listed, bytes_of}
+use Rattle.msf_blocks.specs.Directory.{bytes_of}
 use Rattle.msf_blocks.specs.Layout.{LayoutView, HasLayout, HasTexts}
 use Rattle.msf_blocks.proofs.KnownLayoutLaws.{fault_known, layout_given, layout_known}
 use Rattle.msf_streams.specs.Streams.{listed_contents}
 use Rattle.msf_streams.proofs.AtLaws.{stream_given, stream_known}
-use Rattle.file_types.specs.Read.{HasInfoFault, HasInfoFaultRead, HasFaultOfTexts, HasLongInfo, HasPdbFault, HasPdbFaultRead, HasRecordsFault, HasStreamFault, HasStreamFaultRead, HasTypeFaultRead, HasTypeRecords, IsAccepted, IsLayoutFault, IsLayoutFaultRead, ListsLongInfo, ListsRecords, ListsTypes, RecordsWereRead, TypesWereRead, UncheckedWereRead}
+use Rattle.file_types.specs.Read.{HasInfoFault, HasInfoFaultRead, HasFaultOfTexts, HasLongInfo, HasPdbFault, HasPdbFaultRead, HasRecordsFault, HasStreamFault, HasStreamFaultRead, HasTypeFaultRead, IsAccepted, IsLayoutFault, IsLayoutFaultRead, ListsLongInfo, ListsRecords, ListsTypes, RecordsWereRead, TypesWereRead, UncheckedWereRead}
 use Rattle.closed_trees.specs.Types.{AreTypes}
 use Rattle.file_types.specs.declared.fault.PdbFault.{PdbFault}
 use Rattle.file_types.specs.declared.fault.PdbFault.TheVariants as fault

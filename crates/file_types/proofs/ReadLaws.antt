@@ -1,27 +1,18 @@
 -- An accepted file has one list of records and no fault.
-use Rattle.std.proofs.Common.{◌≡◌, ◌⊎◌, ℕ, List, Some, None, Bool, length, ap, ◌∙◌, arith, inl, inr}
+use Rattle.std.proofs.Common.{◌≡◌, ◌⊎◌, ℕ, List, None, length, ap, arith, inl, inr}
 use Rattle.std.specs.Prelude.{Result, Ok, Err, IfOk, IfErr}
-use Rattle.byte_io.specs.At.{Breaks, Bytes, IfKnown, IfOf}
+use Rattle.byte_io.specs.At.{Bytes, IfKnown, IfOf}
 use Rattle.byte_io.specs.declared.at.AtFault.{AtFault}
 use Rattle.byte_io.specs.declared.at.AtFault.TheVariants as at
-use Rattle.msf_blocks.specs.declared.fault.MsfFault.{MsfFault}
-use Rattle.msf_blocks.specs.declared.fault.MsfFault.TheVariants as msf
 use Rattle.byte_fields.specs.Bytes.{AreBytes}
-use Rattle.byte_fields.specs.Check.{first_failing, Refuses}
+use Rattle.byte_fields.specs.Check.{first_failing}
 use Rattle.msf_blocks.specs.Layout.{LayoutView, HasLayout, layout_checks}
 use Rattle.msf_blocks.proofs.FoundLaws.{layout_holds}
-use Rattle.msf_streams.specs.Streams.{stream_contents}
-use Rattle.tpi_records.specs.Records.{HasRecords, IsFirstFault}
-use Rattle.tpi_records.specs.declared.fault.TpiFault.{TpiFault}
-use Rattle.tpi_records.specs.declared.fault.TpiFault.TheVariants as tpi
 use Rattle.tpi_records.proofs.StreamLaws.{one_records, no_fault}
 use Rattle.checked_types.proofs.CycleLaws.{types_sound}
 use Rattle.closed_trees.specs.Types.{AreTypes}
-use Rattle.checked_types.specs.Check.{IsTypeFault}
-use Rattle.checked_types.specs.declared.fault.TypeFault.{TypeFault}
 use Rattle.checked_types.specs.declared.fault.TypeFault.TheVariants as types
-use Rattle.file_types.specs.Read.{ListsTypes, IsAccepted, HasTypeRecords, ListsRecords, HasLongInfo, HasInfoFault, HasStreamFault, HasRecordsFault, HasPdbFault, IsLayoutFault}
-use Rattle.file_types.specs.Fault.{pdb_from_msf, pdb_from_tpi, pdb_from_type}
+use Rattle.file_types.specs.Read.{ListsTypes, IsAccepted, HasTypeRecords, ListsRecords, HasLongInfo, HasInfoFault, HasStreamFault, HasRecordsFault, HasPdbFault}
 use Rattle.file_types.specs.declared.fault.PdbFault.{PdbFault}
 use Rattle.file_types.specs.declared.fault.PdbFault.TheVariants as fault
 use Rattle.msf_blocks.proofs.OneLayoutLaws.{one_layout}

@@ -1,3 +1,4 @@
 pub mod Fault
 pub mod Read
 pub mod Laws
+pub mod Bounded

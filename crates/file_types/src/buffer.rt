@@ -14,10 +14,7 @@ use msf_streams::contents_at;
 use pdb_info::{InfoFault, info_stream};
 use std::alloc::{Allocator, Global};
 use std::marker::Model;
-use tpi_records::Records;
-
-/// The stream that holds the type records.
-const TPI_STREAM: u32 = 2;
+use tpi_records::{Records, TPI_STREAM};
 
 /// How many bytes the header of stream 1 has.
 const HEADER: u32 = 28;

@@ -13,6 +13,7 @@
 //! - [`read_records_of`] and [`read_types_of`] read the type records and the types where the layout
 //!   of the file was read before.
 //! - [`read_unchecked`] reads the records on the way to the types, and [`check_types`] checks them.
+//!   [`read_unchecked_within`] holds the directory and the stream against a limit.
 //! - [`PdbFault`] is the first fault on the way.
 //!
 //! What is proved: a file is read exactly if it is accepted (`IsAccepted` of `specs/Read`), unless
@@ -35,11 +36,13 @@
 //! ```
 #![tactic(auto)]
 
+mod bounded;
 mod buffer;
 mod fault;
 pub mod laws;
 mod read;
 
+pub use bounded::{BoundedFault, read_unchecked_within};
 pub use buffer::Buffer;
 pub use fault::PdbFault;
 pub use read::{

@@ -65,7 +65,7 @@ pub fn read_records_of<'a, 'b: 'a, R: Lend<'b>, A: Allocator + Copy>(
 }
 
 /// The records of a file with this layout, on the way to its types. They are not checked yet.
-fn unchecked_of<'a, 'b: 'a, R: Lend<'b>, A: Allocator + Copy>(
+pub(crate) fn unchecked_of<'a, 'b: 'a, R: Lend<'b>, A: Allocator + Copy>(
     alloc: A,
     input: &mut R,
     layout: &Layout<A>,

@@ -1,11 +1,11 @@
 -- The layout of a container: its superblock, and its streams as the directory lists them.
-use Rattle.std.specs.Prelude.{ℕ, ◌-◌, ◌⊎◌, ◌<◌, ◌^◌, ◌++◌, List, Option, Some, None, length, slice_get, All}
+use Rattle.std.specs.Prelude.{ℕ, ◌≡◌, ◌-◌, ◌⊎◌, ◌<◌, ◌^◌, ◌++◌, List, Option, Some, None, length, slice_get, All}
 use Rattle.byte_fields.specs.Number.{nth_u32}
 use Rattle.byte_fields.specs.Check.{Check, Refuses, checks_below, first_failing}
 use Rattle.byte_io.specs.At.{Bytes}
 use Rattle.msf_blocks.specs.BlockNumber.{IsBlockSize}
 use Rattle.msf_blocks.specs.Superblock.{Fields, IsSuperblock, HasFront, FrontRefuses, fields_of, superblock_checks}
-use Rattle.msf_blocks.specs.Directory.{Listed, IsListed, IsDirectory, ListsStreams, HasContents, DirectoryRefuses, directory_contents, directory_block_checks, length_checks, stream_checks}
+use Rattle.msf_blocks.specs.Directory.{Listed, bytes_of, IsListed, IsDirectory, ListsStreams, HasContents, DirectoryRefuses, directory_contents, directory_block_checks, length_checks, stream_checks}
 use Rattle.msf_blocks.specs.declared.fault.MsfFault.{MsfFault}
 use Rattle.msf_blocks.specs.declared.fault.MsfFault.TheVariants.{Memory}
 use Rattle.msf_blocks.specs.declared.fault.WithinFault.{WithinFault}
@@ -78,7 +78,8 @@ pub record HasLongDirectory (limit : ℕ) (file : List ℕ) : Type 0 where
 -- reads gave a sound front that says so
 abbrev pub GivesLongDirectory : ℕ → Bytes → Type 0
 GivesLongDirectory limit bytes =
-    (fields : Fields) × HasFront bytes fields × (limit < fields.directory_bytes)
+    (limit < 2 ^ 32 - 1)
+    × ((fields : Fields) × HasFront bytes fields × (limit < fields.directory_bytes))
 
 -- this is the first fault of the file: after the superblock comes the length of the directory
 abbrev pub HasWithinFault : ℕ → List ℕ → WithinFault → Type 0
@@ -90,3 +91,14 @@ HasWithinFault limit file (within.Of fault) =
 abbrev pub TextsRefuseWithin : ℕ → Bytes → WithinFault → Type 0
 TextsRefuseWithin limit bytes within.TooLong = GivesLongDirectory limit bytes
 TextsRefuseWithin limit bytes (within.Of fault) = TextsRefuse bytes fault
+
+-- ---- a stream that is held against a limit
+
+-- the layout lists more bytes than the limit for the stream at this position; the greatest number
+-- of
+-- four bytes is no limit
+pub record ListsLongStream (limit s : ℕ) (layout : LayoutView) : Type 0 where
+  pub limited : limit < 2 ^ 32 - 1
+  pub stream : Listed
+  pub is_stream : slice_get layout.streams s ≡ Some stream
+  pub long : limit < bytes_of stream.size

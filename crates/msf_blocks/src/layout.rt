@@ -1,13 +1,13 @@
 //! Where the streams of a container are.
 
-ghost use Rattle.std.specs.Prelude.{◌≡◌, ◌≤◌, ◌<◌, ◌*◌, ◌^◌, length, map, IfOk, IfErr, slice_get, option_map};
+ghost use Rattle.std.specs.Prelude.{true, false, ◌≡◌, ◌≤◌, ◌<◌, ◌*◌, ◌^◌, length, map, IfOk, IfErr, slice_get, option_map};
 ghost use Rattle.byte_fields.specs.Bytes.{AreBytes};
 ghost use Rattle.byte_fields.specs.Number.{nth_u32};
 ghost use Rattle.byte_fields.specs.Check.{Refuses, first_failing};
 ghost use Rattle.byte_io.specs.At.{Breaks, IfKnown, IfOf, map_of};
 ghost use Rattle.msf_blocks.specs.Superblock.{HasFront, HoldsBlocks, IsFit};
 ghost use Rattle.msf_blocks.specs.Directory.{list_start, listed_below, bytes_of};
-ghost use Rattle.msf_blocks.specs.Layout.{LayoutView, HasLayout, HasTexts, HasWithinFault, TextsRefuse, TextsRefuseWithin, IsLayout, block_of, layout_checks};
+ghost use Rattle.msf_blocks.specs.Layout.{LayoutView, HasLayout, HasTexts, HasWithinFault, ListsLongStream, TextsRefuse, TextsRefuseWithin, IsLayout, block_of, layout_checks};
 ghost use Rattle.msf_blocks.specs.Stream.{listed_of};
 
 use crate::directory::{Directory, bytes_of};
@@ -253,6 +253,18 @@ impl<A: Allocator> Layout<A> {
     {
         let stream = self.streams.get(s as usize)?;
         Some(bytes_of(stream.size))
+    }
+
+    /// Whether the `s`-th stream, from 0, has more than `limit` bytes. A stream may list a block many
+    /// times, so it may have more bytes than its file. One that is not there has none.
+    pub fn is_longer(&self, s: u32, limit: u32) -> bool
+        ensures yes { result ≡ true → ListsLongStream limit s self.now }
+        ensures no { result ≡ false → ListsLongStream limit s self.now → ⊥ }
+    {
+        match self.size(s) {
+            Some(size) => limit < size,
+            None => false,
+        }
     }
 
     /// The numbers of the blocks of the `s`-th stream, from 0. `None` where `s` is not a stream.

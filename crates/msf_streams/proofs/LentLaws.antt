@@ -1,20 +1,14 @@
 -- A stream of a layout, and how many blocks it has.
-use Rattle.std.proofs.Common.{◌≡◌, ℕ, ◌+◌, ◌-◌, ◌*◌, ◌/◌, ◌%◌, ◌<◌, ◌≤◌, List, [], length, take, drop, get_or, Some, None, refl, sym, ap, ◌∙◌, arith, inl, inr}
-use Rattle.std.specs.Prelude.{All, option_map}
+use Rattle.std.proofs.Common.{◌≡◌, ℕ, ◌<◌, length, get_or, Some, None, inl, inr}
+use Rattle.std.specs.Prelude.{option_map}
 use Rattle.std.proofs.lemmas.Bool.{cases_lt}
 use Rattle.std.specs.List.{slice_get}
-use Rattle.std.proofs.lemmas.Nat.{div-add-mod', mul-le}
-use Rattle.std.proofs.lemmas.Option.{slice_get_past, slice_get_within, slice_get-get_or}
-use Rattle.std.proofs.lemmas.List.Elements.{All-get_or}
-use Rattle.msf_blocks.specs.BlockNumber.{IsOrdinary, blocks_for}
+use Rattle.std.proofs.lemmas.Option.{slice_get_past}
+use Rattle.msf_blocks.specs.BlockNumber.{blocks_for}
 use Rattle.msf_blocks.specs.Directory.{Listed, IsListed, bytes_of}
-use Rattle.msf_blocks.specs.Layout.{LayoutView, IsLayout, block_of}
-use Rattle.msf_blocks.proofs.SizeLaws.{some_bytes, ceil_ge, place_below}
-use Rattle.msf_streams.specs.Streams.{blocks_in, stream_contents, AreConsecutive}
-use Rattle.msf_blocks.specs.Blocks.{in_blocks}
-use Rattle.msf_blocks.proofs.RangeLaws.{map-same_ranges, part_by_places}
-use Rattle.msf_blocks.specs.Superblock.{HoldsBlocks}
-use Rattle.msf_streams.proofs.PieceLaws.{none_for, no_stream, stream_at}
+use Rattle.msf_blocks.specs.Layout.{LayoutView, IsLayout}
+use Rattle.msf_streams.specs.Streams.{blocks_in}
+use Rattle.msf_streams.proofs.PieceLaws.{no_stream, stream_at}
 
 -- a stream of this size, its blocks, and how many there are
 pub record IsSized (layout : LayoutView) (s size : ℕ) : Type 0 where

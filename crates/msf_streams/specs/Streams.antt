@@ -55,12 +55,6 @@ FirstIsLong pieces =
 abbrev pub AreConsecutive : List ℕ → Type 0
 AreConsecutive blocks = (k : ℕ) → k < length blocks → get_or blocks k 0 ≡ get_or blocks 0 0 + k
 
--- s is the number of a stream, and its blocks are consecutive:
--- its contents are one part of the file
-abbrev pub IsOnePart : LayoutView → ℕ → Type 0
-IsOnePart layout s =
-    (s < length layout.streams) × AreConsecutive (blocks_in (slice_get layout.streams s))
-
 -- ---- the pieces during iteration
 
 -- the pieces of the s-th stream from this position of its list on,

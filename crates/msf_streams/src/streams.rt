@@ -11,14 +11,14 @@
 //! The crate exports `StreamPieces` as `Pieces`. The toolchain refuses two items of one module
 //! whose names differ only in case, as `pieces` and `Pieces`.
 
-ghost use Rattle.std.specs.Prelude.{IsTrue, ◌≡◌, ◌↔◌, ◌⊎◌, ◌≤◌, ◌<◌, ◌*◌, ◌+◌, ◌-◌, ◌^◌, [], ◌∷◌, length, slice_get, Some, IfSome, IfNone, IsNone, IfOk, IfErr};
+ghost use Rattle.std.specs.Prelude.{◌≡◌, ◌↔◌, ◌⊎◌, ◌≤◌, ◌<◌, ◌*◌, ◌+◌, ◌-◌, ◌^◌, [], ◌∷◌, length, slice_get, Some, IfSome, IfNone, IsNone, IfOk, IfErr};
 ghost use Rattle.std.specs.List.{concat};
 ghost use Rattle.std.specs.Iterator.{YieldsFirstRef, item_count};
 ghost use Rattle.msf_blocks.specs.BlockNumber.{blocks_for};
 ghost use Rattle.msf_blocks.specs.Directory.{bytes_of};
-ghost use Rattle.msf_blocks.specs.Layout.{IsLayout, block_of};
+ghost use Rattle.msf_blocks.specs.Layout.{IsLayout};
 ghost use Rattle.msf_blocks.specs.Superblock.{HoldsBlocks};
-ghost use Rattle.msf_streams.specs.Streams.{AreConsecutive, FirstIsLong, IsOnePart, blocks_in, stream_pieces, stream_contents, pieces_from};
+ghost use Rattle.msf_streams.specs.Streams.{FirstIsLong, stream_pieces, stream_contents, pieces_from};
 
 use crate::at::gather_at;
 use crate::container::Container;

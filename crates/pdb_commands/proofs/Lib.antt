@@ -1,4 +1,3 @@
-pub mod BoundLaws
 pub mod DifferenceLaws
 pub mod InfoLaws
 pub mod MergeLaws

@@ -4,8 +4,8 @@ use Rattle.std.specs.Prelude.{Result, Ok, Err, IfOk, IfErr, OnOk}
 use Rattle.byte_io.specs.At.{Bytes, IfOf}
 use Rattle.byte_io.specs.declared.at.AtFault.{AtFault}
 use Rattle.byte_io.specs.declared.at.AtFault.TheVariants as at
-use Rattle.msf_blocks.specs.Layout.{LayoutView}
-use Rattle.pdb_commands.specs.Shown.{ListsLongStream, ListsTooLong, RefusesItRead, RefusesWithinRead, ShowsItRead, ShowsWithinRead, stream_of}
+use Rattle.msf_blocks.specs.Layout.{LayoutView, ListsLongStream}
+use Rattle.pdb_commands.specs.Shown.{ListsTooLong, RefusesItRead, RefusesWithinRead, ShowsItRead, ShowsWithinRead, stream_of}
 use Rattle.pdb_commands.specs.declared.fault.RunFault.{RunFault}
 use Rattle.pdb_commands.specs.declared.fault.RunFault.TheVariants.{Memory}
 use Rattle.pdb_commands.specs.declared.shown.Shown.{Shown}

@@ -4,7 +4,7 @@ use Rattle.std.proofs.Common.{◌≡◌, ℕ, List, Some, inl, inr}
 use Rattle.byte_fields.specs.Bytes.{AreBytes}
 use Rattle.byte_fields.specs.Check.{first_failing}
 use Rattle.byte_io.specs.At.{stable}
-use Rattle.msf_blocks.specs.Layout.{LayoutView, HasLayout, layout_checks}
+use Rattle.msf_blocks.specs.Layout.{LayoutView, HasLayout, ListsLongStream, layout_checks}
 use Rattle.msf_blocks.specs.declared.fault.MsfFault.{MsfFault}
 use Rattle.msf_blocks.proofs.FoundLaws.{layout_holds}
 use Rattle.msf_blocks.proofs.FreeLaws.{free_known}
@@ -18,7 +18,7 @@ use Rattle.pdb_commands.specs.Info.{RefusesInfoRead, RefusesInfoWithin, ShowsInf
 use Rattle.pdb_commands.specs.Record.{RefusesRecord, RefusesRecordRead, ShowsRecord, ShowsRecordRead}
 use Rattle.pdb_commands.specs.Records.{RefusesRecords, RefusesRecordsRead, ShowsRecords, ShowsRecordsRead}
 use Rattle.pdb_commands.specs.Show.{RefusesKnown, RefusesUnlaid, ShowsKnown}
-use Rattle.pdb_commands.specs.Shown.{HasLongStream, ListsLongStream, ListsTooLong, ReadsTooLong, RefusesIt, RefusesItRead, RefusesWithin, RefusesWithinRead, ShowsIt, ShowsItRead, ShowsWithin, ShowsWithinRead}
+use Rattle.pdb_commands.specs.Shown.{HasLongStream, ListsTooLong, ReadsTooLong, RefusesIt, RefusesItRead, RefusesWithin, RefusesWithinRead, ShowsIt, ShowsItRead, ShowsWithin, ShowsWithinRead}
 use Rattle.pdb_commands.specs.Streams.{RefusesStreams, RefusesStreamsRead, ShowsStreams, ShowsStreamsRead}
 use Rattle.pdb_commands.specs.Types.{RefusesTypes, RefusesTypesRead, ShowsTypes, ShowsTypesRead}
 use Rattle.pdb_commands.specs.declared.fault.RunFault.TheVariants.{Info, Leaf, NoRecord, Pdb, TooLong}

@@ -1,9 +1,8 @@
 -- What the commands that show a file print and refuse, with a limit on the stream that they read.
 use Rattle.std.specs.Prelude.{ℕ, ◌≡◌, ◌<◌, ◌-◌, ◌^◌, ◌⊎◌, List, Option, Some, None, slice_get}
-use Rattle.byte_fields.specs.Check.{first_failing}
 use Rattle.byte_io.specs.At.{Bytes}
 use Rattle.msf_blocks.specs.Directory.{Listed, bytes_of}
-use Rattle.msf_blocks.specs.Layout.{LayoutView, HasLayout, HasLongDirectory, layout_checks}
+use Rattle.msf_blocks.specs.Layout.{LayoutView, HasLayout, ListsLongStream}
 use Rattle.pdb_commands.specs.Check.{ShowsChecked, ShowsCheckedRead, RefusesCheck, RefusesCheckRead}
 use Rattle.pdb_commands.specs.Info.{ShowsInfoWithin, ShowsInfoRead, RefusesInfoWithin, RefusesInfoRead}
 use Rattle.pdb_commands.specs.Record.{ShowsRecord, ShowsRecordRead, RefusesRecord, RefusesRecordRead}
@@ -57,7 +56,8 @@ stream_of shown.Info = Some 1
 stream_of shown.Streams = None
 stream_of _ = Some 2
 
--- the stream at this position has more bytes than the limit; the greatest number of four bytes is no limit
+-- the stream at this position has more bytes than the limit; the greatest number of four bytes is
+-- no limit
 pub record HasLongStream (limit s : ℕ) (file : List ℕ) : Type 0 where
   pub limited : limit < 2 ^ 32 - 1
   pub layout : LayoutView
@@ -66,46 +66,39 @@ pub record HasLongStream (limit s : ℕ) (file : List ℕ) : Type 0 where
   pub is_stream : slice_get layout.streams s ≡ Some stream
   pub long : limit < bytes_of stream.size
 
--- the directory, or the stream at this position, has more bytes than the limit
-abbrev pub HasLongPart : ℕ → ℕ → List ℕ → Type 0
-HasLongPart limit s file = HasLongDirectory limit file ⊎ HasLongStream limit s file
-
--- memory may run out while a stream of this file is compared with the limit: there is a limit, and the container has no fault
-pub record MayRunOut (limit : ℕ) (file : List ℕ) : Type 0 where
-  pub limited : limit < 2 ^ 32 - 1
-  pub sound : first_failing (layout_checks file) ≡ None
-
 -- the stream that the command reads has more bytes than the limit
 abbrev pub ReadsTooLong : Shown → ℕ → List ℕ → Type 0
-ReadsTooLong command limit file = (s : ℕ) × (stream_of command ≡ Some s) × HasLongStream limit s file
+ReadsTooLong command limit file =
+    (s : ℕ) × (stream_of command ≡ Some s) × HasLongStream limit s file
 
 -- the command prints this text for this file, and the stream that it reads is within the limit
 abbrev pub ShowsWithin : Shown → ℕ → List ℕ → List ℕ → Type 0
-ShowsWithin command limit file text = (ReadsTooLong command limit file → ⊥) × ShowsIt command limit file text
+ShowsWithin command limit file text =
+    (ReadsTooLong command limit file → ⊥) × ShowsIt command limit file text
 
--- the command refuses this file with this fault: the stream that it reads is longer than the limit, else the command's own
+-- the command refuses this file with this fault: the stream that it reads is longer than the limit,
+-- else the command's own
 abbrev pub RefusesWithin : {A : Type 0} → Shown → ℕ → List ℕ → RunFault A → Type 0
 RefusesWithin command limit file fault =
-    ((fault ≡ TooLong) × ReadsTooLong command limit file) ⊎ ((ReadsTooLong command limit file → ⊥) × RefusesIt command limit file fault)
+    ((fault ≡ TooLong) × ReadsTooLong command limit file)
+    ⊎ ((ReadsTooLong command limit file → ⊥) × RefusesIt command limit file fault)
 
 -- ---- the same of what reads gave
 
--- the layout lists a stream at this position that has more bytes than the limit; the greatest number of four bytes is no limit
-pub record ListsLongStream (limit s : ℕ) (layout : LayoutView) : Type 0 where
-  pub limited : limit < 2 ^ 32 - 1
-  pub stream : Listed
-  pub is_stream : slice_get layout.streams s ≡ Some stream
-  pub long : limit < bytes_of stream.size
-
 -- the layout lists more bytes than the limit for the stream that the command reads
 abbrev pub ListsTooLong : Shown → ℕ → LayoutView → Type 0
-ListsTooLong command limit layout = (s : ℕ) × (stream_of command ≡ Some s) × ListsLongStream limit s layout
+ListsTooLong command limit layout =
+    (s : ℕ) × (stream_of command ≡ Some s) × ListsLongStream limit s layout
 
--- the command prints this text of what reads gave of this layout, and the stream that it reads is within the limit
+-- the command prints this text of what reads gave of this layout, and the stream that it reads is
+-- within the limit
 abbrev pub ShowsWithinRead : Shown → ℕ → Bytes → LayoutView → List ℕ → Type 0
-ShowsWithinRead command limit bytes layout text = (ListsTooLong command limit layout → ⊥) × ShowsItRead command limit bytes layout text
+ShowsWithinRead command limit bytes layout text =
+    (ListsTooLong command limit layout → ⊥) × ShowsItRead command limit bytes layout text
 
--- the command refuses what reads gave of this layout with this fault: the stream that it reads is longer than the limit, else the command's own
+-- the command refuses what reads gave of this layout with this fault: the stream that it reads is
+-- longer than the limit, else the command's own
 abbrev pub RefusesWithinRead : {A : Type 0} → Shown → ℕ → Bytes → LayoutView → RunFault A → Type 0
 RefusesWithinRead command limit bytes layout fault =
-    ((fault ≡ TooLong) × ListsTooLong command limit layout) ⊎ ((ListsTooLong command limit layout → ⊥) × RefusesItRead command limit bytes layout fault)
+    ((fault ≡ TooLong) × ListsTooLong command limit layout)
+    ⊎ ((ListsTooLong command limit layout → ⊥) × RefusesItRead command limit bytes layout fault)

@@ -6,7 +6,7 @@
 //! writes one file with the types of several files, and a report on it. [`run_diff`] shows the
 //! types that only one of two files has. Each refusal is a [`RunFault`]. [`run_shown`] runs any
 //! command that shows a file, with a limit on what it reads: the directory, the stream and the names
-//! of streams. [`check_type_stream`] is that limit on inputs of a merge.
+//! of streams.
 //!
 //! [`run_shown_at`] reads by position, and only what the command needs. [`run_shown_file`] does so
 //! too, and reads the whole file where a read by position fails.
@@ -52,7 +52,6 @@
 //! ```
 #![tactic(auto)]
 
-mod bound;
 mod check;
 mod command;
 mod difference;
@@ -65,7 +64,6 @@ mod shown;
 mod streams;
 mod types;
 
-pub use bound::{check_type_stream, check_type_stream_at};
 pub use check::run_check;
 pub use command_texts::Scope;
 pub use difference::run_diff;

@@ -1,7 +1,7 @@
 //! The command `record`: one type record of a file, with the types that it names.
 
 ghost use Rattle.std.specs.Prelude.{◌≡◌, ◌≤◌, ◌^◌, ◌⊎◌, IfOk, IfErr, IfSome, option_map, string_bytes, length};
-ghost use Rattle.byte_io.specs.At.{Bytes, Reads};
+ghost use Rattle.byte_io.specs.At.{Bytes};
 ghost use Rattle.msf_blocks.specs.Layout.{LayoutView};
 ghost use Rattle.pdb_commands.specs.Known.{record_shown, record_refused};
 ghost use Rattle.pdb_commands.specs.Record.{ShowsRecord, ShowsRecordRead, RefusesRecord, RefusesRecordRead, record_of};

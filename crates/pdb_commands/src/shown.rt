@@ -8,7 +8,6 @@ ghost use Rattle.pdb_commands.specs.Known.{within_refused, within_shown, within_
 ghost use Rattle.pdb_commands.specs.Show.{Answers, AnswersAt, IsByPosition, IsByWhole, IsOfText, RefusesBounded, ShowsBounded};
 ghost use Rattle.pdb_commands.specs.Shown.{ListsTooLong, RefusesItRead, RefusesWithin, RefusesWithinRead, ShowsItRead, ShowsWithin, ShowsWithinRead, stream_of};
 
-use crate::bound::{TPI_STREAM, check_size};
 use crate::check::ShowCheck;
 use crate::command::{Show, run_at, run_bounded};
 use crate::fault::RunFault;
@@ -21,6 +20,7 @@ use byte_io::{AtFault, Lend, ReadFault, Sink, Source};
 use msf_blocks::Layout;
 use pdb_info::INFO_STREAM;
 use std::alloc::Allocator;
+use tpi_records::TPI_STREAM;
 
 /// A command that shows a file.
 #[derive(Clone, Copy, Debug, PartialEq, Eq)]
@@ -71,8 +71,8 @@ impl Within {
         ensures own { IfErr result (λ fault. fault ≡ RunFault.TooLong) }
     {
         match self.command.stream() {
-            Some(stream) => check_size(layout, stream, self.limit),
-            None => Ok(()),
+            Some(stream) if layout.is_longer(stream, self.limit) => Err(RunFault::TooLong),
+            _ => Ok(()),
         }
     }
 

@@ -14,7 +14,6 @@ use Rattle.pdb_merge.specs.Fault.{merge_from_input, merge_from_add, add_from_pdb
 use Rattle.pdb_merge.specs.Answer.{RefusesFiles, RefusesReading}
 use Rattle.file_types.specs.Read.{HasPdbFault}
 use Rattle.pdb_merge.specs.Union.{AcceptedBelow, CanMerge, CanMergeBelow, IsMergeFault, IsReadingFault, IsReadingFaultAt, ReadsFirst}
-use Rattle.pdb_merge.proofs.MemoryLaws.{pdb_named}
 use Rattle.file_types.proofs.ReadLaws.{accepted_unrefused}
 use Rattle.pdb_merge.proofs.UnionLaws.{refuses_files, stopped_alone}
 use Rattle.pdb_merge.specs.declared.fault.AddFault.{AddFault}

@@ -1,17 +1,11 @@
 -- Out of memory comes only where the container has no fault.
-use Rattle.std.proofs.Common.{◌≡◌, ◌<◌, ◌∙◌, ℕ, List, Some, None, get_or, refl, sym, ap, inl, inr}
+use Rattle.std.proofs.Common.{◌≡◌, ◌<◌, ◌∙◌, ℕ, List, None, get_or, refl, sym}
 use Rattle.std.specs.Prelude.{Result, Ok, Err, IfErr}
 use Rattle.byte_io.specs.At.{Bytes, IfKnown}
-use Rattle.byte_fields.specs.Check.{Refuses, first_failing}
+use Rattle.byte_fields.specs.Check.{first_failing}
 use Rattle.msf_blocks.specs.Layout.{LayoutView, HasLayout, layout_checks}
-use Rattle.msf_blocks.specs.declared.fault.MsfFault.{MsfFault}
-use Rattle.msf_blocks.specs.declared.fault.MsfFault.TheVariants as msf
 use Rattle.msf_blocks.proofs.FoundLaws.{layout_holds}
-use Rattle.msf_blocks.proofs.MemoryLaws.{layout_wants_none}
-use Rattle.file_types.specs.Fault.{pdb_from_msf}
 use Rattle.pdb_merge.specs.Fault.{add_from_pdb, add_from_join, AddNamesFault}
-use Rattle.file_types.specs.Read.{HasPdbFault}
-use Rattle.pdb_merge.specs.Union.{IsAddFault}
 use Rattle.type_table.specs.declared.fault.JoinFault.{JoinFault}
 use Rattle.type_table.specs.declared.fault.JoinFault.TheVariants as join
 use Rattle.pdb_merge.specs.declared.fault.AddFault.{AddFault}

@@ -1,5 +1,5 @@
 -- A merge that takes files one after the other.
-use Rattle.std.proofs.Common.{◌≡◌, ◌↔◌, ◌⊎◌, inl, inr, ℕ, ◌+◌, ◌<◌, ◌≤◌, List, [], ◌∷◌, ◌++◌, length, get_or, take, drop, refl, ap, ◌∙◌, arith, length-append}
+use Rattle.std.proofs.Common.{◌≡◌, ◌↔◌, ℕ, ◌+◌, ◌<◌, ◌≤◌, List, [], ◌∷◌, ◌++◌, length, get_or, take, drop, refl, ap, ◌∙◌, arith, length-append}
 use Rattle.std.proofs.lemmas.List.{get_or_append_left, take_more, take-append-drop, length-take-le}
 use Rattle.std.proofs.Math.Seq.{get_or-append_seam}
 use Rattle.closed_trees.specs.Tree.{Tree, IsType}
@@ -9,10 +9,7 @@ use Rattle.type_table.proofs.CanonTableLaws.{canon_same}
 use Rattle.byte_io.specs.At.{Bytes, IfKnown, IfOf}
 use Rattle.byte_io.specs.declared.at.AtFault.{AtFault}
 use Rattle.byte_io.specs.declared.at.AtFault.TheVariants as at
-use Rattle.pdb_merge.specs.Fault.{merge_from_add, add_from_pdb}
-use Rattle.file_types.specs.Read.{HasPdbFault}
-use Rattle.file_types.specs.declared.fault.PdbFault.{PdbFault}
-use Rattle.file_types.specs.declared.fault.PdbFault.TheVariants as pdb
+use Rattle.pdb_merge.specs.Fault.{merge_from_add}
 use Rattle.pdb_merge.specs.Merging.{MergeView, HasTaken}
 use Rattle.pdb_merge.specs.Union.{HasType, HasTypeBelow, AcceptedBelow, Within, AddsFile, IsAddFault, CanMerge, CanMergeBelow, IsMergeFault, Unites}
 use Rattle.pdb_merge.specs.declared.fault.AddFault.{AddFault}

@@ -1,17 +1,11 @@
 -- The first fault of texts, where the bytes of a file need not be known.
-use Rattle.std.proofs.Common.{◌≡◌, ◌⊎◌, ℕ, ◌<◌, List, ◌∙◌, refl, ap, inl, inr}
-use Rattle.msf_blocks.specs.declared.fault.MsfFault.{MsfFault}
-use Rattle.msf_blocks.specs.declared.fault.MsfFault.TheVariants as msf
+use Rattle.std.proofs.Common.{◌≡◌, ◌⊎◌, ℕ, ◌<◌, List, refl, inl, inr}
 use Rattle.std.specs.Prelude.{Result, Ok, Err, IfOk, IfErr}
 use Rattle.byte_fields.specs.Bytes.{AreBytes}
 use Rattle.byte_io.specs.At.{Bytes, IfKnown, IfOf, stable}
 use Rattle.byte_io.specs.declared.at.AtFault.{AtFault}
 use Rattle.byte_io.specs.declared.at.AtFault.TheVariants as at
-use Rattle.msf_blocks.specs.Layout.{LayoutView, TextsRefuse}
-use Rattle.msf_streams.specs.Streams.{WasRead}
-use Rattle.tpi_records.specs.Records.{HasRecords, IsFirstFault}
-use Rattle.tpi_records.specs.declared.fault.TpiFault.{TpiFault}
-use Rattle.tpi_records.specs.declared.fault.TpiFault.TheVariants as tpi
+use Rattle.msf_blocks.specs.Layout.{LayoutView}
 use Rattle.closed_trees.specs.Tree.{Tree}
 use Rattle.closed_trees.specs.Canon.{weight}
 use Rattle.closed_trees.specs.Table.{IsUnion}
@@ -20,7 +14,6 @@ use Rattle.type_table.specs.declared.fault.JoinFault.TheVariants as join
 use Rattle.file_types.specs.Read.{ListsTypes, TypesWereRead, UncheckedWereRead, HasPdbFaultRead, HasFaultOfTexts}
 use Rattle.pdb_merge.specs.Union.{AddsFile, AddsRead, AddsTexts, IsAddFault, IsAddFaultRead, IsAddFaultOfTexts}
 use Rattle.file_types.proofs.KnownLaws.{accepted_known, lists_read, texts_fault_known}
-use Rattle.file_types.specs.Fault.{pdb_from_msf, pdb_from_tpi}
 use Rattle.pdb_merge.specs.Fault.{add_from_pdb, add_from_join}
 use Rattle.file_types.specs.declared.fault.PdbFault.{PdbFault}
 use Rattle.file_types.specs.declared.fault.PdbFault.TheVariants as fault

@@ -8,14 +8,12 @@ use Rattle.std.proofs.lemmas.List.Elements.{Contains-get_or}
 use Rattle.closed_trees.specs.Tree.{Tree, tree, IsType}
 use Rattle.closed_trees.specs.Canon.{weight}
 use Rattle.closed_trees.specs.Table.{IsUnion}
-use Rattle.type_table.specs.declared.fault.JoinFault.{JoinFault}
-use Rattle.type_table.specs.declared.fault.JoinFault.TheVariants as join
 use Rattle.closed_trees.proofs.WeightLaws.{weight-none, weight_grows}
 use Rattle.file_types.specs.Read.{IsAccepted}
 use Rattle.byte_io.specs.Inputs.{Give}
 use Rattle.byte_io.specs.declared.inputs.InputFault.{InputFault}
 use Rattle.pdb_merge.specs.Answer.{RefusesFiles}
-use Rattle.pdb_merge.specs.Fault.{NamesFault, add_from_join, merge_from_add}
+use Rattle.pdb_merge.specs.Fault.{NamesFault, merge_from_add}
 use Rattle.pdb_merge.specs.Laws.{TypesOfFirst, TypesOfBoth, AnyOrder, RefusedInAnyOrder, OneWeight}
 use Rattle.pdb_merge.specs.Union.{FileHas, HasTypeBelow, HasType, AcceptedBelow, Weighs, Within, AddsFile, IsAddFault, CanMerge, CanMergeBelow, IsMergeFault, ReadsFirst, Unites}
 use Rattle.pdb_merge.specs.declared.fault.AddFault.{AddFault}

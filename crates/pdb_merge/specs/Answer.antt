@@ -18,7 +18,8 @@ pub record AcceptsFiles (known : Option (List (Result (List ℕ) InputFault))) (
   pub can : (given : List (List ℕ)) → Give known given → CanMerge given limit
 
 -- the files of the inputs were refused with this fault
-pub record RefusesFiles {A : Type 0} (known : Option (List (Result (List ℕ) InputFault))) (limit : ℕ) (fault : MergeFault A) : Type 0 where
+pub record RefusesFiles {A : Type 0} (known : Option (List (Result (List ℕ) InputFault)))
+    (limit : ℕ) (fault : MergeFault A) : Type 0 where
   -- it is the first fault of the files
   pub first : (given : List (List ℕ)) → Give known given → IsMergeFault given limit fault
   -- reading comes first: every file was read, or the fault is that of the first unread file
@@ -26,12 +27,15 @@ pub record RefusesFiles {A : Type 0} (known : Option (List (Result (List ℕ) In
   -- out of memory is always `Memory`, whatever is known of the inputs
   pub named : NamesFault fault
   -- files that can be merged are refused only when out of memory
-  pub found : (given : List (List ℕ)) → Give known given → CanMerge given limit → fault ≡ merge.Memory
+  pub found : (given : List (List ℕ)) → Give known given → CanMerge given limit
+      → fault ≡ merge.Memory
   -- files that are refused in one order are refused in any order
-  pub any_order : (given : List (List ℕ)) → Give known given → fault ≢ merge.Memory → (others : List (List ℕ)) → SameFiles given others → CanMerge others limit → ⊥
+  pub any_order : (given : List (List ℕ)) → Give known given → fault ≢ merge.Memory
+      → (others : List (List ℕ)) → SameFiles given others → CanMerge others limit → ⊥
 
 -- the types of the inputs were not read, because of this fault
-pub record RefusesReading {A : Type 0} (known : Option (List (Result (List ℕ) InputFault))) (fault : MergeFault A) : Type 0 where
+pub record RefusesReading {A : Type 0} (known : Option (List (Result (List ℕ) InputFault)))
+    (fault : MergeFault A) : Type 0 where
   -- it is the first fault of the files
   pub first : (given : List (List ℕ)) → Give known given → IsReadingFault given fault
   -- reading comes first: every file was read, or the fault is that of the first unread file
@@ -39,7 +43,8 @@ pub record RefusesReading {A : Type 0} (known : Option (List (Result (List ℕ) 
   -- out of memory is always `Memory`, whatever is known of the inputs
   pub named : NamesFault fault
   -- files that are accepted are refused only when out of memory
-  pub found : (given : List (List ℕ)) → Give known given → AcceptedBelow given (length given) → fault ≡ merge.Memory
+  pub found : (given : List (List ℕ)) → Give known given → AcceptedBelow given (length given)
+      → fault ≡ merge.Memory
 
 -- what a merge wrote: the bytes of its sink before and after, and what it says of the file
 abbrev pub Writes : Type 1

@@ -23,9 +23,11 @@ type_stream records = header_bytes (length records) (length (concat records)) ++
 abbrev pub parts_contents : List ℕ → List ℕ → List ℕ → List (List ℕ)
 parts_contents info header records = [] ∷ info ∷ (header ++ records) ∷ [] ∷ [] ∷ []
 
--- the streams of a file with these settings and these records: an empty stream, the info stream, the TPI stream, and two empty streams
+-- the streams of a file with these settings and these records: an empty stream, the info stream,
+-- the TPI stream, and two empty streams
 abbrev pub merged_contents : SettingsView → List (List ℕ) → List (List ℕ)
-merged_contents settings records = [] ∷ info_contents settings.age settings.guid ∷ type_stream records ∷ [] ∷ [] ∷ []
+merged_contents settings records =
+    [] ∷ info_contents settings.age settings.guid ∷ type_stream records ∷ [] ∷ [] ∷ []
 
 -- the file with these settings and these records
 unfoldable pub merged_file : SettingsView → List (List ℕ) → List ℕ
@@ -33,7 +35,8 @@ merged_file settings records = image settings.block_size (merged_contents settin
 
 -- x is the file with these settings for the canonical list of the types that have P
 abbrev pub Merged : (Tree → Type 0) → SettingsView → List ℕ → Type 0
-Merged P settings x = (records : List (List ℕ)) × IsCanonOf records P × (x ≡ merged_file settings records)
+Merged P settings x =
+    (records : List (List ℕ)) × IsCanonOf records P × (x ≡ merged_file settings records)
 
 -- ---- what holds of the file
 
@@ -41,7 +44,8 @@ Merged P settings x = (records : List (List ℕ)) × IsCanonOf records P × (x �
 abbrev pub StandOnce : List (List ℕ) → Type 0
 StandOnce records = (i j : ℕ) (t : Tree) → IsTreeAt records i t → IsTreeAt records j t → i ≡ j
 
--- the file is accepted with these records, which are a canonical list of the types that have P: it has just these types, each once
+-- the file is accepted with these records, which are a canonical list of the types that have P: it
+-- has just these types, each once
 pub record HoldsJust (P : Tree → Type 0) (file : List ℕ) (records : List (List ℕ)) : Type 0 where
   pub accepted : IsAccepted file records
   pub canon : IsCanonOf records P
@@ -51,11 +55,13 @@ pub record HoldsJust (P : Tree → Type 0) (file : List ℕ) (records : List (Li
 -- any files with the same types give this file, if age, GUID and block size are equal
 abbrev pub IsSameFor : List (List ℕ) → SettingsView → List ℕ → Type 0
 IsSameFor files settings file =
-    (others : List (List ℕ)) (its : SettingsView) (other : List ℕ) → its.age ≡ settings.age → its.guid ≡ settings.guid → its.block_size ≡ settings.block_size
+    (others : List (List ℕ)) (its : SettingsView) (other : List ℕ) → its.age ≡ settings.age
+    → its.guid ≡ settings.guid → its.block_size ≡ settings.block_size
     → SameTypes files others → Merged (HasType others) its other → other ≡ file
 
 -- this is the file of the types of some files, with these records
-pub record IsFileOf (files : List (List ℕ)) (settings : SettingsView) (file : List ℕ) (records : List (List ℕ)) : Type 0 where
+pub record IsFileOf (files : List (List ℕ)) (settings : SettingsView) (file : List ℕ)
+    (records : List (List ℕ)) : Type 0 where
   -- its bytes are those of the canonical list of their types
   pub made : file ≡ merged_file settings records
   -- it is accepted, and its types are exactly those of the files, each once, in canonical order
@@ -69,14 +75,17 @@ pub record IsFileOf (files : List (List ℕ)) (settings : SettingsView) (file : 
 -- ---- what a sink took
 
 -- a sink took the file of these records
-pub record WroteFile (records : List (List ℕ)) (settings : SettingsView) (old new : Option (List ℕ)) (summary : Summary) : Type 0 where
+pub record WroteFile (records : List (List ℕ)) (settings : SettingsView) (old new : Option (List ℕ))
+    (summary : Summary) : Type 0 where
   pub taken : Appends old new (merged_file settings records)
   pub types : summary.types ≡ length records
   pub bytes : summary.bytes ≡ length (concat records)
   pub long : summary.length ≡ length (merged_file settings records)
 
--- a sink took the file of the types of some files, and the summary says how many types it has, how many bytes they have together, and how long the file is
-pub record Wrote (files : List (List ℕ)) (settings : SettingsView) (old new : Option (List ℕ)) (summary : Summary) : Type 0 where
+-- a sink took the file of the types of some files, and the summary says how many types it has, how
+-- many bytes they have together, and how long the file is
+pub record Wrote (files : List (List ℕ)) (settings : SettingsView) (old new : Option (List ℕ))
+    (summary : Summary) : Type 0 where
   pub file : List ℕ
   pub records : List (List ℕ)
   pub taken : Appends old new file
@@ -86,7 +95,8 @@ pub record Wrote (files : List (List ℕ)) (settings : SettingsView) (old new : 
   pub long : summary.length ≡ length file
 
 -- a sink took the first bytes of that file, but not all of them
-pub record WrotePart (files : List (List ℕ)) (settings : SettingsView) (old new : Option (List ℕ)) : Type 0 where
+pub record WrotePart (files : List (List ℕ)) (settings : SettingsView) (old new : Option (List ℕ))
+    : Type 0 where
   pub file : List ℕ
   pub records : List (List ℕ)
   pub taken : AppendsPart old new file

@@ -8,7 +8,8 @@ pub record MergeView : Type 0 where
   pub types : List (List ℕ)
   pub limit : ℕ
 
--- the merge has taken these files: each is accepted, the merge has just their types, and these are within its limit
+-- the merge has taken these files: each is accepted, the merge has just their types, and these are
+-- within its limit
 pub record HasTaken (merge : MergeView) (files : List (List ℕ)) : Type 0 where
   pub accepted : AcceptedBelow files (length files)
   pub unites : Unites merge.types files (length files)

@@ -37,7 +37,8 @@ SameTypes files others = (t : Tree) → HasType files t ↔ HasType others t
 
 -- the first `end` files are accepted
 abbrev pub AcceptedBelow : List (List ℕ) → ℕ → Type 0
-AcceptedBelow files end = (i : ℕ) → i < end → (records : List (List ℕ)) × IsAccepted (get_or files i []) records
+AcceptedBelow files end =
+    (i : ℕ) → i < end → (records : List (List ℕ)) × IsAccepted (get_or files i []) records
 
 -- ---- how many bytes types have
 
@@ -74,18 +75,23 @@ abbrev pub AddsTexts : List (List ℕ) → List (List ℕ) → Bytes → Type 0
 AddsTexts before after bytes =
     (layout : LayoutView) × HasTexts bytes layout × AddsRead before after bytes layout
 
--- this is why the file is not added to the types of `before`: it is not accepted, or the union has `bytes` bytes, more than the limit, or memory ran out
+-- this is why the file is not added to the types of `before`: it is not accepted, or the union has
+-- `bytes` bytes, more than the limit, or memory ran out
 abbrev pub IsAddFault : {A : Type 0} → List (List ℕ) → ℕ → List ℕ → AddFault A → Type 0
 IsAddFault before limit file (add.Refused fault) = HasPdbFault file fault
 IsAddFault before limit file (add.TooLarge bytes) =
-    (records : List (List ℕ)) × IsAccepted file records × Weighs (λ t. IsType before t ⊎ IsType records t) bytes × (limit < bytes)
+    (records : List (List ℕ)) × IsAccepted file records
+    × Weighs (λ t. IsType before t ⊎ IsType records t) bytes × (limit < bytes)
 IsAddFault before limit file add.Memory = Unit {0}
 
--- this is why what reads gave of this layout is not added to the types of `before`: it has this fault, or the union has `heavy` bytes, more than the limit, or memory ran out
-abbrev pub IsAddFaultRead : {A : Type 0} → List (List ℕ) → ℕ → Bytes → LayoutView → AddFault A → Type 0
+-- this is why what reads gave of this layout is not added to the types of `before`: it has this
+-- fault, or the union has `heavy` bytes, more than the limit, or memory ran out
+abbrev pub IsAddFaultRead : {A : Type 0} → List (List ℕ) → ℕ → Bytes → LayoutView → AddFault A
+    → Type 0
 IsAddFaultRead before limit bytes layout (add.Refused fault) = HasPdbFaultRead bytes layout fault
 IsAddFaultRead before limit bytes layout (add.TooLarge heavy) =
-    (records : List (List ℕ)) × TypesWereRead bytes layout records × Weighs (λ t. IsType before t ⊎ IsType records t) heavy × (limit < heavy)
+    (records : List (List ℕ)) × TypesWereRead bytes layout records
+    × Weighs (λ t. IsType before t ⊎ IsType records t) heavy × (limit < heavy)
 IsAddFaultRead before limit bytes layout add.Memory = Unit {0}
 
 -- reads gave bytes of a container, and its layout has this fault; or memory ran out
@@ -94,9 +100,13 @@ IsLayoutAddFault bytes (add.Refused fault) = IsLayoutFaultRead bytes fault
 IsLayoutAddFault bytes (add.TooLarge heavy) = ⊥
 IsLayoutAddFault bytes add.Memory = Unit {0}
 
--- this is why what reads gave is not added to the types of `before`: the layout has this fault, or reads gave a layout without a fault and what they gave of its streams is not added for this reason
+-- this is why what reads gave is not added to the types of `before`: the layout has this fault, or
+-- reads gave a layout without a fault and what they gave of its streams is not added for this
+-- reason
 abbrev pub IsAddFaultOfTexts : {A : Type 0} → List (List ℕ) → ℕ → Bytes → AddFault A → Type 0
-IsAddFaultOfTexts before limit bytes fault = IsLayoutAddFault bytes fault ⊎ ((layout : LayoutView) × HasTexts bytes layout × IsAddFaultRead before limit bytes layout fault)
+IsAddFaultOfTexts before limit bytes fault =
+    IsLayoutAddFault bytes fault
+    ⊎ ((layout : LayoutView) × HasTexts bytes layout × IsAddFaultRead before limit bytes layout fault)
 
 -- ---- a list of files
 
@@ -110,27 +120,36 @@ pub record CanMergeBelow (files : List (List ℕ)) (end limit : ℕ) : Type 0 wh
   pub accepted : AcceptedBelow files end
   pub within : Within (HasTypeBelow files end) limit
 
--- this is why the files are not merged: the files before one of them can be merged, and this one has this fault, or the union with it has `bytes` bytes, more than the limit; or memory ran out
+-- this is why the files are not merged: the files before one of them can be merged, and this one
+-- has this fault, or the union with it has `bytes` bytes, more than the limit; or memory ran out
 abbrev pub IsMergeFault : {A : Type 0} → List (List ℕ) → ℕ → MergeFault A → Type 0
-IsMergeFault files limit (merge.Refused file fault) = (file < length files) × CanMergeBelow files file limit × HasPdbFault (get_or files file []) fault
+IsMergeFault files limit (merge.Refused file fault) =
+    (file < length files) × CanMergeBelow files file limit
+    × HasPdbFault (get_or files file []) fault
 IsMergeFault files limit (merge.TooLarge file bytes) =
-    (file < length files) × CanMergeBelow files file limit × AcceptedBelow files (file + 1) × Weighs (HasTypeBelow files (file + 1)) bytes × (limit < bytes)
+    (file < length files) × CanMergeBelow files file limit × AcceptedBelow files (file + 1)
+    × Weighs (HasTypeBelow files (file + 1)) bytes × (limit < bytes)
 IsMergeFault files limit merge.Memory = Unit {0}
 IsMergeFault files limit (merge.Input file fault) = ⊥
 
--- this is why the types of the files are not read: the files before one of them are accepted, and this one has this fault; or memory ran out
+-- this is why the types of the files are not read: the files before one of them are accepted, and
+-- this one has this fault; or memory ran out
 abbrev pub IsReadingFault : {A : Type 0} → List (List ℕ) → MergeFault A → Type 0
-IsReadingFault files (merge.Refused file fault) = (file < length files) × AcceptedBelow files file × HasPdbFault (get_or files file []) fault
+IsReadingFault files (merge.Refused file fault) =
+    (file < length files) × AcceptedBelow files file × HasPdbFault (get_or files file []) fault
 IsReadingFault files merge.Memory = Unit {0}
 IsReadingFault files _ = ⊥
 
--- this is why the types of the file at this position are not read: it has this fault, or memory ran out
+-- this is why the types of the file at this position are not read: it has this fault, or memory ran
+-- out
 abbrev pub IsReadingFaultAt : {A : Type 0} → List (List ℕ) → ℕ → MergeFault A → Type 0
-IsReadingFaultAt files position (merge.Refused file fault) = (file ≡ position) × HasPdbFault (get_or files position []) fault
+IsReadingFaultAt files position (merge.Refused file fault) =
+    (file ≡ position) × HasPdbFault (get_or files position []) fault
 IsReadingFaultAt files position merge.Memory = Unit {0}
 IsReadingFaultAt files position _ = ⊥
 
--- reading comes first: this fault is that of the first input that cannot be read, or every input can be read, or memory ran out
+-- reading comes first: this fault is that of the first input that cannot be read, or every input
+-- can be read, or memory ran out
 abbrev pub ReadsFirst : {A : Type 0} → List (Result (List ℕ) InputFault) → MergeFault A → Type 0
 ReadsFirst each (merge.Input file fault) = IsFirstUnread each file fault
 ReadsFirst each merge.Memory = Unit {0}

@@ -11,7 +11,7 @@ ghost use Rattle.pdb_merge.specs.Union.{AcceptedBelow, IsReadingFaultAt, ReadsFi
 use crate::fault::{AddFault, MergeFault};
 use byte_io::{AtFault, InputFault, Inputs, Lend, ReadFault};
 use checked_types::Types;
-use file_types::{Buffer, PdbFault, check_types, read_unchecked};
+use file_types::{BoundedFault, Buffer, PdbFault, check_types, read_unchecked_within};
 use std::alloc::{Allocator, Global};
 use tpi_records::Records;
 
@@ -110,7 +110,8 @@ fn refuse<I: Inputs, A: Allocator>(inputs: &I, input: usize, fault: PdbFault<A>)
     }
 }
 
-/// Reads the records of an input by a reader of its bytes. `AtFault::Read` is a read that failed.
+/// Reads the records of an input by a reader of its bytes, whose parts are held against the limit of
+/// the inputs. `AtFault::Read` is a read that failed.
 fn read_with<'a, 'b: 'a, I: Inputs, R: Lend<'b>, A: Allocator + Copy>(
     alloc: A,
     inputs: &I,
@@ -131,9 +132,15 @@ fn read_with<'a, 'b: 'a, I: Inputs, R: Lend<'b>, A: Allocator + Copy>(
         IfSome (I.known inputs.now) (λ each. ReadsFirst each fault))) }
     ensures named { IfErr result (IfOf NamesFault) }
 {
-    match read_unchecked(alloc, reader, buffer) {
+    match read_unchecked_within(alloc, reader, inputs.limit(), buffer) {
         Ok(records) => Ok(records),
-        Err(AtFault::Of(fault)) => Err(AtFault::Of(refuse(inputs, input, fault))),
+        Err(AtFault::Of(BoundedFault::TooLong)) => {
+            let fault = InputFault::Read(ReadFault::TooLong);
+            Err(AtFault::Of(input_fault(input, fault)))
+        }
+        Err(AtFault::Of(BoundedFault::Of(fault))) => {
+            Err(AtFault::Of(refuse(inputs, input, fault)))
+        }
         Err(AtFault::Read) => Err(AtFault::Read),
     }
 }
@@ -209,8 +216,8 @@ pub(crate) fn read_input<'a, I: Inputs, A: Allocator + Copy>(
 ///
 /// The input is opened, read and checked as in a merge. An input that is opened by position is read
 /// only as far as its types need it. If such a read fails, the input is read to its end. An input
-/// that cannot be read is refused first, `Input`, even if it comes after one that has a fault of
-/// its own. Then comes the fault of this input, `Refused`. Both name the input by its position.
+/// that cannot be read, or that has a part longer than the limit of the inputs, is refused first,
+/// `Input`, even if it comes after one that has a fault of its own. Then comes the fault of this input, `Refused`. Both name the input by its position.
 /// `Memory` is out of memory.
 pub fn read_input_types<'a, I: Inputs, A: Allocator + Copy>(
     alloc: A,

@@ -4,8 +4,7 @@ ghost use Rattle.std.specs.Prelude.{◌≡◌, None, Some, length, map, slice_ge
 
 use crate::files::{Reading, open_told, open_within};
 use crate::progress::Progress;
-use byte_io::{AtFault, In, InputFault, Inputs, Opened, ReadFault, Seeking, read_into, skip_all};
-use pdb_commands::{RunFault, check_type_stream, check_type_stream_at};
+use byte_io::{In, InputFault, Inputs, Opened, ReadFault, Seeking, read_into, skip_all};
 use std::alloc::Allocator;
 use std::fmt;
 use std::io::Eprint;
@@ -32,7 +31,7 @@ impl<R: Files> fmt::Debug for InputFiles<'_, R> {
 
 impl<'a, R: Files + AllocGlobal> InputFiles<'a, R> {
     /// The files with these names. None of them is opened yet. A file with more than `max_bytes`
-    /// bytes is too long, and so is one whose stream of types has more. `progress` tells how many of
+    /// bytes is too long, and so is one whose directory or stream of types has more. `progress` tells how many of
     /// them were read.
     pub fn new(
         rt: &'a R,
@@ -68,8 +67,7 @@ impl<'a, R: Files + AllocGlobal> InputFiles<'a, R> {
         Ok(name.as_str())
     }
 
-    /// Reads a file that is open to its end, and checks that its stream of types is not too long.
-    /// `length` is what the system says that the file has.
+    /// Reads a file that is open to its end. `length` is what the system says that the file has.
     fn read_whole<'b, A: Allocator>(
         &self,
         file: R::File,
@@ -84,16 +82,7 @@ impl<'a, R: Files + AllocGlobal> InputFiles<'a, R> {
             .reserve_exact(length.saturating_add(1))
             .map_err(|_| InputFault::Read(ReadFault::Memory))?;
         read_into(&mut In::new(file), self.max_bytes, buffer).map_err(InputFault::Read)?;
-        check_type_stream(self.rt.alloc(), buffer, self.max_bytes).map_err(limit_fault)?;
         Ok(buffer)
-    }
-}
-
-/// The fault of a file whose stream of types was held against the limit.
-fn limit_fault<A: Allocator>(fault: RunFault<A>) -> InputFault {
-    match fault {
-        RunFault::Memory => InputFault::Read(ReadFault::Memory),
-        _ => InputFault::Read(ReadFault::TooLong),
     }
 }
 
@@ -106,6 +95,12 @@ impl<R: Files + AllocGlobal + Clock + Eprint> Inputs for InputFiles<'_, R> {
         ensures { result ≡ length self.now.names.now }
     {
         self.names.len()
+    }
+
+    fn limit(&self) -> u32
+        ensures { result ≡ self.now.max_bytes }
+    {
+        self.max_bytes
     }
 
     fn read<'b, A: Allocator>(
@@ -126,15 +121,7 @@ impl<R: Files + AllocGlobal + Clock + Eprint> Inputs for InputFiles<'_, R> {
             progress.tell(input);
         }
         match open_within(self.rt, self.path(input)?, self.max_bytes)? {
-            Reading::At(file) => {
-                let mut file = file;
-                match check_type_stream_at(self.rt.alloc(), &mut file, self.max_bytes) {
-                    Ok(()) => Ok(Opened::At(file)),
-                    Err(AtFault::Of(fault)) => Err(limit_fault(fault)),
-                    // Where a read by position fails, the file is read whole, from its start.
-                    Err(AtFault::Read) => Ok(Opened::Whole(self.read(input, buffer)?)),
-                }
-            }
+            Reading::At(file) => Ok(Opened::At(file)),
             Reading::Whole(file) => Ok(Opened::Whole(self.read_whole(file, None, buffer)?)),
         }
     }

@@ -57,6 +57,6 @@ mod records;
 pub use cursor::Cursor;
 pub use fault::TpiFault;
 pub use framing::first_record;
-pub use header::{FIRST_INDEX, TpiHeader, tpi_header_bytes};
+pub use header::{FIRST_INDEX, TPI_STREAM, TpiHeader, tpi_header_bytes};
 pub use iter::Iter;
 pub use records::Records;

@@ -1,5 +1,5 @@
 use Rattle.std.proofs.lemmas.Result.{err_from_is_err_and}
-use Rattle.file_types.proofs.KnownLaws.{lists_read, refused_lists, types_lists}
+use Rattle.file_types.proofs.KnownLaws.{refused_lists, types_lists}
 use Rattle.pdb_merge.proofs.InputLaws.{at_refuses_reading}
 use Rattle.pdb_merge.proofs.input.read_input_types.Goals as goal
 

@@ -1,4 +1,4 @@
-use Rattle.std.proofs.Common.{◌∙◌, ap, refl, sym}
+use Rattle.std.proofs.Common.{ap, refl, sym}
 use Rattle.byte_io.specs.At.{stable}
 use Rattle.pdb_merge.proofs.InputLaws.{given_file, some_bytes, more_read, given_unread, memory_stops_at}
 use Rattle.pdb_merge.proofs.input.read_whole.Goals as goal

@@ -1,0 +1,91 @@
+//! The records of a file whose parts are limited.
+
+ghost use Rattle.std.specs.Prelude.{◌≡◌, ◌⊎◌, None, IfOk, IfErr};
+ghost use Rattle.byte_fields.specs.Bytes.{AreBytes};
+ghost use Rattle.byte_fields.specs.Check.{first_failing};
+ghost use Rattle.byte_io.specs.At.{IfKnown, IfOf, Reads};
+ghost use Rattle.msf_blocks.specs.Layout.{LayoutView, HasTexts, layout_checks};
+ghost use Rattle.file_types.specs.Bounded.{HasShortParts, IsBoundedFault};
+ghost use Rattle.file_types.specs.Read.{UncheckedWereRead, HasPdbFaultRead, HasFaultOfTexts, IsLayoutFaultRead};
+
+use crate::buffer::Buffer;
+use crate::fault::PdbFault;
+use crate::read::unchecked_of;
+use byte_io::{AtFault, Lend, ReadAt};
+use msf_blocks::{Layout, WithinFault};
+use std::alloc::{Allocator, Global};
+use tpi_records::{Records, TPI_STREAM};
+
+/// Why the types of a file are not read, where its parts are limited.
+#[derive(Debug, PartialEq, Eq, Drop)]
+pub enum BoundedFault<A: Allocator = Global> {
+    /// The directory or stream 2 has more bytes than the limit allows.
+    TooLong,
+    /// The file has this fault.
+    Of(PdbFault<A>),
+}
+
+/// Reads the layout of a file whose directory and stream 2 may have at most `limit` bytes each.
+fn layout_within<R: ReadAt, A: Allocator + Copy>(
+    alloc: A,
+    input: &mut R,
+    limit: u32,
+) -> Result<Layout<A>, AtFault<BoundedFault<A>>>
+    ensures reads { Reads R.bytes R.is_broken input.old input.new result }
+    ensures small { IfKnown (R.bytes input.old) AreBytes }
+    ensures texts { IfOk result (HasTexts (R.bytes input.old)) }
+    ensures short { IfOk result (HasShortParts limit) }
+    ensures refused { IfErr result (IfOf (IsBoundedFault limit (R.bytes input.old) (λ fault.
+        IsLayoutFaultRead (R.bytes input.old) fault ⊎ (fault ≡ PdbFault.Memory)))) }
+    ensures memory { IfErr result (IfOf (λ fault.
+        fault ≡ BoundedFault.Of PdbFault.Memory →
+        IfKnown (R.bytes input.old) (λ file. first_failing (layout_checks file) ≡ None))) }
+{
+    match Layout::read_within(alloc, input, limit) {
+        Ok(layout) if layout.is_longer(TPI_STREAM, limit) => Err(AtFault::Of(
+            BoundedFault::TooLong,
+        )),
+        Ok(layout) => Ok(layout),
+        Err(AtFault::Of(WithinFault::TooLong)) => Err(AtFault::Of(BoundedFault::TooLong)),
+        Err(AtFault::Of(WithinFault::Of(fault))) => {
+            Err(AtFault::Of(BoundedFault::Of(PdbFault::from(fault))))
+        }
+        Err(AtFault::Read) => Err(AtFault::Read),
+    }
+}
+
+/// Reads the records of a file on the way to its types, as [`read_unchecked`] does, unless its
+/// directory or its stream 2 has more than `limit` bytes. Either may list a block many times, so it
+/// may be far longer than its file. `u32::MAX` is no limit.
+///
+/// `TooLong` comes for the directory after the faults of the superblock and before all others, and
+/// for stream 2 where the container is sound, before any fault of its streams. Nothing is reserved
+/// for the part then. The other faults are those of [`read_unchecked`].
+///
+/// [`read_unchecked`]: crate::read_unchecked
+pub fn read_unchecked_within<'a, 'b: 'a, R: Lend<'b>, A: Allocator + Copy>(
+    alloc: A,
+    input: &mut R,
+    limit: u32,
+    buffer: &'a mut Buffer<A>,
+) -> Result<Records<'a, A>, AtFault<BoundedFault<A>>>
+    ensures reads { Reads R.bytes R.is_broken input.old input.new result }
+    ensures small { IfKnown (R.bytes input.old) AreBytes }
+    ensures texts { IfOk result (λ records.
+        (layout : LayoutView) × HasTexts (R.bytes input.old) layout × HasShortParts limit layout
+        × UncheckedWereRead (R.bytes input.old) layout records) }
+    ensures refused { IfErr result (IfOf (IsBoundedFault limit (R.bytes input.old) (λ fault.
+        HasFaultOfTexts HasPdbFaultRead (R.bytes input.old) fault
+        ⊎ (fault ≡ PdbFault.Memory)))) }
+    // Out of memory comes only where the container has no fault.
+    ensures memory { IfErr result (IfOf (λ fault.
+        fault ≡ BoundedFault.Of PdbFault.Memory →
+        IfKnown (R.bytes input.old) (λ file. first_failing (layout_checks file) ≡ None))) }
+{
+    let layout = layout_within(alloc, input, limit)?;
+    match unchecked_of(alloc, input, &layout, buffer) {
+        Ok(records) => Ok(records),
+        Err(AtFault::Of(fault)) => Err(AtFault::Of(BoundedFault::Of(fault))),
+        Err(AtFault::Read) => Err(AtFault::Read),
+    }
+}
