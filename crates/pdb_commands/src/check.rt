@@ -10,7 +10,7 @@ ghost use Rattle.file_types.specs.Read.{TypesWereRead};
 
 use crate::command::{Show, run};
 use crate::fault::RunFault;
-use byte_io::{AtFault, Lend, Sink, Source};
+use byte_io::{AtFault, Opened, ReadAt, Sink, Source};
 use checked_types::Types;
 use command_texts::push_checked;
 use file_types::{Buffer, read_types_of};
@@ -47,10 +47,10 @@ impl<A: Allocator + Copy> Show<A> for ShowCheck {
 
     ghost refuses_read = { λ _. RefusesCheckRead };
 
-    fn text_of<'b, R: Lend<'b>>(
+    fn text_of<R: ReadAt>(
         &self,
         alloc: A,
-        input: &mut R,
+        input: &mut Opened<'_, R>,
         layout: &Layout<A>,
     ) -> Result<String<A>, AtFault<RunFault<A>>> {
         let mut buffer = Buffer::new(alloc);

@@ -10,7 +10,7 @@ ghost use Rattle.pdb_commands.specs.Info.{ShowsInfo, ShowsInfoRead, ShowsInfoWit
 
 use crate::command::{Show, run};
 use crate::fault::RunFault;
-use byte_io::{AtFault, Lend, Sink, Source};
+use byte_io::{AtFault, Lend, Opened, ReadAt, Sink, Source};
 use command_texts::{push_features, push_info_header, push_names};
 use file_types::PdbFault;
 use msf_blocks::Layout;
@@ -97,10 +97,10 @@ impl<A: Allocator + Copy> Show<A> for ShowInfo {
 
     ghost refuses_read = { λ c. RefusesInfoRead c.limit };
 
-    fn text_of<'b, R: Lend<'b>>(
+    fn text_of<R: ReadAt>(
         &self,
         alloc: A,
-        input: &mut R,
+        input: &mut Opened<'_, R>,
         layout: &Layout<A>,
     ) -> Result<String<A>, AtFault<RunFault<A>>> {
         let mut buffer = Vec::new(alloc);

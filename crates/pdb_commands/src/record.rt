@@ -10,7 +10,7 @@ ghost use Rattle.file_types.specs.Read.{RecordsWereRead};
 
 use crate::command::{Show, run};
 use crate::fault::RunFault;
-use byte_io::{AtFault, Lend, Sink, Source};
+use byte_io::{AtFault, Opened, ReadAt, Sink, Source};
 use command_texts::record_text;
 use cv_leaves::check;
 use file_types::{Buffer, read_records_of};
@@ -66,10 +66,10 @@ impl<A: Allocator + Copy> Show<A> for ShowRecord {
 
     ghost refuses_read = { λ c. RefusesRecordRead c.index };
 
-    fn text_of<'b, R: Lend<'b>>(
+    fn text_of<R: ReadAt>(
         &self,
         alloc: A,
-        input: &mut R,
+        input: &mut Opened<'_, R>,
         layout: &Layout<A>,
     ) -> Result<String<A>, AtFault<RunFault<A>>> {
         let mut buffer = Buffer::new(alloc);

@@ -6,7 +6,7 @@ ghost use Rattle.pdb_commands.specs.Show.{Answers};
 
 use crate::command::{Show, run};
 use crate::fault::RunFault;
-use byte_io::{AtFault, Lend, Sink, Source};
+use byte_io::{AtFault, Opened, ReadAt, Sink, Source};
 use command_texts::record_lines;
 use file_types::{Buffer, read_records_of};
 use msf_blocks::Layout;
@@ -25,10 +25,10 @@ impl<A: Allocator + Copy> Show<A> for ShowRecords {
 
     ghost refuses_read = { λ _. RefusesRecordsRead };
 
-    fn text_of<'b, R: Lend<'b>>(
+    fn text_of<R: ReadAt>(
         &self,
         alloc: A,
-        input: &mut R,
+        input: &mut Opened<'_, R>,
         layout: &Layout<A>,
     ) -> Result<String<A>, AtFault<RunFault<A>>> {
         let mut buffer = Buffer::new(alloc);

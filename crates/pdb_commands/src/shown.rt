@@ -3,6 +3,7 @@
 ghost use Rattle.std.specs.Prelude.{◌≡◌, ◌⊎◌, true, false, Err, OnOk, IfOk, IfErr, string_bytes};
 ghost use Rattle.byte_fields.specs.Bytes.{AreBytes};
 ghost use Rattle.byte_io.specs.At.{IfKnown, IfOf, Reads};
+ghost use Rattle.byte_io.specs.Inputs.{is_opened_broken, opened_bytes};
 ghost use Rattle.msf_blocks.specs.Layout.{HasLayout};
 ghost use Rattle.pdb_commands.specs.Known.{within_refused, within_shown, within_unlaid};
 ghost use Rattle.pdb_commands.specs.Show.{Answers, AnswersAt, IsByPosition, IsByWhole, IsOfText, RefusesBounded, ShowsBounded};
@@ -16,7 +17,7 @@ use crate::record::ShowRecord;
 use crate::records::ShowRecords;
 use crate::streams::ShowStreams;
 use crate::types::ShowTypes;
-use byte_io::{AtFault, Lend, ReadFault, Sink, Source};
+use byte_io::{AtFault, Opened, ReadAt, ReadFault, Sink, Source};
 use msf_blocks::Layout;
 use pdb_info::INFO_STREAM;
 use std::alloc::Allocator;
@@ -77,21 +78,24 @@ impl Within {
     }
 
     /// Makes the whole text of a file with this layout, whose stream was checked.
-    fn checked_text<'b, R: Lend<'b>, A: Allocator + Copy>(
+    fn checked_text<R: ReadAt, A: Allocator + Copy>(
         &self,
         alloc: A,
-        input: &mut R,
+        input: &mut Opened<'_, R>,
         layout: &Layout<A>,
     ) -> Result<String<A>, AtFault<RunFault<A>>>
-        requires bytes { IfKnown (R.bytes input.old) AreBytes }
-        requires layout { IfKnown (R.bytes input.old) (λ file. HasLayout file layout.now) }
+        requires bytes { IfKnown (opened_bytes R.bytes input.old) AreBytes }
+        requires layout { IfKnown (opened_bytes R.bytes input.old) (λ file.
+            HasLayout file layout.now) }
         ensures texts { IfOk result (λ text. ShowsItRead self.now.command self.now.limit
-            (R.bytes input.old) layout.now (string_bytes text)) }
+            (opened_bytes R.bytes input.old) layout.now (string_bytes text)) }
         ensures refused { IfErr result (IfOf (λ fault.
-            RefusesItRead self.now.command self.now.limit (R.bytes input.old) layout.now fault
+            RefusesItRead self.now.command self.now.limit (opened_bytes R.bytes input.old)
+            layout.now fault
             ⊎ (fault ≡ RunFault.Memory))) }
         ensures pure { IfErr result (IfOf IsOfText) }
-        ensures reads { Reads R.bytes R.is_broken input.old input.new result }
+        ensures reads { Reads (opened_bytes R.bytes) (is_opened_broken R.is_broken) input.old
+            input.new result }
     {
         match self.command {
             Shown::Records => ShowRecords.text_of(alloc, input, layout),
@@ -113,10 +117,10 @@ impl<A: Allocator + Copy> Show<A> for Within {
 
     ghost refuses_read = { λ c. RefusesWithinRead c.command c.limit };
 
-    fn text_of<'b, R: Lend<'b>>(
+    fn text_of<R: ReadAt>(
         &self,
         alloc: A,
-        input: &mut R,
+        input: &mut Opened<'_, R>,
         layout: &Layout<A>,
     ) -> Result<String<A>, AtFault<RunFault<A>>> {
         self.check_layout(layout)?;
@@ -156,17 +160,18 @@ pub fn run_shown<R: Source, W: Sink, A: Allocator + Copy>(
 /// Runs a command that shows a file by position, as [`run_shown`] does for a whole file, with the
 /// same limits. `TooLong` comes first, if the input says that it has more than `limit` bytes.
 /// `Read` comes where a read that is needed fails.
-pub fn run_shown_at<'b, R: Lend<'b>, W: Sink, A: Allocator + Copy>(
+pub fn run_shown_at<R: ReadAt, W: Sink, A: Allocator + Copy>(
     alloc: A,
     command: Shown,
-    input: &mut R,
+    input: &mut Opened<'_, R>,
     limit: u32,
     out: &mut W,
 ) -> Result<(), RunFault<A>>
     ensures { AnswersAt (ShowsBounded limit (ShowsWithin command limit))
         (RefusesBounded limit (RefusesWithin command limit))
         (ShowsWithinRead command limit) (RefusesWithinRead command limit) limit
-        (R.bytes input.old) (R.is_broken input.new) W.taken W.is_broken out.old out.new result }
+        (opened_bytes R.bytes input.old) (is_opened_broken R.is_broken input.new) W.taken
+        W.is_broken out.old out.new result }
 {
     run_at(alloc, &Within { command, limit }, input, limit, out)
 }
@@ -184,10 +189,10 @@ fn is_unread<A: Allocator>(answer: &Result<(), RunFault<A>>) -> bool
 ///
 /// `input` and `whole` are the same file. If no read by position fails, the answer is that of
 /// [`run_shown_at`]. Otherwise it is that of [`run_shown`].
-pub fn run_shown_file<'b, R: Lend<'b>, S: Source, W: Sink, A: Allocator + Copy>(
+pub fn run_shown_file<R: ReadAt, S: Source, W: Sink, A: Allocator + Copy>(
     alloc: A,
     command: Shown,
-    input: &mut R,
+    input: &mut Opened<'_, R>,
     whole: &mut S,
     limit: u32,
     out: &mut W,
@@ -195,12 +200,12 @@ pub fn run_shown_file<'b, R: Lend<'b>, S: Source, W: Sink, A: Allocator + Copy>(
     ensures { IsByPosition (ShowsBounded limit (ShowsWithin command limit))
         (RefusesBounded limit (RefusesWithin command limit)) (ShowsWithinRead command limit)
         (RefusesWithinRead command limit) limit
-        (R.bytes input.old) (R.is_broken input.new) whole.old whole.new W.taken W.is_broken
-        out.old out.new result
+        (opened_bytes R.bytes input.old) (is_opened_broken R.is_broken input.new) whole.old
+        whole.new W.taken W.is_broken out.old out.new result
         ⊎ IsByWhole (ShowsBounded limit (ShowsWithin command limit))
         (RefusesBounded limit (RefusesWithin command limit)) limit
-        (R.bytes input.old) (R.is_broken input.new) S.left S.is_broken whole.old whole.new
-        W.taken W.is_broken out.old out.new result }
+        (opened_bytes R.bytes input.old) (is_opened_broken R.is_broken input.new) S.left
+        S.is_broken whole.old whole.new W.taken W.is_broken out.old out.new result }
 {
     let answer = run_shown_at(alloc, command, input, limit, out);
     if is_unread(&answer) {

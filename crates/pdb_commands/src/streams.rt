@@ -6,7 +6,7 @@ ghost use Rattle.pdb_commands.specs.Streams.{RefusesStreams, RefusesStreamsRead,
 
 use crate::command::{Show, run};
 use crate::fault::RunFault;
-use byte_io::{AtFault, Lend, Sink, Source};
+use byte_io::{AtFault, Opened, ReadAt, Sink, Source};
 use command_texts::layout_text;
 use msf_blocks::{Layout, free_blocks_at};
 use std::alloc::Allocator;
@@ -24,10 +24,10 @@ impl<A: Allocator + Copy> Show<A> for ShowStreams {
 
     ghost refuses_read = { λ _. RefusesStreamsRead };
 
-    fn text_of<'b, R: Lend<'b>>(
+    fn text_of<R: ReadAt>(
         &self,
         alloc: A,
-        input: &mut R,
+        input: &mut Opened<'_, R>,
         layout: &Layout<A>,
     ) -> Result<String<A>, AtFault<RunFault<A>>> {
         let superblock = layout.superblock();
