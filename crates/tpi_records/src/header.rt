@@ -34,8 +34,7 @@ const HASH_VALUE_BUFFER: usize = 32;
 /// The version V80, which current compilers write.
 const V80: u32 = 20040203;
 
-/// The number of the stream of a container that holds its type records. ("The PDB TPI and IPI
-/// Streams", "Introduction".)
+/// The number of the stream with the type records, in every container that has one.
 pub const TPI_STREAM: u32 = 2;
 
 /// The type index of the first record. The type indices below it are simple types.

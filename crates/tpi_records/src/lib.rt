@@ -1,9 +1,10 @@
 //! The type records of a TPI stream.
 //!
 //! A TPI stream is a header of 56 bytes, then the type records one after the other, then bytes that
-//! nothing here reads. The header says how many records there are and how many bytes they have
-//! together. A record begins with its length: a number of two bytes that does not count itself.
-//! The whole record is a multiple of four bytes long.
+//! nothing here reads. It is stream 2 of its container ([`TPI_STREAM`]). The header says how many
+//! records there are and how many bytes they have together. A record begins with its length: a
+//! number of two bytes that does not count itself. The whole record is a multiple of four bytes
+//! long.
 //!
 //! - [`TpiHeader::read`] checks the header and gives what it says of the records.
 //! - [`Records::read`] checks the header and the records, and lends the records from the stream.
