@@ -26,12 +26,14 @@
 //! fn types_in_canonical_order(rt: HostRuntime) -> Result<(), Fail> {
 //!     let file = sample(rt.alloc())?;
 //!     let mut buffer = Buffer::new(rt.alloc());
-//!     let types = Types::check(rt.alloc(), read_records(rt.alloc(), &file, &mut buffer)?)?;
+//!     let types = read_types(rt.alloc(), &file, &mut buffer)?;
 //!     assert_eq!(rt; types.levels(), 1);
 //!     let mut table = Table::with_hasher(rt.alloc(), folding());
 //!     table.add(rt.alloc(), &types, 1000)?;
 //!     drop(types);
-//!     let records = read_records(rt.alloc(), &file, &mut buffer)?;
+//!     let Ok(records) = read_unchecked(rt.alloc(), &mut file.as_slice(), &mut buffer) else {
+//!         return Err("no records".into());
+//!     };
 //!     // each record names only earlier ones, so the records can be added as they stand
 //!     assert!(rt; table.add_records(rt.alloc(), &records, 1000));
 //!     let canon = table.finish(rt.alloc())?;

@@ -32,7 +32,7 @@
 //! fn a_record_that_is_renumbered(rt: HostRuntime) -> Result<(), Fail> {
 //!     let file = sample(rt.alloc())?;
 //!     let mut buffer = Buffer::new(rt.alloc());
-//!     let types = Types::check(rt.alloc(), read_records(rt.alloc(), &file, &mut buffer)?)?;
+//!     let types = read_types(rt.alloc(), &file, &mut buffer)?;
 //!     let record = types.get(0).ok_or("no such type")?;
 //!     let mut places = Vec::new(rt.alloc());
 //!     assert!(rt; list_places(record, &mut places)?);
