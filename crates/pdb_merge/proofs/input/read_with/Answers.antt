@@ -6,9 +6,10 @@ pub returns-in-Ok-clause-value : goal.returns-in-Ok-clause-value
 returns-in-Ok-clause-value g c = λ file known.
     let read = c.in-Ok.ensures.texts in
     let has = layout_known file read.0 (rw known at read.1) in
-    lists_known file read.0 c.in-Ok.records (c.in-Ok.ensures.small file known) has (rw known at read.2.0) read.2.1
+    lists_known file read.0 c.in-Ok.records (c.in-Ok.ensures.small file known) has (rw known at read.3.0) read.3.1
 
-pub returns-in-Err-Of-clause-own : goal.returns-in-Err-Of-clause-own
-returns-in-Err-Of-clause-own g c = λ files given known.
-    let refused = rw c.in-Err-Of.field-0-is at c.in-Err-Of.ensures.refused in
-    c.refuse.ensures.own files given (refused_known (g.R.ReadAt.bytes c.args.reader.now) c.in-Err-Of.fault refused _ known)
+pub returns-in-Err-Of-Of-clause-own : goal.returns-in-Err-Of-Of-clause-own
+returns-in-Err-Of-Of-clause-own g c = λ files given known.
+    let e = c.in-Err-Of-Of in
+    let refused = rw (e.field-0-is, e.field-0-0-is) at e.ensures.refused in
+    c.refuse.ensures.own files given (refused_known (g.R.ReadAt.bytes c.args.reader.now) e.fault refused _ known)
