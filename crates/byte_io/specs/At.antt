@@ -15,7 +15,11 @@ pub record Bytes : Type 0 where
 -- a list of bytes that are known, and do not change
 abbrev pub stable : List ℕ → Bytes
 stable file =
-    record { known = Some file; told = length file; gives = λ offset byte. get_or file offset 256 == byte }
+    record {
+      known = Some file;
+      told = length file;
+      gives = λ offset byte. get_or file offset 256 == byte;
+    }
 
 -- this holds of the bytes, where they are known
 abbrev pub IfKnown : Bytes → (List ℕ → Type 0) → Type 0

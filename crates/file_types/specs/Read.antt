@@ -26,10 +26,11 @@ HasShortInfo file layout =
     (info : List ℕ) × (stream_contents file layout 1 ≡ Some info) × (length info < 28)
 
 -- a file with this layout has these type records; they are those of its stream 2
-pub record ListsRecords (file : List ℕ) (layout : LayoutView) (records : List (List ℕ)) : Type 0 where
-  pub stream : List ℕ
-  pub is_stream : stream_contents file layout 2 ≡ Some stream
-  pub has_records : HasRecords stream records
+pub record ListsRecords (file : List ℕ) (layout : LayoutView) (records : List (List ℕ)) : Type 0
+  where
+    pub stream : List ℕ
+    pub is_stream : stream_contents file layout 2 ≡ Some stream
+    pub has_records : HasRecords stream records
 
 -- the file has a layout, and these type records
 pub record HasTypeRecords (file : List ℕ) (records : List (List ℕ)) : Type 0 where
@@ -107,7 +108,8 @@ HasPdbFault file (fault.Type inner) =
     × HasTypeFault records inner
 HasPdbFault file inner =
     (layout : LayoutView) × HasLayout file layout
-    × (HasInfoFault file layout inner ⊎ (HasLongInfo file layout × HasStreamFault file layout inner))
+    × (HasInfoFault file layout inner
+    ⊎ (HasLongInfo file layout × HasStreamFault file layout inner))
 
 -- ---- files whose bytes need not be known: the first faults of what reads gave
 
@@ -139,7 +141,8 @@ HasTypeFaultRead bytes layout _ = ⊥
 abbrev pub HasPdbFaultRead : {A : Type 0} → Bytes → LayoutView → PdbFault A → Type 0
 HasPdbFaultRead bytes layout inner =
     HasInfoFaultRead layout inner
-    ⊎ (ListsLongInfo layout × (HasStreamFaultRead bytes layout inner ⊎ HasTypeFaultRead bytes layout inner))
+    ⊎ (ListsLongInfo layout
+    × (HasStreamFaultRead bytes layout inner ⊎ HasTypeFaultRead bytes layout inner))
 
 -- reads gave bytes of a container, and its layout has this fault, which is not out of memory
 abbrev pub IsLayoutFaultRead : {A : Type 0} → Bytes → PdbFault A → Type 0

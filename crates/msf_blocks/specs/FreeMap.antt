@@ -17,7 +17,8 @@ map_block_of fields block =
 -- the byte with the bit of a block
 abbrev pub map_byte_of : List ℕ → Fields → ℕ → ℕ
 map_byte_of file fields block =
-    slice_index file (map_block_of fields block * fields.block_size + block % blocks_per_map_block fields / 8)
+    slice_index file
+    (map_block_of fields block * fields.block_size + block % blocks_per_map_block fields / 8)
 
 -- the block is free: the map block with its bit is in the file, and this bit, counted from the
 -- lowest, is 1
@@ -84,4 +85,7 @@ map_byte num_blocks first = 256 - 2 ^ min 8 (num_blocks - first)
 -- has a bit for each of many blocks; the third belongs to map 2, and all its bytes are 0xFF
 unfoldable pub map_block : ℕ → ℕ → ℕ → List ℕ
 map_block block_size num_blocks k =
-    if k % block_size == 1 then map (λ i. map_byte num_blocks (8 * (block_size * (k / block_size) + i))) (range_with_len 0 block_size) else replicate block_size 255
+    if k % block_size == 1 then map
+    (λ i. map_byte num_blocks (8 * (block_size * (k / block_size) + i)))
+    (range_with_len 0 block_size)
+    else replicate block_size 255

@@ -67,15 +67,22 @@ IsInfoFault limit stream (Info fault) = first_failing (info_checks stream) ≡ S
 IsInfoFault limit stream TooLong = (info : InfoView) × HasInfo stream info × HasLongNames limit info
 IsInfoFault limit stream _ = ⊥
 
--- this is the first fault of the file on the way to the bytes of its info stream: a fault of its layout, else that it has no stream 1
+-- this is the first fault of the file on the way to the bytes of its info stream: a fault of its
+-- layout, else that it has no stream 1
 abbrev pub HasNoInfoStream : {A : Type 0} → List ℕ → PdbFault A → Type 0
-HasNoInfoStream file (pdb.Stream fault) = (layout : LayoutView) × HasLayout file layout × (length layout.streams ≤ 1) × (fault ≡ NoStream 1)
+HasNoInfoStream file (pdb.Stream fault) =
+    (layout : LayoutView) × HasLayout file layout × (length layout.streams ≤ 1)
+    × (fault ≡ NoStream 1)
 HasNoInfoStream file fault = IsLayoutFault file fault
 
--- this is the first fault of the file on the way to its info stream: a fault of its layout, else that it has no stream 1, else a fault of that stream
+-- this is the first fault of the file on the way to its info stream: a fault of its layout, else
+-- that it has no stream 1, else a fault of that stream
 abbrev pub RefusesInfo : {A : Type 0} → List ℕ → RunFault A → Type 0
 RefusesInfo file (Pdb fault) = HasNoInfoStream file fault
-RefusesInfo file (Info fault) = (layout : LayoutView) × (stream : List ℕ) × HasLayout file layout × (stream_contents file layout 1 ≡ Some stream) × (first_failing (info_checks stream) ≡ Some fault)
+RefusesInfo file (Info fault) =
+    (layout : LayoutView) × (stream : List ℕ) × HasLayout file layout
+    × (stream_contents file layout 1 ≡ Some stream)
+    × (first_failing (info_checks stream) ≡ Some fault)
 RefusesInfo file _ = ⊥
 
 -- `info` refuses the file with this fault: the first on the way, else that the names are too long

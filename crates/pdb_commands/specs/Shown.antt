@@ -52,9 +52,12 @@ RefusesItRead shown.Streams limit = RefusesStreamsRead
 
 -- the stream that the command reads whole, if it reads one
 abbrev pub stream_of : Shown → Option ℕ
+stream_of shown.Records = Some 2
+stream_of (shown.Record index) = Some 2
+stream_of shown.Types = Some 2
+stream_of shown.Check = Some 2
 stream_of shown.Info = Some 1
 stream_of shown.Streams = None
-stream_of _ = Some 2
 
 -- the stream at this position has more bytes than the limit; the greatest number of four bytes is
 -- no limit

@@ -56,8 +56,7 @@ impl<A: Allocator + Copy> Show<A> for ShowCheck {
         let mut buffer = Buffer::new(alloc);
         let types = match read_types_of(alloc, input, layout, &mut buffer) {
             Ok(types) => types,
-            Err(AtFault::Of(fault)) => return Err(AtFault::Of(RunFault::from(fault))),
-            Err(AtFault::Read) => return Err(AtFault::Read),
+            Err(fault) => return Err(fault.widen()),
         };
         Ok(types_text(alloc, &types)?)
     }

@@ -51,13 +51,13 @@ pub trait Show<A: Allocator + Copy> {
             input.new result };
 
     /// Of a file that is known, the text of what reads gave is the text that shows the file.
-    ghost shows_known: { (command : Self) → ShowsKnown (shows command) (shows_read command) };
+    ghost shows_known: { (c : Self) → ShowsKnown (shows c) (shows_read c) };
 
     /// Of a file that is known, the fault of what reads gave is the fault of the file.
-    ghost refuses_known: { (command : Self) → RefusesKnown (refuses command) (refuses_read command) };
+    ghost refuses_known: { (c : Self) → RefusesKnown (refuses c) (refuses_read c) };
 
     /// The first fault of its container is the fault of the file.
-    ghost refuses_layout: { (command : Self) → RefusesUnlaid (refuses command) };
+    ghost refuses_layout: { (c : Self) → RefusesUnlaid (refuses c) };
 }
 
 /// Makes the whole text of a file that is read by position. Its layout is read once, and its

@@ -38,8 +38,7 @@ fn stream_bytes_of<'a, 'b: 'a, R: Lend<'b>, L: Allocator, A: Allocator>(
     };
     match contents_at(input, layout, stream, buffer) {
         Ok(bytes) => Ok(bytes),
-        Err(AtFault::Of(fault)) => Err(AtFault::Of(PdbFault::from(fault))),
-        Err(AtFault::Read) => Err(AtFault::Read),
+        Err(fault) => Err(fault.widen()),
     }
 }
 
@@ -106,8 +105,7 @@ impl<A: Allocator + Copy> Show<A> for ShowInfo {
         let mut buffer = Vec::new(alloc);
         let stream = match stream_bytes_of(input, layout, &mut buffer) {
             Ok(stream) => stream,
-            Err(AtFault::Of(fault)) => return Err(AtFault::Of(RunFault::from(fault))),
-            Err(AtFault::Read) => return Err(AtFault::Read),
+            Err(fault) => return Err(fault.widen()),
         };
         let text = stream_text(alloc, stream, self.limit)?;
         Ok(text)

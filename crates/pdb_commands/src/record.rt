@@ -75,8 +75,7 @@ impl<A: Allocator + Copy> Show<A> for ShowRecord {
         let mut buffer = Buffer::new(alloc);
         let records = match read_records_of(alloc, input, layout, &mut buffer) {
             Ok(records) => records,
-            Err(AtFault::Of(fault)) => return Err(AtFault::Of(RunFault::from(fault))),
-            Err(AtFault::Read) => return Err(AtFault::Read),
+            Err(fault) => return Err(fault.widen()),
         };
         match indexed_text(alloc, &records, self.index) {
             Ok(text) => Ok(text),

@@ -34,8 +34,7 @@ impl<A: Allocator + Copy> Show<A> for ShowRecords {
         let mut buffer = Buffer::new(alloc);
         let records = match read_records_of(alloc, input, layout, &mut buffer) {
             Ok(records) => records,
-            Err(AtFault::Of(fault)) => return Err(AtFault::Of(RunFault::from(fault))),
-            Err(AtFault::Read) => return Err(AtFault::Read),
+            Err(fault) => return Err(fault.widen()),
         };
         match record_lines(alloc, &records) {
             Ok(text) => Ok(text),

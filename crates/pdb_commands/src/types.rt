@@ -85,8 +85,7 @@ impl<A: Allocator + Copy> Show<A> for ShowTypes {
         let mut buffer = Buffer::new(alloc);
         let records = match read_records_of(alloc, input, layout, &mut buffer) {
             Ok(records) => records,
-            Err(AtFault::Of(fault)) => return Err(AtFault::Of(RunFault::from(fault))),
-            Err(AtFault::Read) => return Err(AtFault::Read),
+            Err(fault) => return Err(fault.widen()),
         };
         match type_lines(alloc, &records) {
             Ok(text) => Ok(text),

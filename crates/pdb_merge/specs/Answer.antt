@@ -11,11 +11,12 @@ use Rattle.pdb_merge.specs.declared.fault.OutFault.TheVariants as out
 use Rattle.pdb_merge.specs.declared.summary.Summary.{Summary}
 
 -- the files of the inputs were accepted
-pub record AcceptsFiles (known : Option (List (Result (List ℕ) InputFault))) (limit : ℕ) : Type 0 where
-  -- every file was read
-  pub read : IfSome known (λ each. CanRead each (length each))
-  -- they can be merged
-  pub can : (given : List (List ℕ)) → Give known given → CanMerge given limit
+pub record AcceptsFiles (known : Option (List (Result (List ℕ) InputFault))) (limit : ℕ) : Type 0
+  where
+    -- every file was read
+    pub read : IfSome known (λ each. CanRead each (length each))
+    -- they can be merged
+    pub can : (given : List (List ℕ)) → Give known given → CanMerge given limit
 
 -- the files of the inputs were refused with this fault
 pub record RefusesFiles {A : Type 0} (known : Option (List (Result (List ℕ) InputFault)))

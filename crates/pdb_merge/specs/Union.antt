@@ -106,7 +106,8 @@ IsLayoutAddFault bytes add.Memory = Unit {0}
 abbrev pub IsAddFaultOfTexts : {A : Type 0} → List (List ℕ) → ℕ → Bytes → AddFault A → Type 0
 IsAddFaultOfTexts before limit bytes fault =
     IsLayoutAddFault bytes fault
-    ⊎ ((layout : LayoutView) × HasTexts bytes layout × IsAddFaultRead before limit bytes layout fault)
+    ⊎ ((layout : LayoutView) × HasTexts bytes layout
+    × IsAddFaultRead before limit bytes layout fault)
 
 -- ---- a list of files
 
