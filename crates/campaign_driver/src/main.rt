@@ -11,6 +11,7 @@
 #![tactic(auto)]
 
 mod case;
+mod files;
 mod line;
 mod runs;
 

@@ -10,6 +10,7 @@
 //! a file that was not written has no line.
 
 use crate::case::Head;
+use crate::files::Positioned;
 use crate::line::{push_end, push_fault, push_words, push_written};
 use byte_io::{In, Out};
 use pdb_commands::{
@@ -127,7 +128,7 @@ fn push_merge<R: AllocGlobal + RandomSource>(
     let mut report = Vec::new(rt.alloc());
     let merged = run_merge(
         rt.alloc(),
-        files,
+        Positioned::new(files),
         settings,
         &mut Out::new(&mut written),
         &mut Out::new(&mut report),

@@ -1,10 +1,8 @@
 //! The faults of the container.
 
-ghost use Rattle.std.specs.Prelude.{◌≡◌, ◌↔◌, ◌≤◌, IfSome, IsSome};
-
 use crate::page::Page;
 
-const SHORT: Page = Page {
+pub const SHORT: Page = Page {
     number: 1,
     text: "Short",
     meaning: "the file has fewer than 56 bytes, so it has no whole superblock",
@@ -12,7 +10,7 @@ const SHORT: Page = Page {
     advice: "wait until the writer has ended, or copy the file again",
 };
 
-const MAGIC: Page = Page {
+pub const MAGIC: Page = Page {
     number: 2,
     text: "Magic",
     meaning: "the file does not begin with the 32 bytes with which each PDB file of MSF 7.00 begins",
@@ -22,7 +20,7 @@ const MAGIC: Page = Page {
         portable PDB out, since it has no such types",
 };
 
-const BLOCK_SIZE: Page = Page {
+pub const BLOCK_SIZE: Page = Page {
     number: 3,
     text: "BlockSize d",
     meaning: "the superblock says that a block has d bytes, which is not 512, 1024, 2048, 4096, 8192, \
@@ -31,7 +29,7 @@ const BLOCK_SIZE: Page = Page {
     advice: "copy the file again, or have the linker write it again",
 };
 
-const FREE_MAP_BLOCK: Page = Page {
+pub const FREE_MAP_BLOCK: Page = Page {
     number: 4,
     text: "FreeMapBlock d",
     meaning: "the superblock says that the free block map in use is block d, which is not 1 or 2",
@@ -39,7 +37,7 @@ const FREE_MAP_BLOCK: Page = Page {
     advice: "copy the file again, or have the linker write it again",
 };
 
-const FILE_SIZE: Page = Page {
+pub const FILE_SIZE: Page = Page {
     number: 5,
     text: "FileSize need d have d",
     meaning: "the superblock announces more bytes (need) than the file has (have)",
@@ -48,7 +46,7 @@ const FILE_SIZE: Page = Page {
         write to another name and rename",
 };
 
-const DIRECTORY_SIZE: Page = Page {
+pub const DIRECTORY_SIZE: Page = Page {
     number: 6,
     text: "DirectorySize d",
     meaning: "the superblock says that the stream directory has d bytes, which is not a multiple of \
@@ -57,7 +55,7 @@ const DIRECTORY_SIZE: Page = Page {
     advice: "copy the file again, or have the linker write it again",
 };
 
-const BLOCK_MAP_ADDR: Page = Page {
+pub const BLOCK_MAP_ADDR: Page = Page {
     number: 7,
     text: "BlockMapAddr d",
     meaning: "the superblock says that block d lists the blocks of the stream directory, but the file \
@@ -66,7 +64,7 @@ const BLOCK_MAP_ADDR: Page = Page {
     advice: "copy the file again, or have the linker write it again",
 };
 
-const DIRECTORY_BLOCK: Page = Page {
+pub const DIRECTORY_BLOCK: Page = Page {
     number: 8,
     text: "DirectoryBlock at d n d",
     meaning: "the block map lists block n of the stream directory at this position, but the file has \
@@ -76,7 +74,7 @@ const DIRECTORY_BLOCK: Page = Page {
     advice: "copy the file again, or have the linker write it again",
 };
 
-const DIRECTORY_SHORT: Page = Page {
+pub const DIRECTORY_SHORT: Page = Page {
     number: 9,
     text: "DirectoryShort need d have d",
     meaning: "the stream directory has fewer bytes (have) than its own numbers say that it needs \
@@ -86,7 +84,7 @@ const DIRECTORY_SHORT: Page = Page {
     advice: "copy the file again, or have the linker write it again",
 };
 
-const STREAM_BLOCK: Page = Page {
+pub const STREAM_BLOCK: Page = Page {
     number: 10,
     text: "StreamBlock stream d at d n d",
     meaning: "the stream directory lists block n of this stream at this position, but the file has no \
@@ -95,23 +93,3 @@ const STREAM_BLOCK: Page = Page {
         were written",
     advice: "copy the file again, or have the linker write it again",
 };
-
-/// The page of the fault that has this number, if it is one of these.
-pub fn page(number: u32) -> Option<Page>
-    ensures value { IfSome result (λ page. page.number ≡ number) }
-    ensures some { IsSome result ↔ ((1 ≤ number) × (number ≤ 10)) }
-{
-    match number {
-        1 => Some(SHORT),
-        2 => Some(MAGIC),
-        3 => Some(BLOCK_SIZE),
-        4 => Some(FREE_MAP_BLOCK),
-        5 => Some(FILE_SIZE),
-        6 => Some(DIRECTORY_SIZE),
-        7 => Some(BLOCK_MAP_ADDR),
-        8 => Some(DIRECTORY_BLOCK),
-        9 => Some(DIRECTORY_SHORT),
-        10 => Some(STREAM_BLOCK),
-        _ => None,
-    }
-}

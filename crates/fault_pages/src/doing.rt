@@ -1,10 +1,8 @@
 //! The faults of limits, of memory, of reading and of writing.
 
-ghost use Rattle.std.specs.Prelude.{◌≡◌, ◌↔◌, ◌≤◌, IfSome, IsSome};
-
 use crate::page::Page;
 
-const TOO_LARGE: Page = Page {
+pub const TOO_LARGE: Page = Page {
     number: 32,
     text: "TooLarge bytes d",
     meaning: "the types of the files up to this one, each taken once, have d bytes of records, which \
@@ -13,7 +11,7 @@ const TOO_LARGE: Page = Page {
     advice: "give a higher --limit, up to 1073741824, or merge fewer files",
 };
 
-const MEMORY: Page = Page {
+pub const MEMORY: Page = Page {
     number: 33,
     text: "Memory",
     meaning: "the system gave no more memory",
@@ -23,7 +21,7 @@ const MEMORY: Page = Page {
         again, with the same bytes in the end",
 };
 
-const CYCLE: Page = Page {
+pub const CYCLE: Page = Page {
     number: 34,
     text: "Cycle x x ..",
     meaning: "the records of these type indices name each other in a circle, or one of them names \
@@ -33,7 +31,7 @@ const CYCLE: Page = Page {
     advice: "copy the file again, or have the linker write it again",
 };
 
-const IMAGE: Page = Page {
+pub const IMAGE: Page = Page {
     number: 35,
     text: "Image",
     meaning: "the streams do not fit into one file with blocks of this size",
@@ -41,7 +39,7 @@ const IMAGE: Page = Page {
     advice: "take larger blocks; no command meets this fault, since --limit keeps below it",
 };
 
-const WRITE: Page = Page {
+pub const WRITE: Page = Page {
     number: 36,
     text: "Write",
     meaning: "not all bytes of the file or of the text could be written, or the system could not store \
@@ -51,7 +49,7 @@ const WRITE: Page = Page {
         report could not be written",
 };
 
-const READ: Page = Page {
+pub const READ: Page = Page {
     number: 37,
     text: "Read",
     meaning: "a read failed",
@@ -59,7 +57,7 @@ const READ: Page = Page {
     advice: "give a file, and look at the messages of the system",
 };
 
-const TOO_LONG: Page = Page {
+pub const TOO_LONG: Page = Page {
     number: 38,
     text: "TooLong",
     meaning: "the file, its directory, the stream that the command reads, or the names that info \
@@ -69,7 +67,7 @@ const TOO_LONG: Page = Page {
     advice: "raise --max-bytes if the file is known to be good",
 };
 
-const NO_RECORD: Page = Page {
+pub const NO_RECORD: Page = Page {
     number: 39,
     text: "NoRecord x",
     meaning: "no type record of the file has the type index x",
@@ -78,7 +76,7 @@ const NO_RECORD: Page = Page {
     advice: "list the indices of the file with pdbmerge records",
 };
 
-const OPEN: Page = Page {
+pub const OPEN: Page = Page {
     number: 40,
     text: "Open",
     meaning: "the file cannot be opened",
@@ -86,30 +84,10 @@ const OPEN: Page = Page {
     advice: "look at the name, and at the rights to read the file and to pass its folders",
 };
 
-const CREATE: Page = Page {
+pub const CREATE: Page = Page {
     number: 41,
     text: "Create",
     meaning: "the file OUT cannot be created",
     cause: "a folder that is not there, or into which nothing may be written",
     advice: "look at the name, and at the rights to write into its folder",
 };
-
-/// The page of the fault that has this number, if it is one of these.
-pub fn page(number: u32) -> Option<Page>
-    ensures value { IfSome result (λ page. page.number ≡ number) }
-    ensures some { IsSome result ↔ ((32 ≤ number) × (number ≤ 41)) }
-{
-    match number {
-        32 => Some(TOO_LARGE),
-        33 => Some(MEMORY),
-        34 => Some(CYCLE),
-        35 => Some(IMAGE),
-        36 => Some(WRITE),
-        37 => Some(READ),
-        38 => Some(TOO_LONG),
-        39 => Some(NO_RECORD),
-        40 => Some(OPEN),
-        41 => Some(CREATE),
-        _ => None,
-    }
-}

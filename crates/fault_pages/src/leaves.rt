@@ -1,10 +1,8 @@
 //! The faults of what a record holds.
 
-ghost use Rattle.std.specs.Prelude.{◌≡◌, ◌↔◌, ◌≤◌, IfSome, IsSome};
-
 use crate::page::Page;
 
-const LEAF: Page = Page {
+pub const LEAF: Page = Page {
     number: 25,
     text: "Leaf x",
     meaning: "the record is of the kind x, which is not in the table of leaves of docs/FORMAT.md",
@@ -14,7 +12,7 @@ const LEAF: Page = Page {
         records, streams and info still show the file",
 };
 
-const BODY: Page = Page {
+pub const BODY: Page = Page {
     number: 26,
     text: "Body d",
     meaning: "the field at offset d of the body of the record goes past the end of the record",
@@ -22,7 +20,7 @@ const BODY: Page = Page {
     advice: "look at the bytes of the record with pdbmerge record",
 };
 
-const MEMBER: Page = Page {
+pub const MEMBER: Page = Page {
     number: 27,
     text: "Member at d kind x",
     meaning: "the field list has a member of the kind x at offset d of its body, which is not in the \
@@ -31,7 +29,7 @@ const MEMBER: Page = Page {
     advice: "leave the file out of the merge, since nobody can tell which types such a member names",
 };
 
-const NUMERIC: Page = Page {
+pub const NUMERIC: Page = Page {
     number: 28,
     text: "Numeric d",
     meaning: "a member has no known number at offset d of the body, or the number goes past the end of \
@@ -40,7 +38,7 @@ const NUMERIC: Page = Page {
     advice: "look at the bytes of the record with pdbmerge record",
 };
 
-const NAME: Page = Page {
+pub const NAME: Page = Page {
     number: 29,
     text: "Name d",
     meaning: "the name of a member begins at offset d of the body, and does not end inside the record",
@@ -48,7 +46,7 @@ const NAME: Page = Page {
     advice: "look at the bytes of the record with pdbmerge record",
 };
 
-const PAD: Page = Page {
+pub const PAD: Page = Page {
     number: 30,
     text: "Pad d",
     meaning: "the padding at offset d of the body begins with 0xF0, or goes past the end of the record",
@@ -56,7 +54,7 @@ const PAD: Page = Page {
     advice: "look at the bytes of the record with pdbmerge record",
 };
 
-const REF: Page = Page {
+pub const REF: Page = Page {
     number: 31,
     text: "Ref index x place d to x",
     meaning: "the record of this type index names at this place the type index after to, and no record \
@@ -65,20 +63,3 @@ const REF: Page = Page {
         that took some records out",
     advice: "give the PDB that the linker wrote",
 };
-
-/// The page of the fault that has this number, if it is one of these.
-pub fn page(number: u32) -> Option<Page>
-    ensures value { IfSome result (λ page. page.number ≡ number) }
-    ensures some { IsSome result ↔ ((25 ≤ number) × (number ≤ 31)) }
-{
-    match number {
-        25 => Some(LEAF),
-        26 => Some(BODY),
-        27 => Some(MEMBER),
-        28 => Some(NUMERIC),
-        29 => Some(NAME),
-        30 => Some(PAD),
-        31 => Some(REF),
-        _ => None,
-    }
-}

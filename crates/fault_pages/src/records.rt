@@ -1,10 +1,8 @@
 //! The faults of the stream of types, and of its records.
 
-ghost use Rattle.std.specs.Prelude.{◌≡◌, ◌↔◌, ◌≤◌, IfSome, IsSome};
-
 use crate::page::Page;
 
-const TPI_SHORT: Page = Page {
+pub const TPI_SHORT: Page = Page {
     number: 16,
     text: "TpiShort",
     meaning: "stream 2 has fewer than 56 bytes, so it has no whole header",
@@ -12,7 +10,7 @@ const TPI_SHORT: Page = Page {
     advice: "give the PDB that the linker wrote",
 };
 
-const TPI_VERSION: Page = Page {
+pub const TPI_VERSION: Page = Page {
     number: 17,
     text: "TpiVersion d",
     meaning: "stream 2 has the version d, and only 20040203 is read",
@@ -20,7 +18,7 @@ const TPI_VERSION: Page = Page {
     advice: "link the program again with a newer linker",
 };
 
-const TPI_HEADER_SIZE: Page = Page {
+pub const TPI_HEADER_SIZE: Page = Page {
     number: 18,
     text: "TpiHeaderSize d",
     meaning: "stream 2 says that its header has d bytes, and only 56 is read",
@@ -28,7 +26,7 @@ const TPI_HEADER_SIZE: Page = Page {
     advice: "copy the file again, or have the linker write it again",
 };
 
-const TPI_BEGIN: Page = Page {
+pub const TPI_BEGIN: Page = Page {
     number: 19,
     text: "TpiBegin x",
     meaning: "the first type record has the type index x, and only 0x1000 is read",
@@ -36,7 +34,7 @@ const TPI_BEGIN: Page = Page {
     advice: "copy the file again, or have the linker write it again",
 };
 
-const TPI_END: Page = Page {
+pub const TPI_END: Page = Page {
     number: 20,
     text: "TpiEnd x",
     meaning: "the type index after the last record is x, which is below 0x1000",
@@ -44,7 +42,7 @@ const TPI_END: Page = Page {
     advice: "copy the file again, or have the linker write it again",
 };
 
-const TPI_BYTES: Page = Page {
+pub const TPI_BYTES: Page = Page {
     number: 21,
     text: "TpiBytes need d have d",
     meaning: "the header of stream 2 announces more bytes of records (need) than the stream has (have)",
@@ -52,7 +50,7 @@ const TPI_BYTES: Page = Page {
     advice: "copy the file again, or have the linker write it again",
 };
 
-const RECORD_SHORT: Page = Page {
+pub const RECORD_SHORT: Page = Page {
     number: 22,
     text: "RecordShort index x",
     meaning: "the records end within the one that has this type index",
@@ -60,7 +58,7 @@ const RECORD_SHORT: Page = Page {
     advice: "copy the file again, or have the linker write it again",
 };
 
-const RECORD_LEN: Page = Page {
+pub const RECORD_LEN: Page = Page {
     number: 23,
     text: "RecordLen index x len d",
     meaning: "the record of this type index gives d as its length, which is below 2, or with which the \
@@ -69,29 +67,10 @@ const RECORD_LEN: Page = Page {
     advice: "copy the file again, or link it with another linker",
 };
 
-const RECORD_COUNT: Page = Page {
+pub const RECORD_COUNT: Page = Page {
     number: 24,
     text: "RecordCount said d found d",
     meaning: "the header of stream 2 announces another number of records (said) than there are (found)",
     cause: "bytes that were damaged after the file was written",
     advice: "copy the file again, or have the linker write it again",
 };
-
-/// The page of the fault that has this number, if it is one of these.
-pub fn page(number: u32) -> Option<Page>
-    ensures value { IfSome result (λ page. page.number ≡ number) }
-    ensures some { IsSome result ↔ ((16 ≤ number) × (number ≤ 24)) }
-{
-    match number {
-        16 => Some(TPI_SHORT),
-        17 => Some(TPI_VERSION),
-        18 => Some(TPI_HEADER_SIZE),
-        19 => Some(TPI_BEGIN),
-        20 => Some(TPI_END),
-        21 => Some(TPI_BYTES),
-        22 => Some(RECORD_SHORT),
-        23 => Some(RECORD_LEN),
-        24 => Some(RECORD_COUNT),
-        _ => None,
-    }
-}

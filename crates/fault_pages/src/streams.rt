@@ -1,10 +1,8 @@
 //! The faults of the info stream, and of a stream that is not there.
 
-ghost use Rattle.std.specs.Prelude.{◌≡◌, ◌↔◌, ◌≤◌, IfSome, IsSome};
-
 use crate::page::Page;
 
-const NO_STREAM: Page = Page {
+pub const NO_STREAM: Page = Page {
     number: 11,
     text: "NoStream d",
     meaning: "the file has no stream d; stream 1 has what identifies the file, and stream 2 has its \
@@ -13,7 +11,7 @@ const NO_STREAM: Page = Page {
     advice: "give the PDB that the linker wrote",
 };
 
-const INFO_SHORT: Page = Page {
+pub const INFO_SHORT: Page = Page {
     number: 12,
     text: "InfoShort",
     meaning: "stream 1 has fewer than 28 bytes, so it has no version, signature, age and GUID",
@@ -21,7 +19,7 @@ const INFO_SHORT: Page = Page {
     advice: "give the PDB that the linker wrote",
 };
 
-const NAMES_SHORT: Page = Page {
+pub const NAMES_SHORT: Page = Page {
     number: 13,
     text: "NamesShort d",
     meaning: "the map of named streams does not fit in stream 1: the field at offset d goes past the \
@@ -30,7 +28,7 @@ const NAMES_SHORT: Page = Page {
     advice: "have the linker write the file again; merge, types and check read the file all the same",
 };
 
-const NAMES_COUNT: Page = Page {
+pub const NAMES_COUNT: Page = Page {
     number: 14,
     text: "NamesCount said d present d",
     meaning: "the map of named streams announces another number of names (said) than it has (present)",
@@ -38,25 +36,10 @@ const NAMES_COUNT: Page = Page {
     advice: "have the linker write the file again; merge, types and check read the file all the same",
 };
 
-const NAME_OFFSET: Page = Page {
+pub const NAME_OFFSET: Page = Page {
     number: 15,
     text: "NameOffset d",
     meaning: "the name in bucket d of the map of named streams does not end inside the map",
     cause: "bytes that were damaged after the file was written",
     advice: "have the linker write the file again; merge, types and check read the file all the same",
 };
-
-/// The page of the fault that has this number, if it is one of these.
-pub fn page(number: u32) -> Option<Page>
-    ensures value { IfSome result (λ page. page.number ≡ number) }
-    ensures some { IsSome result ↔ ((11 ≤ number) × (number ≤ 15)) }
-{
-    match number {
-        11 => Some(NO_STREAM),
-        12 => Some(INFO_SHORT),
-        13 => Some(NAMES_SHORT),
-        14 => Some(NAMES_COUNT),
-        15 => Some(NAME_OFFSET),
-        _ => None,
-    }
-}

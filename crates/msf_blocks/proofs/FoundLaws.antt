@@ -15,7 +15,7 @@ use Rattle.byte_fields.specs.Check.{first_failing, checks_below}
 use Rattle.byte_fields.proofs.NumberLaws.{nth_u32-u32s, length-u32s, number_at-small}
 use Rattle.byte_fields.proofs.CheckLaws.{checks_below-all, check_holds}
 use Rattle.msf_blocks.specs.BlockNumber.{is_block_size, IsOrdinary, is_ordinary, blocks_for}
-use Rattle.msf_blocks.specs.Superblock.{Fields, IsSuperblock, fields_of, superblock_checks, magic}
+use Rattle.msf_blocks.specs.Superblock.{Fields, IsSuperblock, fields_of, superblock_checks, magic, front_checks}
 use Rattle.msf_blocks.specs.Directory.{Listed, IsListed, IsDirectory, ListsStreams, directory_blocks, map_number, directory_block_check, directory_block_checks, length_checks, stream_checks, stream_block_check, stream_blocks, list_start}
 use Rattle.msf_blocks.specs.Layout.{LayoutView, HasLayout, layout_checks}
 use Rattle.msf_blocks.specs.declared.fault.MsfFault.TheVariants.{DirectoryBlock, StreamBlock}
@@ -175,7 +175,7 @@ blocks_hold file fields contents h =
 
 -- the checks of a superblock hold
 pub superblock_holds : (file : List ℕ) (fields : Fields) → IsSuperblock file fields → first_failing (superblock_checks file) ≡ None
-unfolding superblock_checks
+unfolding superblock_checks front_checks
 superblock_holds file fields s =
     let f = s.fit in
     let m : starts_with nat_eq file magic ≡ true = starts_with_magic file s.magical in

@@ -1,7 +1,7 @@
 -- No check of a layout has out of memory as its fault.
 use Rattle.std.proofs.Common.{◌≡◌, Bool, true, false, cond, ℕ, zero, suc, List, [], ◌∷◌, ◌++◌, Option, Some, refl}
 use Rattle.byte_fields.specs.Check.{Check, first_failing, checks_below}
-use Rattle.msf_blocks.specs.Superblock.{Fields, fields_of, superblock_checks}
+use Rattle.msf_blocks.specs.Superblock.{Fields, fields_of, superblock_checks, front_checks}
 use Rattle.msf_blocks.specs.Directory.{directory_contents, directory_blocks, directory_block_check, directory_block_checks, length_checks, stream_blocks, stream_block_check, stream_checks}
 use Rattle.msf_blocks.specs.Layout.{layout_checks}
 use Rattle.byte_fields.specs.Number.{nth_u32}
@@ -40,7 +40,7 @@ others_below (suc n) checks each = others_append (checks_below n checks) (checks
 
 -- the checks of the superblock have other faults
 superblock_others : (file : List ℕ) → Others (superblock_checks file)
-unfolding superblock_checks
+unfolding superblock_checks front_checks
 superblock_others file = (refl, (refl, (refl, (refl, (refl, (refl, (refl, tt)))))))
 
 -- so do the checks of the blocks of the directory

@@ -58,33 +58,6 @@ fields_of file = record {
   block_map_addr = number_at 4 file 52;
 }
 
--- the checks of a superblock, in the order of its fields
-unfoldable pub superblock_checks : List ℕ → List (Check MsfFault)
-superblock_checks file =
-    let fields = fields_of file in
-    record { holds = nat_le 56 (length file); fault = Short }
-    ∷ record { holds = starts_with nat_eq file magic; fault = Magic }
-    ∷ record { holds = is_block_size fields.block_size; fault = BlockSize fields.block_size }
-    ∷ record {
-      holds = fields.free_map_block == 1 || fields.free_map_block == 2;
-      fault = FreeMapBlock fields.free_map_block;
-    }
-    ∷ record {
-      holds = nat_le (fields.num_blocks * fields.block_size) (length file);
-      fault = FileSize (fields.num_blocks * fields.block_size) (length file);
-    }
-    ∷ record {
-      holds =
-          fields.directory_bytes % 4 == 0
-          && nat_le (blocks_for fields.block_size fields.directory_bytes) (fields.block_size / 4);
-      fault = DirectorySize fields.directory_bytes;
-    }
-    ∷ record {
-      holds = is_ordinary fields.num_blocks fields.block_map_addr;
-      fault = BlockMapAddr fields.block_map_addr;
-    }
-    ∷ []
-
 -- the checks of a superblock after that of its length,
 -- by the first bytes of a file and how many bytes the file has
 unfoldable pub front_checks : List ℕ → ℕ → List (Check MsfFault)
@@ -111,6 +84,11 @@ front_checks front have =
       fault = BlockMapAddr fields.block_map_addr;
     }
     ∷ []
+
+-- the checks of a superblock, in the order of its fields: the first is that of its length
+unfoldable pub superblock_checks : List ℕ → List (Check MsfFault)
+superblock_checks file =
+    record { holds = nat_le 56 (length file); fault = Short } ∷ front_checks file (length file)
 
 -- these are the first bytes of a container with this superblock,
 -- which is said to have `told` bytes: all checks of its front hold

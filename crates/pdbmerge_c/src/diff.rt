@@ -1,11 +1,10 @@
 //! The types that only one of two files has.
 
-ghost use Rattle.std.specs.Prelude.{◌≡◌, ◌≢◌, ◌⊎◌, ◌<◌, ◌+◌, ◌^◌, ◌++◌, ℕ, List, length, OnOk, IfOk, IfErr};
+ghost use Rattle.std.specs.Prelude.{◌≡◌, ◌⊎◌, ◌<◌, ◌+◌, ◌^◌, ◌++◌, ℕ, List, length, OnOk, IfOk, IfErr};
 ghost use Rattle.std.specs.declared.alloc.Global.{Global};
 ghost use Rattle.file_types.specs.Read.{IsAccepted};
 ghost use Rattle.pdb_merge.specs.declared.fault.MergeFault.{MergeFault};
-ghost use Rattle.pdbmerge_c.specs.Fault.{IsEnded, IsSaid};
-ghost use Rattle.pdbmerge_c.specs.Given.{Fills};
+ghost use Rattle.pdbmerge_c.specs.Given.{Copies};
 ghost use Rattle.pdbmerge_c.specs.Diff.{AreDifferences, IsFaultOfInput, RefusesDiff, TellApart, input_fault, row_of, rows_from};
 
 use crate::fault::{Fault, refuse};
@@ -159,20 +158,12 @@ pub extern "C" fn pdbmerge_diff(
     count: &mut u64,
     fault: &mut Fault,
 ) -> u32
-    ensures told { IsSaid fault.new result }
-    ensures ended { IsEnded fault.new }
-    ensures value { result ≡ 0 → (found : List OneSided) × AreDifferences first.now second.now found
-        × (count.new ≡ length found) × Fills found rows.old rows.new }
-    ensures room { result ≡ 100 → (found : List OneSided)
-        × AreDifferences first.now second.now found
-        × (count.new ≡ length found) × (length rows.old < length found) }
-    ensures refuses { result ≢ 0 → result ≢ 100 → RefusesDiff first.now second.now fault.new }
+    ensures answer { Copies (AreDifferences first.now second.now) (RefusesDiff first.now second.now)
+        rows.old rows.new count.old count.new fault.new result }
     // Files that are accepted are refused only when out of memory or of room.
     ensures found { (records others : List (List ℕ)) →
         IsAccepted first.now records → IsAccepted second.now others →
         (result ≡ 0) ⊎ (result ≡ 33) ⊎ (result ≡ 100) }
-    ensures untouched { result ≢ 0 → rows.new ≡ rows.old }
-    ensures kept { result ≢ 0 → result ≢ 100 → count.new ≡ count.old }
 {
     match list_differences(alloc, first, second, seed) {
         Ok(found) => give(found.as_slice(), rows, count, fault),

@@ -1,9 +1,8 @@
 //! What stream 1 of a file says of streams and features.
 
-ghost use Rattle.std.specs.Prelude.{◌≡◌, ◌≢◌, ◌<◌, ◌++◌, ◌∷◌, [], ℕ, List, length, map, OnOk, IfOk, IfErr};
+ghost use Rattle.std.specs.Prelude.{◌≡◌, ◌<◌, ◌++◌, ◌∷◌, [], map, OnOk, IfOk, IfErr};
 ghost use Rattle.std.specs.List.{flat_map};
-ghost use Rattle.pdbmerge_c.specs.Fault.{IsEnded, IsSaid};
-ghost use Rattle.pdbmerge_c.specs.Given.{Fills};
+ghost use Rattle.pdbmerge_c.specs.Given.{Copies};
 ghost use Rattle.pdbmerge_c.specs.Info.{AreFeatures, AreNamedStreams, AreStreamNames, IsFaultOfInfoStream, RefusesInfoStream};
 
 use crate::fault::{Fault, refuse};
@@ -74,15 +73,8 @@ pub extern "C" fn pdbmerge_named_streams(
     count: &mut u64,
     fault: &mut Fault,
 ) -> u32
-    ensures told { IsSaid fault.new result }
-    ensures ended { IsEnded fault.new }
-    ensures value { result ≡ 0 → (found : List ℕ) × AreNamedStreams stream.now found
-        × (count.new ≡ length found) × Fills found numbers.old numbers.new }
-    ensures room { result ≡ 100 → (found : List ℕ) × AreNamedStreams stream.now found
-        × (count.new ≡ length found) × (length numbers.old < length found) }
-    ensures refuses { result ≢ 0 → result ≢ 100 → RefusesInfoStream stream.now fault.new }
-    ensures untouched { result ≢ 0 → numbers.new ≡ numbers.old }
-    ensures kept { result ≢ 0 → result ≢ 100 → count.new ≡ count.old }
+    ensures { Copies (AreNamedStreams stream.now) (RefusesInfoStream stream.now)
+        numbers.old numbers.new count.old count.new fault.new result }
 {
     match list_named_streams(alloc, stream) {
         Ok(found) => give(found.as_slice(), numbers, count, fault),
@@ -103,15 +95,8 @@ pub extern "C" fn pdbmerge_stream_names(
     size: &mut u64,
     fault: &mut Fault,
 ) -> u32
-    ensures told { IsSaid fault.new result }
-    ensures ended { IsEnded fault.new }
-    ensures value { result ≡ 0 → (bytes : List ℕ) × AreStreamNames stream.now bytes
-        × (size.new ≡ length bytes) × Fills bytes out.old out.new }
-    ensures room { result ≡ 100 → (bytes : List ℕ) × AreStreamNames stream.now bytes
-        × (size.new ≡ length bytes) × (length out.old < length bytes) }
-    ensures refuses { result ≢ 0 → result ≢ 100 → RefusesInfoStream stream.now fault.new }
-    ensures untouched { result ≢ 0 → out.new ≡ out.old }
-    ensures kept { result ≢ 0 → result ≢ 100 → size.new ≡ size.old }
+    ensures { Copies (AreStreamNames stream.now) (RefusesInfoStream stream.now)
+        out.old out.new size.old size.new fault.new result }
 {
     match list_stream_names(alloc, stream) {
         Ok(bytes) => give(bytes.as_slice(), out, size, fault),
@@ -131,15 +116,8 @@ pub extern "C" fn pdbmerge_features(
     count: &mut u64,
     fault: &mut Fault,
 ) -> u32
-    ensures told { IsSaid fault.new result }
-    ensures ended { IsEnded fault.new }
-    ensures value { result ≡ 0 → (found : List ℕ) × AreFeatures stream.now found
-        × (count.new ≡ length found) × Fills found features.old features.new }
-    ensures room { result ≡ 100 → (found : List ℕ) × AreFeatures stream.now found
-        × (count.new ≡ length found) × (length features.old < length found) }
-    ensures refuses { result ≢ 0 → result ≢ 100 → RefusesInfoStream stream.now fault.new }
-    ensures untouched { result ≢ 0 → features.new ≡ features.old }
-    ensures kept { result ≢ 0 → result ≢ 100 → count.new ≡ count.old }
+    ensures { Copies (AreFeatures stream.now) (RefusesInfoStream stream.now)
+        features.old features.new count.old count.new fault.new result }
 {
     match Info::read(alloc, stream) {
         Ok(info) => give(info.features(), features, count, fault),

@@ -5,7 +5,7 @@ ghost use Rattle.std.specs.List.{flat_map};
 ghost use Rattle.msf_blocks.specs.Directory.{bytes_of};
 ghost use Rattle.pdbmerge_c.specs.Container.{AreStreamBlocks, HasContainer, IsFaultOfContainer, RefusesContainer};
 ghost use Rattle.pdbmerge_c.specs.Fault.{IsEnded, IsSaid};
-ghost use Rattle.pdbmerge_c.specs.Given.{Fills};
+ghost use Rattle.pdbmerge_c.specs.Given.{Copies, Fills};
 
 use crate::fault::{Fault, refuse};
 use crate::give::give;
@@ -132,15 +132,8 @@ pub extern "C" fn pdbmerge_blocks(
     count: &mut u64,
     fault: &mut Fault,
 ) -> u32
-    ensures told { IsSaid fault.new result }
-    ensures ended { IsEnded fault.new }
-    ensures value { result ≡ 0 → (found : List ℕ) × AreStreamBlocks file.now found
-        × (count.new ≡ length found) × Fills found blocks.old blocks.new }
-    ensures room { result ≡ 100 → (found : List ℕ) × AreStreamBlocks file.now found
-        × (count.new ≡ length found) × (length blocks.old < length found) }
-    ensures refuses { result ≢ 0 → result ≢ 100 → RefusesContainer file.now fault.new }
-    ensures untouched { result ≢ 0 → blocks.new ≡ blocks.old }
-    ensures kept { result ≢ 0 → result ≢ 100 → count.new ≡ count.old }
+    ensures { Copies (AreStreamBlocks file.now) (RefusesContainer file.now)
+        blocks.old blocks.new count.old count.new fault.new result }
 {
     match list_blocks(alloc, file) {
         Ok(found) => give(found.as_slice(), blocks, count, fault),

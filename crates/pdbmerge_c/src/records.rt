@@ -1,9 +1,9 @@
 //! Where type records begin.
 
-ghost use Rattle.std.specs.Prelude.{◌≡◌, ◌≢◌, ◌⊎◌, ◌<◌, ◌+◌, [], ℕ, List, length, get_or, OnOk, IfOk, IfErr, IfSome, IfNone};
+ghost use Rattle.std.specs.Prelude.{◌≡◌, ◌≢◌, ◌⊎◌, ◌<◌, ◌+◌, [], ℕ, length, get_or, OnOk, IfOk, IfErr, IfSome, IfNone};
 ghost use Rattle.tpi_records.specs.Records.{start_of};
 ghost use Rattle.pdbmerge_c.specs.Fault.{IsEnded, IsSaid};
-ghost use Rattle.pdbmerge_c.specs.Given.{Fills};
+ghost use Rattle.pdbmerge_c.specs.Given.{Copies};
 ghost use Rattle.pdbmerge_c.specs.Record.{BeginsAt, LacksRecord, RefusesIndex};
 ghost use Rattle.pdbmerge_c.specs.Records.{AreOffsets, IsFaultOfRecords, RefusesRecords};
 
@@ -76,15 +76,8 @@ pub extern "C" fn pdbmerge_records(
     count: &mut u64,
     fault: &mut Fault,
 ) -> u32
-    ensures told { IsSaid fault.new result }
-    ensures ended { IsEnded fault.new }
-    ensures value { result ≡ 0 → (found : List ℕ) × AreOffsets stream.now found
-        × (count.new ≡ length found) × Fills found offsets.old offsets.new }
-    ensures room { result ≡ 100 → (found : List ℕ) × AreOffsets stream.now found
-        × (count.new ≡ length found) × (length offsets.old < length found) }
-    ensures refuses { result ≢ 0 → result ≢ 100 → RefusesRecords stream.now fault.new }
-    ensures untouched { result ≢ 0 → offsets.new ≡ offsets.old }
-    ensures kept { result ≢ 0 → result ≢ 100 → count.new ≡ count.old }
+    ensures { Copies (AreOffsets stream.now) (RefusesRecords stream.now)
+        offsets.old offsets.new count.old count.new fault.new result }
 {
     match list_offsets(alloc, stream) {
         Ok(found) => give(found.as_slice(), offsets, count, fault),

@@ -1,9 +1,8 @@
 //! The types that a record names.
 
-ghost use Rattle.std.specs.Prelude.{◌≡◌, ◌≢◌, ◌≤◌, ◌<◌, ◌+◌, ◌^◌, ◌++◌, ◌∷◌, [], ℕ, List, length, map, OnOk, IfOk, IfErr};
+ghost use Rattle.std.specs.Prelude.{◌≡◌, ◌≤◌, ◌<◌, ◌+◌, ◌^◌, ◌++◌, ◌∷◌, [], ℕ, List, length, map, OnOk, IfOk, IfErr};
 ghost use Rattle.cv_leaves.specs.Place.{HasPlaces, IsChecked};
-ghost use Rattle.pdbmerge_c.specs.Fault.{IsEnded, IsSaid};
-ghost use Rattle.pdbmerge_c.specs.Given.{Fills};
+ghost use Rattle.pdbmerge_c.specs.Given.{Copies};
 ghost use Rattle.pdbmerge_c.specs.References.{AreReferences, IsFaultOfRecord, RefusesRecord, reference_in};
 
 use crate::fault::{Fault, refuse};
@@ -83,15 +82,8 @@ pub extern "C" fn pdbmerge_references(
     count: &mut u64,
     fault: &mut Fault,
 ) -> u32
-    ensures told { IsSaid fault.new result }
-    ensures ended { IsEnded fault.new }
-    ensures value { result ≡ 0 → (found : List Reference) × AreReferences bytes.now found
-        × (count.new ≡ length found) × Fills found references.old references.new }
-    ensures room { result ≡ 100 → (found : List Reference) × AreReferences bytes.now found
-        × (count.new ≡ length found) × (length references.old < length found) }
-    ensures refuses { result ≢ 0 → result ≢ 100 → RefusesRecord bytes.now index fault.new }
-    ensures untouched { result ≢ 0 → references.new ≡ references.old }
-    ensures kept { result ≢ 0 → result ≢ 100 → count.new ≡ count.old }
+    ensures { Copies (AreReferences bytes.now) (RefusesRecord bytes.now index)
+        references.old references.new count.old count.new fault.new result }
 {
     match list_references(alloc, bytes, index) {
         Ok(found) => give(found.as_slice(), references, count, fault),

@@ -1,8 +1,7 @@
 //! The bytes of a stream.
 
-ghost use Rattle.std.specs.Prelude.{◌≡◌, ◌≢◌, ◌<◌, ℕ, List, length, IfOk, IfErr};
-ghost use Rattle.pdbmerge_c.specs.Fault.{IsEnded, IsSaid};
-ghost use Rattle.pdbmerge_c.specs.Given.{Fills};
+ghost use Rattle.std.specs.Prelude.{◌<◌, IfOk, IfErr};
+ghost use Rattle.pdbmerge_c.specs.Given.{Copies};
 ghost use Rattle.pdbmerge_c.specs.Stream.{IsStreamOf, IsFaultOfStream, RefusesStream};
 
 use crate::fault::{Fault, refuse};
@@ -48,15 +47,8 @@ pub extern "C" fn pdbmerge_stream(
     size: &mut u64,
     fault: &mut Fault,
 ) -> u32
-    ensures told { IsSaid fault.new result }
-    ensures ended { IsEnded fault.new }
-    ensures value { result ≡ 0 → (bytes : List ℕ) × IsStreamOf file.now stream bytes
-        × (size.new ≡ length bytes) × Fills bytes out.old out.new }
-    ensures room { result ≡ 100 → (bytes : List ℕ) × IsStreamOf file.now stream bytes
-        × (size.new ≡ length bytes) × (length out.old < length bytes) }
-    ensures refuses { result ≢ 0 → result ≢ 100 → RefusesStream file.now stream fault.new }
-    ensures untouched { result ≢ 0 → out.new ≡ out.old }
-    ensures kept { result ≢ 0 → result ≢ 100 → size.new ≡ size.old }
+    ensures { Copies (IsStreamOf file.now stream) (RefusesStream file.now stream)
+        out.old out.new size.old size.new fault.new result }
 {
     let mut buffer = Vec::new(alloc);
     match read_stream(alloc, file, stream, &mut buffer) {
