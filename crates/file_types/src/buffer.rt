@@ -10,7 +10,7 @@ ghost use Rattle.file_types.specs.Read.{RecordsWereRead, ListsLongInfo, HasInfoF
 use crate::fault::PdbFault;
 use byte_io::{AtFault, Lend, ReadAt};
 use msf_blocks::Layout;
-use msf_streams::contents_at;
+use msf_streams::{contents_at, gather_at};
 use pdb_info::{InfoFault, info_stream};
 use std::alloc::{Allocator, Global};
 use std::marker::Model;
@@ -53,7 +53,7 @@ impl<A: Allocator + Copy> Buffer<A> {
 
     /// Lends the records of stream 2 of a file with this layout. The buffer takes the bytes of the
     /// stream where the file can't lend them.
-    pub(crate) fn records_of<'a, 'b: 'a, R: Lend<'b>>(
+    pub(crate) fn lent_records_of<'a, 'b: 'a, R: Lend<'b>>(
         &'a mut self,
         alloc: A,
         input: &mut R,
@@ -71,6 +71,30 @@ impl<A: Allocator + Copy> Buffer<A> {
             Err(AtFault::Read) => return Err(AtFault::Read),
         };
         match Records::read(alloc, stream) {
+            Ok(records) => Ok(records),
+            Err(fault) => Err(AtFault::Of(PdbFault::from(fault))),
+        }
+    }
+
+    /// Reads stream 2 of a file with this layout into the buffer, and lends its records.
+    pub(crate) fn records_of<'a, R: ReadAt>(
+        &'a mut self,
+        alloc: A,
+        input: &mut R,
+        layout: &Layout<A>,
+    ) -> Result<Records<'a, A>, AtFault<PdbFault<A>>>
+        requires { IfKnown (R.bytes input.old) (λ file. HasLayout file layout.now) }
+        ensures reads { Reads R.bytes R.is_broken input.old input.new result }
+        ensures texts { IfOk result (RecordsWereRead (R.bytes input.old) layout.now) }
+        ensures refused { IfErr result (IfOf (λ fault.
+            HasStreamFaultRead (R.bytes input.old) layout.now fault ⊎ (fault ≡ PdbFault.Memory))) }
+    {
+        match gather_at(input, layout, TPI_STREAM, &mut self.bytes) {
+            Ok(()) => {}
+            Err(AtFault::Of(fault)) => return Err(AtFault::Of(PdbFault::from(fault))),
+            Err(AtFault::Read) => return Err(AtFault::Read),
+        }
+        match Records::read(alloc, &self.bytes) {
             Ok(records) => Ok(records),
             Err(fault) => Err(AtFault::Of(PdbFault::from(fault))),
         }

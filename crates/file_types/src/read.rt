@@ -10,7 +10,7 @@ ghost use Rattle.file_types.specs.Read.{IsAccepted, HasPdbFault, HasTypeRecords,
 
 use crate::buffer::{Buffer, check_info, layout_at};
 use crate::fault::PdbFault;
-use byte_io::{AtFault, Lend};
+use byte_io::{AtFault, Lend, ReadAt};
 use checked_types::Types;
 use msf_blocks::Layout;
 use std::alloc::Allocator;
@@ -43,7 +43,7 @@ pub fn check_types<'a, A: Allocator + Copy>(
 /// `AtFault::Read` is a read that failed, and `Memory` out of memory. The old bytes of the buffer
 /// are dropped. After a fault the buffer may be used again. The buffer's own allocator allocates the
 /// bytes of the stream, and `alloc` allocates everything else.
-pub fn read_records_of<'a, 'b: 'a, R: Lend<'b>, A: Allocator + Copy>(
+pub fn read_records_of<'a, R: ReadAt, A: Allocator + Copy>(
     alloc: A,
     input: &mut R,
     layout: &Layout<A>,
@@ -80,7 +80,7 @@ pub(crate) fn unchecked_of<'a, 'b: 'a, R: Lend<'b>, A: Allocator + Copy>(
     if let Err(fault) = check_info(layout) {
         return Err(AtFault::Of(fault));
     }
-    let records = buffer.records_of(alloc, input, layout)?;
+    let records = buffer.lent_records_of(alloc, input, layout)?;
     Ok(records)
 }
 
@@ -111,13 +111,33 @@ pub fn read_unchecked<'a, 'b: 'a, R: Lend<'b>, A: Allocator + Copy>(
     unchecked_of(alloc, input, &layout, buffer)
 }
 
+/// The same of a file whose stream 2 is read into the buffer.
+fn gathered_of<'a, R: ReadAt, A: Allocator + Copy>(
+    alloc: A,
+    input: &mut R,
+    layout: &Layout<A>,
+    buffer: &'a mut Buffer<A>,
+) -> Result<Records<'a, A>, AtFault<PdbFault<A>>>
+    requires { IfKnown (R.bytes input.old) (λ file. HasLayout file layout.now) }
+    ensures reads { Reads R.bytes R.is_broken input.old input.new result }
+    ensures texts { IfOk result (UncheckedWereRead (R.bytes input.old) layout.now) }
+    ensures refused { IfErr result (IfOf (λ fault.
+        HasPdbFaultRead (R.bytes input.old) layout.now fault ⊎ (fault ≡ PdbFault.Memory))) }
+{
+    if let Err(missing) = check_info(layout) {
+        return Err(AtFault::Of(missing));
+    }
+    let records = buffer.records_of(alloc, input, layout)?;
+    Ok(records)
+}
+
 /// Reads the types of a file with this layout: its type records, which are checked. Of the file only
 /// the blocks of stream 2 are read.
 ///
 /// The faults are those of [`read_types`] that come after the container's, in the same order, and
 /// `AtFault::Read` where a read failed. The old bytes of the buffer are dropped. After a fault the
 /// buffer may be used again.
-pub fn read_types_of<'a, 'b: 'a, R: Lend<'b>, A: Allocator + Copy>(
+pub fn read_types_of<'a, R: ReadAt, A: Allocator + Copy>(
     alloc: A,
     input: &mut R,
     layout: &Layout<A>,
@@ -136,7 +156,7 @@ pub fn read_types_of<'a, 'b: 'a, R: Lend<'b>, A: Allocator + Copy>(
     ensures refused { IfErr result (IfOf (λ fault.
         HasPdbFaultRead (R.bytes input.old) layout.now fault ⊎ (fault ≡ PdbFault.Memory))) }
 {
-    let records = unchecked_of(alloc, input, layout, buffer)?;
+    let records = gathered_of(alloc, input, layout, buffer)?;
     match check_types(alloc, records) {
         Ok(types) => Ok(types),
         Err(fault) => Err(AtFault::Of(fault)),

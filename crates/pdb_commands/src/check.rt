@@ -10,7 +10,7 @@ ghost use Rattle.file_types.specs.Read.{TypesWereRead};
 
 use crate::command::{Show, run};
 use crate::fault::RunFault;
-use byte_io::{AtFault, Opened, ReadAt, Sink, Source};
+use byte_io::{AtFault, ReadAt, Sink, Source};
 use checked_types::Types;
 use command_texts::push_checked;
 use file_types::{Buffer, read_types_of};
@@ -50,7 +50,7 @@ impl<A: Allocator + Copy> Show<A> for ShowCheck {
     fn text_of<R: ReadAt>(
         &self,
         alloc: A,
-        input: &mut Opened<'_, R>,
+        input: &mut R,
         layout: &Layout<A>,
     ) -> Result<String<A>, AtFault<RunFault<A>>> {
         let mut buffer = Buffer::new(alloc);

@@ -3,13 +3,12 @@
 ghost use Rattle.std.specs.Prelude.{◌≡◌, ◌⊎◌, ℕ, List, IfOk, IfErr, string_bytes};
 ghost use Rattle.byte_fields.specs.Bytes.{AreBytes};
 ghost use Rattle.byte_io.specs.At.{Bytes, IfKnown, IfOf, Reads};
-ghost use Rattle.byte_io.specs.Inputs.{is_opened_broken, opened_bytes};
 ghost use Rattle.msf_blocks.specs.Layout.{HasLayout};
 ghost use Rattle.pdb_commands.specs.Show.{Answers, AnswersAt, IsOfText, IsOfTexts, IsFaultOfTexts, RefusesBounded, ShowsBounded};
 ghost use Rattle.pdb_commands.specs.declared.fault.RunFault.{RunFault};
 
 use crate::fault::RunFault;
-use byte_io::{AtFault, Opened, ReadAt, ReadFault, Sink, Source, put_all, read_all};
+use byte_io::{AtFault, ReadAt, ReadFault, Sink, Source, put_all, read_all};
 use file_types::PdbFault;
 use msf_blocks::{Layout, WithinFault};
 use std::alloc::Allocator;
@@ -35,20 +34,19 @@ pub trait Show<A: Allocator + Copy> {
     fn text_of<R: ReadAt>(
         &self,
         alloc: A,
-        input: &mut Opened<'_, R>,
+        input: &mut R,
         layout: &Layout<A>,
     ) -> Result<String<A>, AtFault<RunFault<A>>>
-        requires bytes { IfKnown (opened_bytes R.bytes input.old) AreBytes }
-        requires layout { IfKnown (opened_bytes R.bytes input.old) (λ file.
+        requires bytes { IfKnown (R.bytes input.old) AreBytes }
+        requires layout { IfKnown (R.bytes input.old) (λ file.
             HasLayout file layout.now) }
         ensures texts { IfOk result (λ text.
-            shows_read self.now (opened_bytes R.bytes input.old) layout.now (string_bytes text)) }
+            shows_read self.now (R.bytes input.old) layout.now (string_bytes text)) }
         ensures refused { IfErr result (IfOf (λ fault.
-            refuses_read self.now (opened_bytes R.bytes input.old) layout.now fault
+            refuses_read self.now (R.bytes input.old) layout.now fault
             ⊎ (fault ≡ RunFault.Memory))) }
         ensures pure { IfErr result (IfOf IsOfText) }
-        ensures reads { Reads (opened_bytes R.bytes) (is_opened_broken R.is_broken) input.old
-            input.new result };
+        ensures reads { Reads R.bytes R.is_broken input.old input.new result };
 
     /// Of a file that is known, the text of what reads gave is the text that shows the file.
     ghost shows_known: { (c : Self) → ShowsKnown (shows c) (shows_read c) };
@@ -65,22 +63,21 @@ pub trait Show<A: Allocator + Copy> {
 fn text_at<C: Show<A>, R: ReadAt, A: Allocator + Copy>(
     alloc: A,
     command: &C,
-    input: &mut Opened<'_, R>,
+    input: &mut R,
     limit: u32,
 ) -> Result<String<A>, AtFault<RunFault<A>>>
-    ensures value { IfOk result (λ text. IfKnown (opened_bytes R.bytes input.old) (λ file.
+    ensures value { IfOk result (λ text. IfKnown (R.bytes input.old) (λ file.
         ShowsBounded limit (C.shows command.now) file (string_bytes text))) }
     ensures texts { IfOk result (λ text.
-        IsOfTexts limit (C.shows_read command.now) (opened_bytes R.bytes input.old)
+        IsOfTexts limit (C.shows_read command.now) (R.bytes input.old)
         (string_bytes text)) }
-    ensures first { IfErr result (IfOf (λ fault. IfKnown (opened_bytes R.bytes input.old) (λ file.
+    ensures first { IfErr result (IfOf (λ fault. IfKnown (R.bytes input.old) (λ file.
         RefusesBounded limit (C.refuses command.now) file fault ⊎ (fault ≡ RunFault.Memory)))) }
     ensures refused { IfErr result (IfOf (λ fault.
-        IsFaultOfTexts limit (C.refuses_read command.now) (opened_bytes R.bytes input.old) fault
+        IsFaultOfTexts limit (C.refuses_read command.now) (R.bytes input.old) fault
         ⊎ (fault ≡ RunFault.Memory))) }
     ensures pure { IfErr result (IfOf IsOfText) }
-    ensures reads { Reads (opened_bytes R.bytes) (is_opened_broken R.is_broken) input.old input.new
-        result }
+    ensures reads { Reads R.bytes R.is_broken input.old input.new result }
 {
     let layout = match Layout::read_within(alloc, input, limit) {
         Ok(layout) => layout,
@@ -105,14 +102,14 @@ fn text_at<C: Show<A>, R: ReadAt, A: Allocator + Copy>(
 pub fn run_at<C: Show<A>, R: ReadAt, W: Sink, A: Allocator + Copy>(
     alloc: A,
     command: &C,
-    input: &mut Opened<'_, R>,
+    input: &mut R,
     limit: u32,
     out: &mut W,
 ) -> Result<(), RunFault<A>>
     ensures { AnswersAt (ShowsBounded limit (C.shows command.now))
         (RefusesBounded limit (C.refuses command.now)) (C.shows_read command.now)
-        (C.refuses_read command.now) limit (opened_bytes R.bytes input.old)
-        (is_opened_broken R.is_broken input.new) W.taken W.is_broken out.old out.new result }
+        (C.refuses_read command.now) limit (R.bytes input.old)
+        (R.is_broken input.new) W.taken W.is_broken out.old out.new result }
 {
     if u64::from(limit) < input.len() {
         return Err(RunFault::Read(ReadFault::TooLong));
@@ -140,7 +137,7 @@ fn text_in<C: Show<A>, A: Allocator + Copy>(
         ⊎ (fault ≡ RunFault.Memory)) }
     ensures pure { IfErr result IsOfText }
 {
-    let mut input: Opened<'_, &[u8]> = Opened::Whole(file);
+    let mut input = file;
     match text_at(alloc, command, &mut input, bound) {
         Ok(text) => Ok(text),
         Err(AtFault::Of(fault)) => Err(fault),

@@ -10,25 +10,23 @@ ghost use Rattle.pdb_commands.specs.Info.{ShowsInfo, ShowsInfoRead, ShowsInfoWit
 
 use crate::command::{Show, run};
 use crate::fault::RunFault;
-use byte_io::{AtFault, Lend, Opened, ReadAt, Sink, Source};
+use byte_io::{AtFault, ReadAt, Sink, Source};
 use command_texts::{push_features, push_info_header, push_names};
 use file_types::PdbFault;
 use msf_blocks::Layout;
-use msf_streams::contents_at;
+use msf_streams::gather_at;
 use pdb_info::{info_stream, names_length};
 use std::alloc::Allocator;
 
-/// The bytes of stream 1 of a file with this layout. They are in the buffer, unless the file lends
-/// them.
-fn stream_bytes_of<'a, 'b: 'a, R: Lend<'b>, L: Allocator, A: Allocator>(
+/// Reads stream 1 of a file with this layout by position into the buffer.
+fn stream_bytes_of<R: ReadAt, L: Allocator, A: Allocator>(
     input: &mut R,
     layout: &Layout<L>,
-    buffer: &'a mut Vec<u8, A>,
-) -> Result<&'a [u8], AtFault<PdbFault<A>>>
+    buffer: &mut Vec<u8, A>,
+) -> Result<(), AtFault<PdbFault<A>>>
     requires { IfKnown (R.bytes input.old) (λ file. HasLayout file layout.now) }
     ensures reads { Reads R.bytes R.is_broken input.old input.new result }
-    ensures texts { IfOk result (λ stream.
-        WasRead (R.bytes input.old) layout.now 1 stream.now) }
+    ensures texts { OnOk result (WasRead (R.bytes input.old) layout.now 1 buffer.new.items) }
     ensures refused { IfErr result
         (IfOf (λ fault. HasNoInfoStreamRead layout.now fault ⊎ (fault ≡ PdbFault.Memory))) }
 {
@@ -36,8 +34,8 @@ fn stream_bytes_of<'a, 'b: 'a, R: Lend<'b>, L: Allocator, A: Allocator>(
         Ok(stream) => stream,
         Err(fault) => return Err(AtFault::Of(PdbFault::from(fault))),
     };
-    match contents_at(input, layout, stream, buffer) {
-        Ok(bytes) => Ok(bytes),
+    match gather_at(input, layout, stream, buffer) {
+        Ok(()) => Ok(()),
         Err(fault) => Err(fault.widen()),
     }
 }
@@ -99,15 +97,14 @@ impl<A: Allocator + Copy> Show<A> for ShowInfo {
     fn text_of<R: ReadAt>(
         &self,
         alloc: A,
-        input: &mut Opened<'_, R>,
+        input: &mut R,
         layout: &Layout<A>,
     ) -> Result<String<A>, AtFault<RunFault<A>>> {
         let mut buffer = Vec::new(alloc);
-        let stream = match stream_bytes_of(input, layout, &mut buffer) {
-            Ok(stream) => stream,
-            Err(fault) => return Err(fault.widen()),
-        };
-        let text = stream_text(alloc, stream, self.limit)?;
+        if let Err(fault) = stream_bytes_of(input, layout, &mut buffer) {
+            return Err(fault.widen());
+        }
+        let text = stream_text(alloc, &buffer, self.limit)?;
         Ok(text)
     }
 

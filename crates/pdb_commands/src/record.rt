@@ -10,7 +10,7 @@ ghost use Rattle.file_types.specs.Read.{RecordsWereRead};
 
 use crate::command::{Show, run};
 use crate::fault::RunFault;
-use byte_io::{AtFault, Opened, ReadAt, Sink, Source};
+use byte_io::{AtFault, ReadAt, Sink, Source};
 use command_texts::record_text;
 use cv_leaves::check;
 use file_types::{Buffer, read_records_of};
@@ -69,7 +69,7 @@ impl<A: Allocator + Copy> Show<A> for ShowRecord {
     fn text_of<R: ReadAt>(
         &self,
         alloc: A,
-        input: &mut Opened<'_, R>,
+        input: &mut R,
         layout: &Layout<A>,
     ) -> Result<String<A>, AtFault<RunFault<A>>> {
         let mut buffer = Buffer::new(alloc);

@@ -6,7 +6,7 @@ ghost use Rattle.pdb_commands.specs.Show.{Answers};
 
 use crate::command::{Show, run};
 use crate::fault::RunFault;
-use byte_io::{AtFault, Opened, ReadAt, Sink, Source};
+use byte_io::{AtFault, ReadAt, Sink, Source};
 use command_texts::record_lines;
 use file_types::{Buffer, read_records_of};
 use msf_blocks::Layout;
@@ -28,7 +28,7 @@ impl<A: Allocator + Copy> Show<A> for ShowRecords {
     fn text_of<R: ReadAt>(
         &self,
         alloc: A,
-        input: &mut Opened<'_, R>,
+        input: &mut R,
         layout: &Layout<A>,
     ) -> Result<String<A>, AtFault<RunFault<A>>> {
         let mut buffer = Buffer::new(alloc);

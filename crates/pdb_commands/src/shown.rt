@@ -3,7 +3,6 @@
 ghost use Rattle.std.specs.Prelude.{◌≡◌, ◌⊎◌, true, false, Err, OnOk, IfOk, IfErr, string_bytes};
 ghost use Rattle.byte_fields.specs.Bytes.{AreBytes};
 ghost use Rattle.byte_io.specs.At.{IfKnown, IfOf, Reads};
-ghost use Rattle.byte_io.specs.Inputs.{is_opened_broken, opened_bytes};
 ghost use Rattle.msf_blocks.specs.Layout.{HasLayout};
 ghost use Rattle.pdb_commands.specs.Known.{within_refused, within_shown, within_unlaid};
 ghost use Rattle.pdb_commands.specs.Show.{Answers, AnswersAt, IsByPosition, IsByWhole, IsOfText, RefusesBounded, ShowsBounded};
@@ -17,7 +16,7 @@ use crate::record::ShowRecord;
 use crate::records::ShowRecords;
 use crate::streams::ShowStreams;
 use crate::types::ShowTypes;
-use byte_io::{AtFault, Opened, ReadAt, ReadFault, Sink, Source};
+use byte_io::{AtFault, ReadAt, ReadFault, Sink, Source};
 use msf_blocks::Layout;
 use pdb_info::INFO_STREAM;
 use std::alloc::Allocator;
@@ -81,21 +80,20 @@ impl Within {
     fn checked_text<R: ReadAt, A: Allocator + Copy>(
         &self,
         alloc: A,
-        input: &mut Opened<'_, R>,
+        input: &mut R,
         layout: &Layout<A>,
     ) -> Result<String<A>, AtFault<RunFault<A>>>
-        requires bytes { IfKnown (opened_bytes R.bytes input.old) AreBytes }
-        requires layout { IfKnown (opened_bytes R.bytes input.old) (λ file.
+        requires bytes { IfKnown (R.bytes input.old) AreBytes }
+        requires layout { IfKnown (R.bytes input.old) (λ file.
             HasLayout file layout.now) }
         ensures texts { IfOk result (λ text. ShowsItRead self.now.command self.now.limit
-            (opened_bytes R.bytes input.old) layout.now (string_bytes text)) }
+            (R.bytes input.old) layout.now (string_bytes text)) }
         ensures refused { IfErr result (IfOf (λ fault.
-            RefusesItRead self.now.command self.now.limit (opened_bytes R.bytes input.old)
+            RefusesItRead self.now.command self.now.limit (R.bytes input.old)
             layout.now fault
             ⊎ (fault ≡ RunFault.Memory))) }
         ensures pure { IfErr result (IfOf IsOfText) }
-        ensures reads { Reads (opened_bytes R.bytes) (is_opened_broken R.is_broken) input.old
-            input.new result }
+        ensures reads { Reads R.bytes R.is_broken input.old input.new result }
     {
         match self.command {
             Shown::Records => ShowRecords.text_of(alloc, input, layout),
@@ -120,7 +118,7 @@ impl<A: Allocator + Copy> Show<A> for Within {
     fn text_of<R: ReadAt>(
         &self,
         alloc: A,
-        input: &mut Opened<'_, R>,
+        input: &mut R,
         layout: &Layout<A>,
     ) -> Result<String<A>, AtFault<RunFault<A>>> {
         self.check_layout(layout)?;
@@ -163,14 +161,14 @@ pub fn run_shown<R: Source, W: Sink, A: Allocator + Copy>(
 pub fn run_shown_at<R: ReadAt, W: Sink, A: Allocator + Copy>(
     alloc: A,
     command: Shown,
-    input: &mut Opened<'_, R>,
+    input: &mut R,
     limit: u32,
     out: &mut W,
 ) -> Result<(), RunFault<A>>
     ensures { AnswersAt (ShowsBounded limit (ShowsWithin command limit))
         (RefusesBounded limit (RefusesWithin command limit))
         (ShowsWithinRead command limit) (RefusesWithinRead command limit) limit
-        (opened_bytes R.bytes input.old) (is_opened_broken R.is_broken input.new) W.taken
+        (R.bytes input.old) (R.is_broken input.new) W.taken
         W.is_broken out.old out.new result }
 {
     run_at(alloc, &Within { command, limit }, input, limit, out)
@@ -192,7 +190,7 @@ fn is_unread<A: Allocator>(answer: &Result<(), RunFault<A>>) -> bool
 pub fn run_shown_file<R: ReadAt, S: Source, W: Sink, A: Allocator + Copy>(
     alloc: A,
     command: Shown,
-    input: &mut Opened<'_, R>,
+    input: &mut R,
     whole: &mut S,
     limit: u32,
     out: &mut W,
@@ -200,11 +198,11 @@ pub fn run_shown_file<R: ReadAt, S: Source, W: Sink, A: Allocator + Copy>(
     ensures { IsByPosition (ShowsBounded limit (ShowsWithin command limit))
         (RefusesBounded limit (RefusesWithin command limit)) (ShowsWithinRead command limit)
         (RefusesWithinRead command limit) limit
-        (opened_bytes R.bytes input.old) (is_opened_broken R.is_broken input.new) whole.old
+        (R.bytes input.old) (R.is_broken input.new) whole.old
         whole.new W.taken W.is_broken out.old out.new result
         ⊎ IsByWhole (ShowsBounded limit (ShowsWithin command limit))
         (RefusesBounded limit (RefusesWithin command limit)) limit
-        (opened_bytes R.bytes input.old) (is_opened_broken R.is_broken input.new) S.left
+        (R.bytes input.old) (R.is_broken input.new) S.left
         S.is_broken whole.old whole.new W.taken W.is_broken out.old out.new result }
 {
     let answer = run_shown_at(alloc, command, input, limit, out);

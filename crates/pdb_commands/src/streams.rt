@@ -6,7 +6,7 @@ ghost use Rattle.pdb_commands.specs.Streams.{RefusesStreams, RefusesStreamsRead,
 
 use crate::command::{Show, run};
 use crate::fault::RunFault;
-use byte_io::{AtFault, Opened, ReadAt, Sink, Source};
+use byte_io::{AtFault, ReadAt, Sink, Source};
 use command_texts::layout_text;
 use msf_blocks::{Layout, free_blocks_at};
 use std::alloc::Allocator;
@@ -27,7 +27,7 @@ impl<A: Allocator + Copy> Show<A> for ShowStreams {
     fn text_of<R: ReadAt>(
         &self,
         alloc: A,
-        input: &mut Opened<'_, R>,
+        input: &mut R,
         layout: &Layout<A>,
     ) -> Result<String<A>, AtFault<RunFault<A>>> {
         let superblock = layout.superblock();

@@ -13,7 +13,7 @@ ghost use Rattle.command_texts.specs.Types.{type_line};
 
 use crate::command::{Show, run};
 use crate::fault::RunFault;
-use byte_io::{AtFault, Opened, ReadAt, Sink, Source};
+use byte_io::{AtFault, ReadAt, Sink, Source};
 use command_texts::push_type_line;
 use cv_leaves::check;
 use file_types::{Buffer, read_records_of};
@@ -79,7 +79,7 @@ impl<A: Allocator + Copy> Show<A> for ShowTypes {
     fn text_of<R: ReadAt>(
         &self,
         alloc: A,
-        input: &mut Opened<'_, R>,
+        input: &mut R,
         layout: &Layout<A>,
     ) -> Result<String<A>, AtFault<RunFault<A>>> {
         let mut buffer = Buffer::new(alloc);

@@ -16,7 +16,7 @@ mod refusal;
 mod report;
 
 use arguments::arguments;
-use byte_io::{In, Opened, Out, put_all};
+use byte_io::{In, Out, put_all};
 use command_line::{Line, LineFault, Merging, Naming, Task, USAGE, read_line};
 use fault_pages::Page;
 use hold::hold;
@@ -159,7 +159,7 @@ fn show(rt: &HostRuntime, command: Shown, file: &str, max_bytes: u32) -> Result<
     let mut out = Out::new(writer(rt));
     match open_within(rt, file, max_bytes)? {
         Reading::At(input) => {
-            let mut input = Opened::At(input);
+            let mut input = input;
             let mut whole = WholeFile::new(rt, file);
             let shown = run_shown_file(
                 rt.alloc(),

@@ -1,6 +1,6 @@
 //! Commands on a file that is read by position, and whole where a read by position fails.
 
-use byte_io::{In, Opened, Out};
+use byte_io::{In, Out};
 use pdb_commands::{RunFault, Shown, run_shown, run_shown_at, run_shown_file};
 use std::alloc::Global;
 use std::test::Fail;
@@ -13,7 +13,7 @@ fn given_by_file(
     file: &[u8],
     number: usize,
 ) -> (Result<(), RunFault>, Vec<u8>, bool) {
-    let mut input = Opened::At(Positions::new(file, number));
+    let mut input = Positions::new(file, number);
     let mut text = Vec::new(alloc);
     let mut out = Out::new(&mut text);
     let answer = run_shown_file(
@@ -25,15 +25,12 @@ fn given_by_file(
         &mut out,
     );
     drop(out);
-    let Opened::At(input) = input else {
-        return (answer, text, false);
-    };
     (answer, text, number < input.reads)
 }
 
 /// The text of a command that reads by position alone, and no read fails.
 fn text_at(alloc: Global, command: Shown, file: &[u8]) -> (Result<(), RunFault>, Vec<u8>) {
-    let mut input = Opened::At(Positions::new(file, usize::MAX));
+    let mut input = Positions::new(file, usize::MAX);
     let mut text = Vec::new(alloc);
     let mut out = Out::new(&mut text);
     let answer = run_shown_at(alloc, command, &mut input, u32::MAX, &mut out);

@@ -1,4 +1,3 @@
-use Rattle.byte_io.specs.Inputs.{opened_bytes}
 use Rattle.std.proofs.Common.{◌∙◌, sym, inl, inr}
 use Rattle.std.specs.Prelude.{string_bytes}
 use Rattle.pdb_commands.proofs.ShowLaws.{fault_known, layout_refused, refused_of, text_known, texts_refused}
@@ -17,7 +16,7 @@ returns-in-Err-Of-Of-clause-first g c = λ file known.
 pub returns-in-Err-Of-Of-clause-refused : goal.returns-in-Err-Of-Of-clause-refused
 returns-in-Err-Of-Of-clause-refused g c =
     let e = c.in-Err-Of-Of in
-    let bytes = opened_bytes g.R.ReadAt.bytes c.args.input.now in
+    let bytes = g.R.ReadAt.bytes c.args.input.now in
     let of = rw e.field-0-is at e.field-0-0-is in
     let refused = refused_of c.args.limit bytes e.field-0-0 e.fault of (rw e.field-0-is at e.ensures.refused) in
     elim (texts_refused bytes e.fault c.from.result c.from-in-Err-Of-Of.result (rw (e.field-0-is, of) at c.from.ensures) c.from-in-Err-Of-Of.ensures refused) [
@@ -29,10 +28,10 @@ pub returns-clause-value : goal.returns-clause-value
 returns-clause-value g c =
     let e = c.in-Ok.ensures in
     let command = c.args.command.now in
-    text_known string_bytes (g.C.Show.shows command) (g.C.Show.shows_read command) c.args.limit (opened_bytes g.R.ReadAt.bytes c.args.input.now) c.in-Ok.layout c.text_of.result (g.met.C.Show.shows_known command) e.small e.value e.short (rw e.keeps at c.text_of.ensures.texts)
+    text_known string_bytes (g.C.Show.shows command) (g.C.Show.shows_read command) c.args.limit (g.R.ReadAt.bytes c.args.input.now) c.in-Ok.layout c.text_of.result (g.met.C.Show.shows_known command) e.small e.value e.short (rw e.keeps at c.text_of.ensures.texts)
 
 pub returns-clause-first : goal.returns-clause-first
 returns-clause-first g c =
     let e = c.in-Ok.ensures in
     let command = c.args.command.now in
-    fault_known (g.C.Show.refuses command) (g.C.Show.refuses_read command) c.args.limit (opened_bytes g.R.ReadAt.bytes c.args.input.now) c.in-Ok.layout c.text_of.result (g.met.C.Show.refuses_known command) e.small e.value e.short (rw e.keeps at c.text_of.ensures.refused)
+    fault_known (g.C.Show.refuses command) (g.C.Show.refuses_read command) c.args.limit (g.R.ReadAt.bytes c.args.input.now) c.in-Ok.layout c.text_of.result (g.met.C.Show.refuses_known command) e.small e.value e.short (rw e.keeps at c.text_of.ensures.refused)
