@@ -36,5 +36,5 @@ mod list;
 mod words;
 
 pub use fault::{LineFault, WrongWord};
-pub use line::{Line, Merging, Naming, PathList, Task, USAGE, read_line};
+pub use line::{GuidChoice, Line, Merging, PathList, Task, USAGE, read_line};
 pub use list::{ListFault, push_paths};

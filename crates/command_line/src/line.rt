@@ -41,7 +41,7 @@ pub struct PathList {
 
 /// The GUID of a file that is written.
 #[derive(Clone, Copy, Debug, PartialEq, Eq)]
-pub enum Naming {
+pub enum GuidChoice {
     /// The GUID of the settings.
     Given,
     /// The GUID of the types of the file. That of the settings is not used.
@@ -53,7 +53,7 @@ pub enum Naming {
 #[derive(Debug, Drop)]
 pub struct Merging {
     pub settings: Settings,
-    pub naming: Naming,
+    pub naming: GuidChoice,
     pub out: String,
     pub inputs: Vec<String>,
     pub list: Option<PathList>,
@@ -185,11 +185,11 @@ fn max_bytes_of(arguments: &ArgMatches<'_>) -> Result<u32, LineFault> {
 }
 
 /// Where the GUID of the file that is written comes from, and the GUID that is given.
-fn guid_of(arguments: &ArgMatches<'_>) -> Result<(Naming, Uuid), LineFault> {
+fn guid_of(arguments: &ArgMatches<'_>) -> Result<(GuidChoice, Uuid), LineFault> {
     match arguments.get_str("guid") {
-        Some("types") => Ok((Naming::ByTypes, Uuid::nil())),
+        Some("types") => Ok((GuidChoice::ByTypes, Uuid::nil())),
         given => match given.map(Uuid::parse_str) {
-            Some(Ok(guid)) => Ok((Naming::Given, guid)),
+            Some(Ok(guid)) => Ok((GuidChoice::Given, guid)),
             _ => Err(wrong(arguments, "--guid", GUID)),
         },
     }

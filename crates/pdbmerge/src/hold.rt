@@ -30,16 +30,16 @@ fn hold_one(rt: &HostRuntime) -> Option<File> {
 /// held while the program runs, by the root folder. A read of it fails, so a closed standard input
 /// is no empty list. A write fails too, and so does creating OUT under a name of the stream.
 #[derive(Drop)]
-pub struct Held {
+pub struct HeldStreams {
     _files: [Option<File>; 3],
 }
 
 /// Holds the numbers of the standard streams that are closed.
-pub fn hold(rt: &HostRuntime) -> Held {
+pub fn hold(rt: &HostRuntime) -> HeldStreams {
     let first = hold_one(rt);
     let second = first.as_ref().and_then(|_| hold_one(rt));
     let third = second.as_ref().and_then(|_| hold_one(rt));
-    Held {
+    HeldStreams {
         _files: [first, second, third],
     }
 }

@@ -17,7 +17,7 @@ mod report;
 
 use arguments::arguments;
 use byte_io::{In, Out, put_all};
-use command_line::{Line, LineFault, Merging, Naming, Task, USAGE, read_line};
+use command_line::{GuidChoice, Line, LineFault, Merging, Task, USAGE, read_line};
 use fault_pages::Page;
 use hold::hold;
 use lists::read_list;
@@ -59,7 +59,7 @@ fn inputs_of<'a>(
 }
 
 /// Merges files into a new one, which is stored and closed then. Returns the report on it.
-fn write_merged<S: BuildHasher + Drop>(
+fn merge_into_out<S: BuildHasher + Drop>(
     rt: &HostRuntime,
     task: &Merging,
     taken: TakenStreams,
@@ -70,7 +70,7 @@ fn write_merged<S: BuildHasher + Drop>(
     let inputs = inputs_of(rt, task, taken);
     let mut told = Out::new(&mut report);
     let merged = match task.naming {
-        Naming::Given => run_merge(
+        GuidChoice::Given => run_merge(
             rt.alloc(),
             inputs,
             &task.settings,
@@ -78,7 +78,7 @@ fn write_merged<S: BuildHasher + Drop>(
             &mut told,
             hasher,
         ),
-        Naming::ByTypes => run_merge_by_types(
+        GuidChoice::ByTypes => run_merge_by_types(
             rt.alloc(),
             inputs,
             &task.settings,
@@ -102,7 +102,7 @@ fn merge_with<S: BuildHasher + Drop>(
     hasher: S,
 ) -> Result<ExitCode, ProgramFault> {
     let taken = TakenStreams::of(rt, task.out.as_str());
-    let report = write_merged(rt, task, taken, hasher)?;
+    let report = merge_into_out(rt, task, taken, hasher)?;
     match print(rt, &report, taken) {
         Ok(()) => Ok(ExitCode::SUCCESS),
         // OUT is whole. The line of a refusal would be written into it.

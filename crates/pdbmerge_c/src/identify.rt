@@ -9,10 +9,10 @@ ghost use Rattle.pdbmerge_c.specs.Fault.{IsEnded, IsSaid};
 ghost use Rattle.pdbmerge_c.specs.Identify.{Identifies, IsFaultOfIdentity, RefusesIdentity};
 
 use crate::fault::{Fault, clear, refuse};
+use file_types::PdbFault;
 use msf_blocks::Layout;
 use msf_streams::pieces;
 use pdb_info::{InfoFault, InfoHeader, info_stream};
-use file_types::PdbFault;
 use std::alloc::Global;
 
 /// What identifies a file.

@@ -7,9 +7,9 @@ ghost use Rattle.pdbmerge_c.specs.Stream.{IsStreamOf, IsFaultOfStream, RefusesSt
 use crate::fault::{Fault, refuse};
 use crate::give::give;
 use byte_io::AtFault;
+use file_types::PdbFault;
 use msf_blocks::Layout;
 use msf_streams::contents_at;
-use file_types::PdbFault;
 use std::alloc::Global;
 
 /// The bytes of a stream of a file. They are lent from the file where its blocks are consecutive,
