@@ -216,8 +216,9 @@ pub(crate) fn read_input<'a, I: Inputs, A: Allocator + Copy>(
 ///
 /// The input is opened, read and checked as in a merge. An input that is opened by position is read
 /// only as far as its types need it. If such a read fails, the input is read to its end. An input
-/// that cannot be read, or that has a part longer than the limit of the inputs, is refused first,
-/// `Input`, even if it comes after one that has a fault of its own. Then comes the fault of this input, `Refused`. Both name the input by its position.
+/// that cannot be read is refused first, `Input`, even if it comes after one that has a fault of
+/// its own. If a part of this input is longer than the limit of the inputs, this input cannot be
+/// read; parts of later inputs are not looked at. Then comes the fault of this input, `Refused`. Both name the input by its position.
 /// `Memory` is out of memory.
 pub fn read_input_types<'a, I: Inputs, A: Allocator + Copy>(
     alloc: A,
