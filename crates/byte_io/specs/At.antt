@@ -44,10 +44,6 @@ pub record StandsAt (file : List ℕ) (offset : ℕ) (bytes : List ℕ) : Type 0
   pub inside : offset + length bytes ≤ length file
   pub is : bytes ≡ take (length bytes) (drop offset file)
 
--- a read failed: the reader is broken, whether its bytes are known or not
-abbrev pub Breaks : Bytes → Bool → Type 0
-Breaks bytes broken = broken ≡ true
-
 -- how a call that reads by position leaves its reader: the same is known of its bytes, and after a
 -- read that failed it is broken
 pub record Reads {R T F : Type 0} (bytes : R → Bytes) (is_broken : R → Bool) (before after : R)

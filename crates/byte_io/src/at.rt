@@ -1,7 +1,7 @@
 //! Bytes that are read by position.
 
 ghost use Rattle.std.specs.Prelude.{◌≡◌, ◌⊎◌, ◌+◌, ◌<◌, ◌≤◌, ◌++◌, ◌↔◌, ℕ, Option, Some, None, Bool, true, false, IsTrue, length, take, drop, get_or, OnOk, IfErr, IfSome, IfNone};
-ghost use Rattle.byte_io.specs.At.{AreGiven, Breaks, Bytes, GivesBehind, IfKnown, StandsAt, WidensTo, stable, unknown};
+ghost use Rattle.byte_io.specs.At.{AreGiven, Bytes, GivesBehind, IfKnown, StandsAt, WidensTo, stable, unknown};
 ghost use Rattle.byte_io.specs.declared.at.AtFault.TheVariants as at;
 
 use crate::input::ReadFault;
@@ -73,7 +73,7 @@ pub trait ReadAt {
             IfKnown (bytes self.old) (λ file. StandsAt file offset into.new)) }
         ensures given { IfSome result (λ _. AreGiven (bytes self.old) offset into.new) }
         ensures whole { IfSome result (λ _. is_broken self.new ≡ is_broken self.old) }
-        ensures refuses { IfNone result (Breaks (bytes self.old) (is_broken self.new)) }
+        ensures refuses { IfNone result (is_broken self.new ≡ true) }
         ensures stays { is_broken self.old ≡ true → is_broken self.new ≡ true };
 }
 
@@ -110,7 +110,7 @@ pub fn read_over<R: ReadAt>(
         (GivesBehind (R.bytes input.old) offset
         (take at buffer.old) (take (at + count) buffer.new)) }
     ensures first { IfErr result (λ fault.
-        (fault ≡ ReadFault.Read) × Breaks (R.bytes input.old) (R.is_broken input.new)) }
+        (fault ≡ ReadFault.Read) × (R.is_broken input.new ≡ true)) }
 {
     match input.read_at(offset, &mut buffer[at..at + count as usize]) {
         Some(()) => Ok(()),
@@ -136,7 +136,7 @@ pub fn read_more<R: ReadAt, A: Allocator>(
     ensures given { OnOk result
         (GivesBehind (R.bytes input.old) offset buffer.old.items buffer.new.items) }
     ensures first { IfErr result (λ fault.
-        ((fault ≡ ReadFault.Read) × Breaks (R.bytes input.old) (R.is_broken input.new))
+        ((fault ≡ ReadFault.Read) × (R.is_broken input.new ≡ true))
         ⊎ (fault ≡ ReadFault.Memory)) }
 {
     let length = buffer.len();

@@ -1,12 +1,12 @@
 -- The faults of crates below, as faults of a file. Out of memory is always `Memory`.
 use Rattle.std.specs.Prelude.{ℕ}
-use Rattle.msf_blocks.specs.Fault.{msf_number}
+use Rattle.msf_superblock.specs.Fault.{msf_number}
 use Rattle.msf_streams.specs.Fault.{stream_number}
 use Rattle.pdb_info.specs.Fault.{info_number}
 use Rattle.tpi_records.specs.Fault.{tpi_number}
 use Rattle.checked_types.specs.Fault.{type_number}
-use Rattle.msf_blocks.specs.declared.fault.MsfFault.{MsfFault}
-use Rattle.msf_blocks.specs.declared.fault.MsfFault.TheVariants as msf
+use Rattle.msf_superblock.specs.declared.fault.MsfFault.{MsfFault}
+use Rattle.msf_superblock.specs.declared.fault.MsfFault.TheVariants as msf
 use Rattle.msf_streams.specs.declared.fault.StreamFault.{StreamFault}
 use Rattle.msf_streams.specs.declared.fault.StreamFault.TheVariants as streams
 use Rattle.pdb_info.specs.declared.fault.InfoFault.{InfoFault}

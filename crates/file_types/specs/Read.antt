@@ -6,7 +6,7 @@ use Rattle.byte_fields.specs.Check.{first_failing}
 use Rattle.byte_io.specs.At.{Bytes}
 use Rattle.msf_blocks.specs.Directory.{Listed, bytes_of}
 use Rattle.msf_blocks.specs.Layout.{LayoutView, HasLayout, HasTexts, TextsRefuse, layout_checks}
-use Rattle.msf_blocks.specs.declared.fault.MsfFault.TheVariants as msf
+use Rattle.msf_superblock.specs.declared.fault.MsfFault.TheVariants as msf
 use Rattle.msf_streams.specs.Streams.{WasRead, stream_contents}
 use Rattle.pdb_info.specs.declared.fault.InfoFault.TheVariants.{InfoShort}
 use Rattle.tpi_records.specs.Records.{HasRecords, IsFirstFault}

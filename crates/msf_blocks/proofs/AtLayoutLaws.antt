@@ -1,27 +1,27 @@
 -- A layout that is read by position.
-use Rattle.std.proofs.Common.{◌≡◌, ◌≤◌, ℕ, List, Bool, Some, arith, inl, inr}
+use Rattle.std.proofs.Common.{◌≡◌, ◌≤◌, ℕ, List, Some, arith, inl, inr}
 use Rattle.std.specs.Prelude.{Result, Ok, Err, IfErr}
 use Rattle.byte_fields.specs.Bytes.{AreBytes}
 use Rattle.byte_fields.specs.Check.{first_failing, Refuses}
-use Rattle.msf_blocks.proofs.FoundLaws.{superblock_holds}
+use Rattle.msf_superblock.proofs.FrontLaws.{superblock_holds}
 use Rattle.msf_blocks.proofs.LayoutLaws.{superblock_fault}
-use Rattle.msf_blocks.specs.Superblock.{Fields, IsSuperblock, superblock_checks}
+use Rattle.msf_superblock.specs.Superblock.{Fields, IsSuperblock, superblock_checks}
 use Rattle.msf_blocks.specs.declared.fault.WithinFault.{WithinFault}
 use Rattle.msf_blocks.specs.declared.fault.WithinFault.TheVariants as within
-use Rattle.byte_io.specs.At.{map_of, Breaks, Bytes, IfKnown, IfOf}
+use Rattle.byte_io.specs.At.{map_of, Bytes, IfKnown, IfOf}
 use Rattle.byte_io.specs.declared.at.AtFault.{AtFault}
 use Rattle.byte_io.specs.declared.at.AtFault.TheVariants as at
 use Rattle.msf_blocks.specs.Layout.{LayoutView, HasLayout, HasLongDirectory, HasWithinFault, layout_checks}
-use Rattle.msf_blocks.specs.declared.fault.MsfFault.{MsfFault}
-use Rattle.msf_blocks.specs.declared.fault.MsfFault.TheVariants.{Memory}
+use Rattle.msf_superblock.specs.declared.fault.MsfFault.{MsfFault}
+use Rattle.msf_superblock.specs.declared.fault.MsfFault.TheVariants.{Memory}
 use Rattle.msf_blocks.proofs.FoundLaws.{layout_holds}
 
 -- a file that has a layout is refused by position only when out of memory
-pub layout_wants : {T : Type 0} (bytes : Bytes) (broken : Bool) (result : Result T (AtFault MsfFault)) → IfKnown bytes AreBytes → IfErr result (IfOf (λ fault. IfKnown bytes (λ file. Refuses Memory (first_failing (layout_checks file)) fault)))
-    → IfErr result (λ fault. fault ≡ at.Read → Breaks bytes broken) → IfErr result (IfOf (λ fault. IfKnown bytes (λ file. (layout : LayoutView) → HasLayout file layout → fault ≡ Memory)))
-layout_wants bytes broken (Ok value) small first read = tt
-layout_wants bytes broken (Err at.Read) small first read = tt
-layout_wants bytes broken (Err (at.Of fault)) small first read = λ file is layout has. elim (first file is) [
+pub layout_wants : {T : Type 0} (bytes : Bytes) (result : Result T (AtFault MsfFault)) → IfKnown bytes AreBytes → IfErr result (IfOf (λ fault. IfKnown bytes (λ file. Refuses Memory (first_failing (layout_checks file)) fault)))
+    → IfErr result (IfOf (λ fault. IfKnown bytes (λ file. (layout : LayoutView) → HasLayout file layout → fault ≡ Memory)))
+layout_wants bytes (Ok value) small first = tt
+layout_wants bytes (Err at.Read) small first = tt
+layout_wants bytes (Err (at.Of fault)) small first = λ file is layout has. elim (first file is) [
   | inl some ↦ let none = layout_holds file layout (small file is) has in absurd cc
   | inr want ↦ want.0
 ]

@@ -1,9 +1,9 @@
 -- The bytes in a list of blocks, a run of consecutive blocks at a time.
 use Rattle.std.proofs.Common.{◌≡◌, ℕ, ◌+◌, ◌-◌, ◌*◌, ◌/◌, ◌<◌, ◌≤◌, min, List, length, get_or, arith}
 use Rattle.std.proofs.lemmas.Nat.{mul-le, div-add-mod'}
-use Rattle.msf_blocks.specs.BlockNumber.{IsBlockSize, blocks_for}
+use Rattle.msf_superblock.specs.BlockNumber.{IsBlockSize, blocks_for}
 use Rattle.msf_blocks.specs.Blocks.{AreInside}
-use Rattle.msf_blocks.proofs.SizeLaws.{some_bytes, ceil_ge}
+use Rattle.msf_superblock.proofs.SizeLaws.{some_bytes, ceil_ge}
 
 -- the blocks of a list have consecutive numbers, from a position on
 abbrev pub IsRun : List ℕ → ℕ → ℕ → Type 0

@@ -6,11 +6,11 @@ use Rattle.std.proofs.lemmas.Nat.{div-add-mod', mod_below, div-mul-add, mod-mul-
 use Rattle.std.proofs.lemmas.Bool.Decides.{nat_tests}
 use Rattle.byte_fields.specs.Number.{nth_u32}
 use Rattle.byte_fields.proofs.CheckLaws.{checks_below-each, check_held}
-use Rattle.msf_blocks.specs.BlockNumber.{IsBlockSize, IsOrdinary, is_ordinary, blocks_for}
-use Rattle.msf_blocks.specs.Superblock.{Fields}
+use Rattle.msf_superblock.specs.BlockNumber.{IsBlockSize, IsOrdinary, is_ordinary, blocks_for}
+use Rattle.msf_superblock.specs.Superblock.{Fields}
 use Rattle.msf_blocks.specs.Directory.{map_number, directory_contents, directory_blocks, directory_block_check, directory_block_checks, IsReadable, list_start, stream_blocks}
-use Rattle.msf_blocks.specs.declared.fault.MsfFault.TheVariants.{DirectoryBlock}
-use Rattle.msf_blocks.proofs.SizeLaws.{size_facts, some_bytes, place_below}
+use Rattle.msf_superblock.specs.declared.fault.MsfFault.TheVariants.{DirectoryBlock}
+use Rattle.msf_superblock.proofs.SizeLaws.{size_facts, some_bytes, place_below}
 
 -- the numbers of the blocks of the directory
 abbrev pub map_numbers : List ℕ → Fields → List ℕ

@@ -1,7 +1,7 @@
 -- A file that has a layout fails no check.
-use Rattle.std.proofs.Common.{◌≡◌, ℕ, zero, suc, ◌+◌, ◌*◌, ◌/◌, ◌%◌, ◌<◌, ◌≤◌, ◌^◌, true, List, [], ◌∷◌, ◌++◌, None, length, map, take, get_or, refl, sym, ap, ◌∙◌, arith}
-use Rattle.std.specs.Prelude.{nat_le, nat_eq, ◌==◌, ◌&&◌, ◌||◌}
-use Rattle.std.specs.List.{flat_map, starts_with}
+use Rattle.std.proofs.Common.{◌≡◌, ℕ, zero, suc, ◌+◌, ◌*◌, ◌<◌, ◌≤◌, ◌^◌, true, List, [], ◌∷◌, ◌++◌, None, length, map, take, get_or, refl, sym, ap, ◌∙◌, arith}
+use Rattle.std.specs.Prelude.{nat_le}
+use Rattle.std.specs.List.{flat_map}
 use Rattle.std.proofs.Math.Seq.{take-suc}
 use Rattle.std.proofs.lemmas.Grind.{flat_map-append}
 use Rattle.std.proofs.lemmas.Bool.Decides.{nat_tests}
@@ -10,28 +10,23 @@ use Rattle.std.proofs.lemmas.List.Concat.{get_or-flat_map}
 use Rattle.std.proofs.lemmas.List.Folds.{length-flat_map-take}
 use Rattle.std.proofs.lemmas.List.Elements.{All-get_or}
 use Rattle.byte_fields.specs.Bytes.{AreBytes}
-use Rattle.byte_fields.specs.Number.{number_at, nth_u32, u32s}
+use Rattle.byte_fields.specs.Number.{nth_u32, u32s}
 use Rattle.byte_fields.specs.Check.{first_failing, checks_below}
 use Rattle.byte_fields.proofs.NumberLaws.{nth_u32-u32s, length-u32s, number_at-small}
 use Rattle.byte_fields.proofs.CheckLaws.{checks_below-all, check_holds}
-use Rattle.msf_blocks.specs.BlockNumber.{is_block_size, IsOrdinary, is_ordinary, blocks_for}
-use Rattle.msf_blocks.specs.Superblock.{Fields, IsSuperblock, fields_of, superblock_checks, magic, front_checks}
+use Rattle.msf_superblock.specs.BlockNumber.{IsOrdinary, is_ordinary}
+use Rattle.msf_superblock.specs.Superblock.{Fields}
 use Rattle.msf_blocks.specs.Directory.{Listed, IsListed, IsDirectory, ListsStreams, directory_blocks, map_number, directory_block_check, directory_block_checks, length_checks, stream_checks, stream_block_check, stream_blocks, list_start}
 use Rattle.msf_blocks.specs.Layout.{LayoutView, HasLayout, layout_checks}
-use Rattle.msf_blocks.specs.declared.fault.MsfFault.TheVariants.{DirectoryBlock, StreamBlock}
-use Rattle.msf_blocks.proofs.SizeLaws.{size_decides, listed_short}
-use Rattle.msf_blocks.proofs.SuperblockLaws.{starts_with_magic}
+use Rattle.msf_superblock.specs.declared.fault.MsfFault.TheVariants.{DirectoryBlock, StreamBlock}
+use Rattle.msf_superblock.proofs.SizeLaws.{listed_short}
 use Rattle.msf_blocks.proofs.DirectoryLaws.{contents_length, list_start_zero, list_start_more}
+use Rattle.msf_superblock.proofs.FrontLaws.{fields_are, superblock_holds}
 use Rattle.msf_blocks.proofs.LayoutLaws.{stream_answer}
 
 -- a placeholder for a position where a list has no stream
 no_stream : Listed
 no_stream = record { size = 0; blocks = [] }
-
--- the fields of a superblock are the numbers at their offsets in the file
-pub fields_are : (file : List ℕ) (fields : Fields) → IsSuperblock file fields → fields ≡ fields_of file
-fields_are file fields s =
-    rw (s.block_size_is, s.free_map_block_is, s.num_blocks_is, s.directory_bytes_is, s.unknown_is, s.block_map_addr_is) refl
 
 -- the contents begin with these sizes of streams, as many as are announced, and then these numbers of blocks
 pub record Spells (contents sizes blocks : List ℕ) : Type 0 where
@@ -172,21 +167,6 @@ blocks_hold file fields contents h =
     let block = map_number file fields k in
     let o : IsOrdinary fields.num_blocks block = h.ordinary k below in
     check_holds (is_ordinary fields.num_blocks block) (DirectoryBlock k block) (grind (arith, nat_tests)))
-
--- the checks of a superblock hold
-pub superblock_holds : (file : List ℕ) (fields : Fields) → IsSuperblock file fields → first_failing (superblock_checks file) ≡ None
-unfolding superblock_checks front_checks
-superblock_holds file fields s =
-    let f = s.fit in
-    let m : starts_with nat_eq file magic ≡ true = starts_with_magic file s.magical in
-    let a : nat_le 56 (length file) ≡ true = grind (arith, nat_tests, s.long) in
-    let b : is_block_size (number_at 4 file 32) ≡ true = rw s.block_size_is ((size_decides fields.block_size).1 f.block_size_fits) in
-    let c : (number_at 4 file 36 == 1 || number_at 4 file 36 == 2) ≡ true = rw s.free_map_block_is (grind (arith, nat_tests, f.free_map_block_fits)) in
-    let d : nat_le (number_at 4 file 40 * number_at 4 file 32) (length file) ≡ true = rw (s.num_blocks_is, s.block_size_is) (grind (arith, nat_tests, s.whole)) in
-    let e : (number_at 4 file 44 % 4 == 0 && nat_le (blocks_for (number_at 4 file 32) (number_at 4 file 44)) (number_at 4 file 32 / 4)) ≡ true =
-    rw (s.directory_bytes_is, s.block_size_is) (grind (arith, nat_tests, f.directory_multiple, f.directory_fits)) in
-    let g : is_ordinary (number_at 4 file 40) (number_at 4 file 52) ≡ true = rw (s.num_blocks_is, s.block_map_addr_is) (grind (arith, nat_tests, f.block_map_fits.0, f.block_map_fits.1)) in
-    rw (a, m, b, c, d, e, g) refl
 
 -- a file that has a layout fails no check
 pub layout_holds : (file : List ℕ) (layout : LayoutView) → AreBytes file → HasLayout file layout → first_failing (layout_checks file) ≡ None

@@ -8,12 +8,12 @@ use Rattle.std.proofs.lemmas.Nat.{mul-le, mod_below, div-add-mod', div-mul-add}
 use Rattle.std.proofs.Math.Seq.{take-append_seam}
 use Rattle.std.proofs.lemmas.List.{take_all, length-append, length-take, length-drop, get_or_append_left, get_or-append-add}
 use Rattle.std.proofs.lemmas.List.Sums.{count_by_more_yes, count_by_more_no}
-use Rattle.msf_blocks.specs.BlockNumber.{IsBlockSize}
-use Rattle.msf_blocks.specs.Superblock.{Fields, HoldsBlocks}
-use Rattle.msf_blocks.proofs.AtLaws.{byte_read}
+use Rattle.msf_superblock.specs.BlockNumber.{IsBlockSize}
+use Rattle.msf_superblock.specs.Superblock.{Fields, HoldsBlocks}
+use Rattle.msf_superblock.proofs.FrontLaws.{byte_read}
 use Rattle.msf_blocks.proofs.CountLaws.{count_no, count_whole, count_yes}
 use Rattle.msf_blocks.proofs.KnownLaws.{given_stands}
-use Rattle.msf_blocks.proofs.SizeLaws.{some_bytes}
+use Rattle.msf_superblock.proofs.SizeLaws.{some_bytes}
 use Rattle.byte_io.specs.At.{Bytes, StandsAt, stable}
 use Rattle.msf_blocks.specs.FreeMap.{AreMarks, IsFreeCount, IsMapGiven, IsMapHeld, IsMark, blocks_per_map_block, bit_of, free_blocks, is_free, is_free_by, map_block_of, map_byte_of}
 

@@ -10,13 +10,13 @@ use Rattle.byte_fields.specs.Check.{Refuses, first_failing}
 use Rattle.byte_fields.proofs.NumberLaws.{number_at-take}
 use Rattle.byte_io.specs.At.{Bytes, AreGiven, GivesBehind}
 use Rattle.msf_blocks.specs.Blocks.{AreGivenIn}
-use Rattle.msf_blocks.specs.BlockNumber.{IsBlockSize}
+use Rattle.msf_superblock.specs.BlockNumber.{IsBlockSize}
 use Rattle.msf_blocks.specs.Directory.{AreMapNumbers, BlockMapRefuses, ContentsRefuse, DirectoryRefuses, HasContents, IsDirectoryByte, IsNumberGiven, directory_blocks, directory_checks, map_start, number_checks}
-use Rattle.msf_blocks.specs.Superblock.{Fields}
-use Rattle.msf_blocks.specs.declared.fault.MsfFault.{MsfFault}
-use Rattle.msf_blocks.specs.declared.fault.MsfFault.TheVariants.{Memory}
+use Rattle.msf_superblock.specs.Superblock.{Fields}
+use Rattle.msf_superblock.specs.declared.fault.MsfFault.{MsfFault}
+use Rattle.msf_superblock.specs.declared.fault.MsfFault.TheVariants.{Memory}
 use Rattle.msf_blocks.proofs.BlocksLaws.{IsRun, RunFacts}
-use Rattle.msf_blocks.proofs.SizeLaws.{some_bytes, place_below}
+use Rattle.msf_superblock.proofs.SizeLaws.{some_bytes, place_below}
 
 -- ---- blocks
 

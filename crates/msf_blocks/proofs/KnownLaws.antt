@@ -10,18 +10,18 @@ use Rattle.std.proofs.lemmas.Nat.{div_below, mul-le, mod_below}
 use Rattle.byte_fields.specs.Number.{number_at}
 use Rattle.byte_fields.specs.Check.{Refuses, first_failing}
 use Rattle.byte_io.specs.At.{AreGiven, Bytes, IfKnown, StandsAt, stable}
-use Rattle.msf_blocks.specs.BlockNumber.{IsBlockSize, blocks_for}
+use Rattle.msf_superblock.specs.BlockNumber.{IsBlockSize, blocks_for}
 use Rattle.msf_blocks.specs.Blocks.{AreGivenIn, AreInside, in_blocks}
 use Rattle.msf_blocks.specs.Directory.{AreDirectoryBytes, AreMapNumbers, BlockMapRefuses, ContentsRefuse, DirectoryRefuses, HasBlockMap, HasContents, IsBlockMap, IsDirectoryByte, IsNumberGiven, IsReadable, directory_block_checks, directory_blocks, directory_checks, directory_contents, map_number, map_start}
 use Rattle.msf_blocks.proofs.LayoutLaws.{IsDirectoryFault}
 use Rattle.msf_blocks.proofs.DirectoryLaws.{map_numbers}
-use Rattle.msf_blocks.specs.Superblock.{Fields, HoldsBlocks, IsFit}
-use Rattle.msf_blocks.specs.declared.fault.MsfFault.{MsfFault}
-use Rattle.msf_blocks.specs.declared.fault.MsfFault.TheVariants.{Memory}
+use Rattle.msf_superblock.specs.Superblock.{Fields, HoldsBlocks, IsFit}
+use Rattle.msf_superblock.specs.declared.fault.MsfFault.{MsfFault}
+use Rattle.msf_superblock.specs.declared.fault.MsfFault.TheVariants.{Memory}
 use Rattle.msf_blocks.proofs.AtLaws.{number_checks_are, number_is}
 use Rattle.msf_blocks.proofs.DirectoryLaws.{contents_length, map_is_ordinary}
 use Rattle.msf_blocks.proofs.GivenLaws.{byte_given}
-use Rattle.msf_blocks.proofs.SizeLaws.{ceil_ge, place_below, size_facts, some_bytes}
+use Rattle.msf_superblock.proofs.SizeLaws.{ceil_ge, place_below, size_facts, some_bytes}
 
 -- ---- bytes
 

@@ -14,17 +14,19 @@ use Rattle.byte_io.specs.declared.at.AtFault.TheVariants as at
 use Rattle.msf_blocks.specs.Directory.{AreMapNumbers, HasContents, IsBlockMap, IsReadable, directory_block_checks, directory_blocks, directory_contents, map_number, map_start, number_checks}
 use Rattle.msf_blocks.proofs.DirectoryLaws.{map_numbers}
 use Rattle.msf_blocks.specs.Layout.{LayoutView, HasLayout, HasTexts, TextsRefuse, layout_checks}
-use Rattle.msf_blocks.specs.Superblock.{Fields, FrontRefuses, HasFront, HoldsBlocks, IsFit, IsSuperblock, fields_of, front_checks, magic}
-use Rattle.msf_blocks.specs.declared.fault.MsfFault.{MsfFault}
-use Rattle.msf_blocks.specs.declared.fault.MsfFault.TheVariants.{Memory, Short}
-use Rattle.msf_blocks.proofs.AtLaws.{byte_read, checks_read, fields_read, front_stands, number_checks_are, short_file, superblock_read}
+use Rattle.msf_superblock.specs.Superblock.{Fields, FrontRefuses, HasFront, HoldsBlocks, IsFit, IsSuperblock, fields_of, front_checks, magic}
+use Rattle.msf_superblock.specs.declared.fault.MsfFault.{MsfFault}
+use Rattle.msf_superblock.specs.declared.fault.MsfFault.TheVariants.{Memory, Short}
+use Rattle.msf_superblock.proofs.FrontLaws.{byte_read, checks_read, fields_read, front_stands, short_file, superblock_read}
+use Rattle.msf_blocks.proofs.AtLaws.{number_checks_are}
 use Rattle.msf_blocks.proofs.DirectoryLaws.{contents_length, map_is_ordinary}
-use Rattle.msf_blocks.proofs.FoundLaws.{blocks_hold, fields_are, superblock_holds}
+use Rattle.msf_superblock.proofs.FrontLaws.{fields_are, superblock_holds}
+use Rattle.msf_blocks.proofs.FoundLaws.{blocks_hold}
 use Rattle.msf_blocks.proofs.GivenLaws.{directory_refuses, map_given_refuses, number_given}
 use Rattle.msf_blocks.proofs.KnownLaws.{block_map_known, contents_known, directory_fault_known, given_stands, gives_own, map_inside}
 use Rattle.msf_blocks.proofs.LayoutLaws.{after_blocks, block_fault, contents_fault, superblock_fault}
-use Rattle.msf_blocks.proofs.SizeLaws.{place_below, size_decides, size_facts, some_bytes}
-use Rattle.msf_blocks.proofs.SuperblockLaws.{magic_from_starts_with}
+use Rattle.msf_superblock.proofs.SizeLaws.{place_below, size_decides, size_facts, some_bytes}
+use Rattle.msf_superblock.proofs.SuperblockLaws.{magic_from_starts_with}
 
 -- each of these checks holds
 abbrev AllHold : {F : Type 0} → List (Check F) → Type 0

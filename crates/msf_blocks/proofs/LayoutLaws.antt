@@ -5,13 +5,13 @@ use Rattle.std.proofs.lemmas.List.{map-append}
 use Rattle.byte_fields.specs.Number.{nth_u32}
 use Rattle.byte_fields.specs.Check.{first_failing, checks_below, Refuses}
 use Rattle.byte_fields.proofs.CheckLaws.{first_failing-append_none, first_failing-append_some}
-use Rattle.msf_blocks.specs.Superblock.{Fields, fields_of, superblock_checks}
+use Rattle.msf_superblock.specs.Superblock.{Fields, fields_of, superblock_checks}
 use Rattle.msf_blocks.specs.Directory.{directory_checks, directory_contents, directory_block_checks, length_checks, stream_checks, stream_blocks, list_start, listed_at, listed_below}
 use Rattle.msf_blocks.specs.Layout.{layout_checks}
 use Rattle.msf_blocks.specs.Stream.{listed_of}
 use Rattle.msf_blocks.specs.declared.layout.Stream.{Stream}
-use Rattle.msf_blocks.specs.declared.fault.MsfFault.{MsfFault}
-use Rattle.msf_blocks.specs.declared.fault.MsfFault.TheVariants.{Memory}
+use Rattle.msf_superblock.specs.declared.fault.MsfFault.{MsfFault}
+use Rattle.msf_superblock.specs.declared.fault.MsfFault.TheVariants.{Memory}
 use Rattle.msf_blocks.proofs.DirectoryLaws.{map_range_more}
 
 -- this is the first fault of the directory of a file that begins with this superblock: a fault of a number of the block map, else of what the directory lists, else out of memory

@@ -1,6 +1,4 @@
 pub mod RangeLaws
-pub mod SizeLaws
-pub mod SuperblockLaws
 pub mod BlocksLaws
 pub mod MemoryLaws
 pub mod DirectoryLaws
@@ -15,7 +13,6 @@ pub mod KnownLaws
 pub mod KnownLayoutLaws
 pub mod RefusedLaws
 pub mod AtLayoutLaws
-pub mod BlockLaws
 pub mod CountLaws
 pub mod FreeLaws
 pub mod OneLayoutLaws

@@ -11,11 +11,11 @@ use Rattle.byte_fields.specs.Number.{nth_u32, u32s}
 use Rattle.byte_fields.specs.Check.{first_failing, checks_below}
 use Rattle.byte_fields.proofs.NumberLaws.{u32s-nth_u32, number_at-small}
 use Rattle.byte_fields.proofs.CheckLaws.{checks_below-each, check_held}
-use Rattle.msf_blocks.specs.BlockNumber.{IsBlockSize, IsOrdinary, is_ordinary}
-use Rattle.msf_blocks.specs.Superblock.{Fields}
+use Rattle.msf_superblock.specs.BlockNumber.{IsBlockSize, IsOrdinary, is_ordinary}
+use Rattle.msf_superblock.specs.Superblock.{Fields}
 use Rattle.msf_blocks.specs.Directory.{Listed, IsListed, ListsStreams, stream_checks, stream_block_check, stream_blocks, list_start, listed_at, listed_below}
 use Rattle.msf_blocks.specs.Layout.{IsLayout}
-use Rattle.msf_blocks.specs.declared.fault.MsfFault.TheVariants.{StreamBlock}
+use Rattle.msf_superblock.specs.declared.fault.MsfFault.TheVariants.{StreamBlock}
 use Rattle.msf_blocks.proofs.DirectoryLaws.{map_range_more, list_start_zero, list_start_more}
 
 -- ---- what is read is what the directory lists

@@ -1,12 +1,12 @@
 -- No check of a layout has out of memory as its fault.
 use Rattle.std.proofs.Common.{◌≡◌, Bool, true, false, cond, ℕ, zero, suc, List, [], ◌∷◌, ◌++◌, Option, Some, refl}
 use Rattle.byte_fields.specs.Check.{Check, first_failing, checks_below}
-use Rattle.msf_blocks.specs.Superblock.{Fields, fields_of, superblock_checks, front_checks}
+use Rattle.msf_superblock.specs.Superblock.{Fields, fields_of, superblock_checks, front_checks}
 use Rattle.msf_blocks.specs.Directory.{directory_contents, directory_blocks, directory_block_check, directory_block_checks, length_checks, stream_blocks, stream_block_check, stream_checks}
 use Rattle.msf_blocks.specs.Layout.{layout_checks}
 use Rattle.byte_fields.specs.Number.{nth_u32}
-use Rattle.msf_blocks.specs.declared.fault.MsfFault.{MsfFault}
-use Rattle.msf_blocks.specs.declared.fault.MsfFault.TheVariants.{Memory}
+use Rattle.msf_superblock.specs.declared.fault.MsfFault.{MsfFault}
+use Rattle.msf_superblock.specs.declared.fault.MsfFault.TheVariants.{Memory}
 
 -- whether a fault is out of memory
 abbrev is_want : MsfFault → Bool

@@ -7,11 +7,11 @@ use Rattle.std.proofs.lemmas.List.Elements.{All-head, All-tail}
 use Rattle.byte_fields.specs.Bytes.{AreBytes}
 use Rattle.byte_fields.specs.Number.{four_bytes, u32s, nth_u32}
 use Rattle.byte_fields.proofs.NumberLaws.{nth_u32-u32s, length-u32s, number_at-small}
-use Rattle.msf_blocks.specs.BlockNumber.{IsOrdinary, blocks_for}
-use Rattle.msf_blocks.specs.Superblock.{Fields}
+use Rattle.msf_superblock.specs.BlockNumber.{IsOrdinary, blocks_for}
+use Rattle.msf_superblock.specs.Superblock.{Fields}
 use Rattle.msf_blocks.specs.Directory.{Listed, IsListed, ListsStreams, bytes_of, directory_contents}
 use Rattle.msf_blocks.specs.Layout.{LayoutView, HasLayout}
-use Rattle.msf_blocks.proofs.FoundLaws.{fields_are}
+use Rattle.msf_superblock.proofs.FrontLaws.{fields_are}
 use Rattle.msf_blocks.proofs.DirectoryLaws.{contents_length}
 
 -- numbers of four bytes

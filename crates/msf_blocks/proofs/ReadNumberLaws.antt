@@ -5,8 +5,8 @@ use Rattle.std.proofs.lemmas.List.{length-append, get_or_append_left, get_or-app
 use Rattle.byte_fields.specs.Number.{four_bytes, u32s}
 use Rattle.byte_fields.proofs.NumberLaws.{length-four_bytes}
 use Rattle.byte_io.specs.At.{Bytes, AreGiven}
-use Rattle.msf_blocks.specs.BlockNumber.{IsBlockSize}
-use Rattle.msf_blocks.specs.Superblock.{Fields}
+use Rattle.msf_superblock.specs.BlockNumber.{IsBlockSize}
+use Rattle.msf_superblock.specs.Superblock.{Fields}
 use Rattle.msf_blocks.specs.Directory.{AreDirectoryBytes, AreDirectoryNumbers, IsDirectoryNumber, IsNumberGiven, map_start}
 use Rattle.msf_blocks.proofs.DirectoryLaws.{lies_in_block}
 

@@ -12,11 +12,11 @@ use Rattle.byte_fields.specs.Check.{first_failing, checks_below}
 use Rattle.byte_fields.proofs.NumberLaws.{nth_u32-u32s, length-u32s}
 use Rattle.byte_fields.proofs.CheckLaws.{first_failing-append_none, first_failing-append_some, checks_below-all, checks_below-stop, check_holds, check_fails}
 use Rattle.byte_io.specs.At.{Bytes}
-use Rattle.msf_blocks.specs.BlockNumber.{IsOrdinary, is_ordinary, blocks_for}
-use Rattle.msf_blocks.specs.Superblock.{Fields}
+use Rattle.msf_superblock.specs.BlockNumber.{IsOrdinary, is_ordinary, blocks_for}
+use Rattle.msf_superblock.specs.Superblock.{Fields}
 use Rattle.msf_blocks.specs.Directory.{AreMapNumbers, IsNumberGiven, AreDirectoryBytes, AreDirectoryNumbers, IsDirectoryNumber, directory_blocks, map_start, number_check, number_checks, bytes_of, length_checks, stream_blocks, stream_block_check, stream_checks, directory_checks, list_start, blocks_together, HasSize, HasSizes, HasRoom, LacksRoom, HasBlocks, HasBadBlock, HasLists, HasBlockMap, BlockMapRefuses, ListRefuses, ContentsRefuse}
-use Rattle.msf_blocks.specs.declared.fault.MsfFault.{MsfFault}
-use Rattle.msf_blocks.specs.declared.fault.MsfFault.TheVariants.{DirectoryBlock, DirectoryShort, StreamBlock, Memory}
+use Rattle.msf_superblock.specs.declared.fault.MsfFault.{MsfFault}
+use Rattle.msf_superblock.specs.declared.fault.MsfFault.TheVariants.{DirectoryBlock, DirectoryShort, StreamBlock, Memory}
 use Rattle.msf_blocks.proofs.AtLaws.{short_count, short_sizes, short_lists, long_enough}
 use Rattle.msf_blocks.proofs.DirectoryLaws.{list_start_zero, list_start_more, list_start_first, list_start_upto}
 use Rattle.msf_blocks.proofs.FoundLaws.{Spells, spelled_count, spelled_size, spelled_block}

@@ -6,14 +6,14 @@ use Rattle.std.proofs.lemmas.Nat.{mod_below, mul-le, div-add-mod', div-mul-add, 
 use Rattle.byte_fields.specs.Number.{four_bytes}
 use Rattle.byte_fields.proofs.NumberLaws.{length-four_bytes}
 use Rattle.byte_io.specs.At.{Bytes, AreGiven}
-use Rattle.msf_blocks.specs.BlockNumber.{IsBlockSize}
+use Rattle.msf_superblock.specs.BlockNumber.{IsBlockSize}
 use Rattle.msf_blocks.specs.Directory.{IsDirectoryNumber, IsNumberGiven, IsReadable, map_number, map_start}
-use Rattle.msf_blocks.specs.Superblock.{Fields}
+use Rattle.msf_superblock.specs.Superblock.{Fields}
 use Rattle.msf_blocks.specs.Window.{IsPart, IsWindow, Shows, shown}
 use Rattle.msf_blocks.specs.declared.window.Window.{Window}
 use Rattle.msf_blocks.proofs.DirectoryLaws.{lies_in_block, map_is_ordinary}
 use Rattle.msf_blocks.proofs.ReadNumberLaws.{number_in_block}
-use Rattle.msf_blocks.proofs.SizeLaws.{some_bytes, place_below}
+use Rattle.msf_superblock.proofs.SizeLaws.{some_bytes, place_below}
 
 -- a byte that is `d` behind another, and in its block
 pub record InSameBlock (b s d : ℕ) : Type 0 where

@@ -4,9 +4,9 @@ use Rattle.std.proofs.lemmas.List.{append-nil, take_more}
 use Rattle.std.proofs.lemmas.List.FromFn.{map-range_with_len_more}
 use Rattle.std.proofs.lemmas.List.Concat.{flat_map-append}
 use Rattle.byte_fields.specs.Number.{four_bytes, u32s}
-use Rattle.msf_blocks.specs.BlockNumber.{IsBlockSize, nth_block, block_numbers}
-use Rattle.msf_blocks.proofs.SizeLaws.{big_enough}
-use Rattle.msf_blocks.proofs.BlockLaws.{nth_few}
+use Rattle.msf_superblock.specs.BlockNumber.{IsBlockSize, nth_block, block_numbers}
+use Rattle.msf_superblock.proofs.SizeLaws.{big_enough}
+use Rattle.msf_superblock.proofs.BlockLaws.{nth_few}
 
 -- one more number at the end
 u32s_push : (ns : List ℕ) (n : ℕ) → u32s (ns ++ n ∷ []) ≡ u32s ns ++ four_bytes n

@@ -5,11 +5,11 @@ use Rattle.std.specs.List.{range_with_len, flat_map, sum_by}
 use Rattle.byte_fields.specs.Number.{number_at, four_bytes, nth_u32, u32s}
 use Rattle.byte_fields.specs.Check.{Check, Refuses, checks_below, first_failing}
 use Rattle.byte_io.specs.At.{Bytes, AreGiven}
-use Rattle.msf_blocks.specs.BlockNumber.{blocks_for, IsOrdinary, is_ordinary}
+use Rattle.msf_superblock.specs.BlockNumber.{blocks_for, IsOrdinary, is_ordinary}
 use Rattle.msf_blocks.specs.Blocks.{AreGivenIn}
-use Rattle.msf_blocks.specs.Superblock.{HoldsBlocks, Fields}
-use Rattle.msf_blocks.specs.declared.fault.MsfFault.{MsfFault}
-use Rattle.msf_blocks.specs.declared.fault.MsfFault.TheVariants.{DirectoryBlock, DirectoryShort, StreamBlock, Memory}
+use Rattle.msf_superblock.specs.Superblock.{HoldsBlocks, Fields}
+use Rattle.msf_superblock.specs.declared.fault.MsfFault.{MsfFault}
+use Rattle.msf_superblock.specs.declared.fault.MsfFault.TheVariants.{DirectoryBlock, DirectoryShort, StreamBlock, Memory}
 
 -- how many blocks the directory has
 abbrev pub directory_blocks : Fields → ℕ

@@ -3,7 +3,7 @@ use Rattle.std.specs.Prelude.{ℕ, ◌≡◌, ◌+◌, ◌-◌, ◌*◌, ◌/◌
 use Rattle.std.specs.List.{range_with_len}
 use Rattle.byte_io.specs.At.{AreGiven, Bytes}
 use lib.ListN.{replicate}
-use Rattle.msf_blocks.specs.Superblock.{Fields}
+use Rattle.msf_superblock.specs.Superblock.{Fields}
 
 -- for how many blocks one map block has a bit
 abbrev pub blocks_per_map_block : Fields → ℕ

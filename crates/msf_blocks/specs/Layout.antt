@@ -3,11 +3,11 @@ use Rattle.std.specs.Prelude.{ℕ, ◌≡◌, ◌-◌, ◌⊎◌, ◌<◌, ◌^�
 use Rattle.byte_fields.specs.Number.{nth_u32}
 use Rattle.byte_fields.specs.Check.{Check, Refuses, checks_below, first_failing}
 use Rattle.byte_io.specs.At.{Bytes}
-use Rattle.msf_blocks.specs.BlockNumber.{IsBlockSize}
-use Rattle.msf_blocks.specs.Superblock.{Fields, IsSuperblock, HasFront, FrontRefuses, fields_of, superblock_checks}
+use Rattle.msf_superblock.specs.BlockNumber.{IsBlockSize}
+use Rattle.msf_superblock.specs.Superblock.{Fields, IsSuperblock, HasFront, FrontRefuses, fields_of, superblock_checks}
 use Rattle.msf_blocks.specs.Directory.{Listed, bytes_of, IsListed, IsDirectory, ListsStreams, HasContents, DirectoryRefuses, directory_contents, directory_block_checks, length_checks, stream_checks}
-use Rattle.msf_blocks.specs.declared.fault.MsfFault.{MsfFault}
-use Rattle.msf_blocks.specs.declared.fault.MsfFault.TheVariants.{Memory}
+use Rattle.msf_superblock.specs.declared.fault.MsfFault.{MsfFault}
+use Rattle.msf_superblock.specs.declared.fault.MsfFault.TheVariants.{Memory}
 use Rattle.msf_blocks.specs.declared.fault.WithinFault.{WithinFault}
 use Rattle.msf_blocks.specs.declared.fault.WithinFault.TheVariants as within
 

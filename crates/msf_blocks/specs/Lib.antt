@@ -1,6 +1,3 @@
-pub mod Fault
-pub mod BlockNumber
-pub mod Superblock
 pub mod Directory
 pub mod Blocks
 pub mod Window

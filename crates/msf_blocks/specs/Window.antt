@@ -2,8 +2,8 @@
 use Rattle.std.specs.Prelude.{ℕ, ◌+◌, ◌*◌, ◌/◌, ◌%◌, ◌<◌, ◌≤◌, List, length, take}
 use Rattle.byte_io.specs.At.{Bytes, AreGiven}
 use Rattle.msf_blocks.specs.Directory.{IsNumberGiven, map_start}
-use Rattle.msf_blocks.specs.Superblock.{Fields}
-use Rattle.msf_blocks.specs.BlockNumber.{IsBlockSize}
+use Rattle.msf_superblock.specs.Superblock.{Fields}
+use Rattle.msf_superblock.specs.BlockNumber.{IsBlockSize}
 use Rattle.msf_blocks.specs.declared.window.Window.{Window}
 
 -- reads gave this part of the directory, from `start` on, in a block that the block map lists

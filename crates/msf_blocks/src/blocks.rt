@@ -1,8 +1,8 @@
 //! The bytes in a list of blocks, read by position.
 
-ghost use Rattle.std.specs.Prelude.{ℕ, ◌≡◌, ◌⊎◌, ◌<◌, ◌≤◌, ◌+◌, length, get_or, OnOk, IfErr};
-ghost use Rattle.byte_io.specs.At.{Breaks, IfKnown};
-ghost use Rattle.msf_blocks.specs.BlockNumber.{IsBlockSize, blocks_for};
+ghost use Rattle.std.specs.Prelude.{true, ℕ, ◌≡◌, ◌⊎◌, ◌<◌, ◌≤◌, ◌+◌, length, get_or, OnOk, IfErr};
+ghost use Rattle.byte_io.specs.At.{IfKnown};
+ghost use Rattle.msf_superblock.specs.BlockNumber.{IsBlockSize, blocks_for};
 ghost use Rattle.msf_blocks.specs.Blocks.{AreGivenIn, AreInside, in_blocks};
 
 use byte_io::{ReadAt, ReadFault, read_over};
@@ -48,7 +48,7 @@ fn read_runs<R: ReadAt>(
     ensures same { length buffer.new ≡ size }
     ensures given { OnOk result (AreGivenIn (R.bytes input.old) block_size blocks.now buffer.new) }
     ensures first { IfErr result (λ fault.
-        (fault ≡ ReadFault.Read) × Breaks (R.bytes input.old) (R.is_broken input.new)) }
+        (fault ≡ ReadFault.Read) × (R.is_broken input.new ≡ true)) }
 {
     let mut position = 0;
     while (position as usize) < blocks.len() {
@@ -95,7 +95,7 @@ pub fn read_blocks<R: ReadAt, A: Allocator>(
     ensures given { OnOk result
         (AreGivenIn (R.bytes input.old) block_size blocks.now buffer.new.items) }
     ensures first { IfErr result (λ fault.
-        ((fault ≡ ReadFault.Read) × Breaks (R.bytes input.old) (R.is_broken input.new))
+        ((fault ≡ ReadFault.Read) × (R.is_broken input.new ≡ true))
         ⊎ (fault ≡ ReadFault.Memory)) }
 {
     // The old bytes are read over. So zeros are written only where the buffer grows.

@@ -5,14 +5,11 @@ ghost use Rattle.std.specs.List.{range_with_len};
 ghost use Rattle.byte_fields.specs.Number.{nth_u32, u32s};
 ghost use Rattle.byte_fields.specs.Bytes.{AreBytes};
 ghost use Rattle.byte_fields.specs.Check.{Makes, checks_below};
-ghost use Rattle.msf_blocks.specs.BlockNumber.{IsBlockSize, block_numbers};
+ghost use Rattle.msf_superblock.specs.BlockNumber.{IsBlockSize, block_numbers};
 ghost use Rattle.msf_blocks.specs.Directory.{directory_blocks, bytes_of, stream_blocks, list_start, length_checks, stream_checks};
 
-use crate::block_number::{blocks_for, is_ordinary};
-use crate::block_size::BlockSize;
-use crate::fault::MsfFault;
-use crate::superblock::Superblock;
 use byte_fields::{push_u32, u32_at};
+use msf_superblock::{BlockSize, MsfFault, Superblock, blocks_for, is_ordinary};
 use std::alloc::{AllocError, Allocator};
 use std::marker::Model;
 

@@ -1,20 +1,18 @@
 //! A stream directory that is read by position.
 
-ghost use Rattle.std.specs.Prelude.{◌≡◌, ◌⊎◌, ◌+◌, ◌*◌, ◌<◌, ◌≤◌, length, map, IfOk, IfErr};
+ghost use Rattle.std.specs.Prelude.{true, ◌≡◌, ◌⊎◌, ◌+◌, ◌*◌, ◌<◌, ◌≤◌, length, map, IfOk, IfErr};
 ghost use Rattle.std.specs.List.{range_with_len};
 ghost use Rattle.byte_fields.specs.Number.{nth_u32};
 ghost use Rattle.byte_fields.specs.Check.{Makes};
-ghost use Rattle.byte_io.specs.At.{Breaks, IfKnown, IfOf};
+ghost use Rattle.byte_io.specs.At.{IfKnown, IfOf, Reads};
 ghost use Rattle.msf_blocks.specs.Directory.{AreMapNumbers, HasContents, IsBlockMap, DirectoryRefuses, number_checks, directory_blocks};
-ghost use Rattle.msf_blocks.specs.Superblock.{HoldsBlocks, IsFit};
+ghost use Rattle.msf_superblock.specs.Superblock.{HoldsBlocks, IsFit};
 
-use crate::block_number::{blocks_for, is_ordinary};
 use crate::blocks::read_blocks;
-use crate::fault::MsfFault;
-use crate::superblock::Superblock;
 use crate::without_memory::fault_without_memory;
 use byte_fields::u32_at;
 use byte_io::{AtFault, ReadAt, ReadFault, read_more};
+use msf_superblock::{MsfFault, Superblock, blocks_for, is_ordinary};
 use std::alloc::{AllocError, Allocator};
 
 /// The first `count` numbers in these bytes. Each number has four bytes.
@@ -31,7 +29,7 @@ fn numbers_in<A: Allocator>(alloc: A, bytes: &[u8], count: u32) -> Result<Vec<u3
 }
 
 /// Reads the numbers in the block map, all at once.
-#[tactic(auto, using(crate::proofs::SizeLaws::size_facts))]
+#[tactic(auto, using(msf_superblock::proofs::SizeLaws::size_facts))]
 fn read_map<R: ReadAt, A: Allocator + Copy>(
     alloc: A,
     input: &mut R,
@@ -42,7 +40,7 @@ fn read_map<R: ReadAt, A: Allocator + Copy>(
     ensures len { IfOk result (λ v. length v.items ≡ directory_blocks superblock.now) }
     ensures given { IfOk result (λ v. AreMapNumbers (R.bytes input.old) superblock.now v.items) }
     ensures first { IfErr result (λ fault.
-        ((fault ≡ ReadFault.Read) × Breaks (R.bytes input.old) (R.is_broken input.new))
+        ((fault ≡ ReadFault.Read) × (R.is_broken input.new ≡ true))
         ⊎ (fault ≡ ReadFault.Memory)) }
 {
     let block_size = superblock.block_size();
@@ -76,11 +74,9 @@ fn read_numbers<R: ReadAt, A: Allocator + Copy>(
 ) -> Result<Vec<u32, A>, AtFault<MsfFault>>
     requires fit { IsFit superblock.now }
     requires whole { IfKnown (R.bytes input.old) (λ file. HoldsBlocks file superblock.now) }
-    ensures keeps { R.bytes input.new ≡ R.bytes input.old }
+    ensures reads { Reads R.bytes R.is_broken input.old input.new result }
     ensures map { IfOk result (λ v. IsBlockMap (R.bytes input.old) superblock.now v.items) }
     ensures refused { IfErr result (IfOf (DirectoryRefuses (R.bytes input.old) superblock.now)) }
-    ensures read { IfErr result (λ fault.
-        fault ≡ AtFault.Read → Breaks (R.bytes input.old) (R.is_broken input.new)) }
 {
     let numbers = match read_map(alloc, input, superblock) {
         Ok(numbers) => numbers,
@@ -105,12 +101,10 @@ pub fn read_contents<R: ReadAt, A: Allocator + Copy>(
 ) -> Result<Vec<u8, A>, AtFault<MsfFault>>
     requires fit { IsFit superblock.now }
     requires whole { IfKnown (R.bytes input.old) (λ file. HoldsBlocks file superblock.now) }
-    ensures keeps { R.bytes input.new ≡ R.bytes input.old }
+    ensures reads { Reads R.bytes R.is_broken input.old input.new result }
     ensures texts { IfOk result (λ contents.
         HasContents (R.bytes input.old) superblock.now contents.items) }
     ensures refused { IfErr result (IfOf (DirectoryRefuses (R.bytes input.old) superblock.now)) }
-    ensures read { IfErr result (λ fault.
-        fault ≡ AtFault.Read → Breaks (R.bytes input.old) (R.is_broken input.new)) }
 {
     let blocks = read_numbers(alloc, input, superblock)?;
     let size = superblock.directory_bytes();

@@ -1,17 +1,17 @@
 //! The free block maps: reads the one in force, and writes those of a file whose blocks are all in
 //! use.
 
-ghost use Rattle.std.specs.Prelude.{◌≡◌, ◌⊎◌, ◌<◌, ◌≤◌, ◌/◌, length, IfSome, IfNone};
-ghost use Rattle.byte_io.specs.At.{Breaks, IfKnown};
-ghost use Rattle.msf_blocks.specs.BlockNumber.{IsBlockSize};
+ghost use Rattle.std.specs.Prelude.{true, ◌≡◌, ◌⊎◌, ◌<◌, ◌≤◌, ◌/◌, length, IfSome, IfNone};
+ghost use Rattle.byte_io.specs.At.{IfKnown};
+ghost use Rattle.msf_superblock.specs.BlockNumber.{IsBlockSize};
 ghost use Rattle.msf_blocks.specs.FreeMap.{IsFreeCount, IsMapGiven, IsMapHeld, IsMark, bit_of, free_blocks, is_free, is_free_by, map_block_of, map_byte, map_block as full_map_block};
-ghost use Rattle.msf_blocks.specs.Superblock.{HoldsBlocks};
+ghost use Rattle.msf_superblock.specs.Superblock.{HoldsBlocks};
 
-use crate::superblock::Superblock;
 use byte_io::ReadAt;
+use msf_superblock::Superblock;
 
 /// The number of the map block with the bit of a block.
-#[tactic(auto, using(crate::proofs::SizeLaws::size_facts))]
+#[tactic(auto, using(msf_superblock::proofs::SizeLaws::size_facts))]
 fn map_block_of(superblock: &Superblock, block: u32) -> u64
     ensures { result ≡ map_block_of superblock.now block }
 {
@@ -32,7 +32,7 @@ fn is_set(map_block: &[u8], bit: u32) -> bool
 ///
 /// `None` where the file has no block `n`, or where the map block with its bit is past the end of
 /// the file. This does not allocate. ("The MSF File Format", "The Free Block Map".)
-#[tactic(auto, using(crate::proofs::SizeLaws::size_facts))]
+#[tactic(auto, using(msf_superblock::proofs::SizeLaws::size_facts))]
 pub fn free_bit(file: &[u8], superblock: &Superblock, n: u32) -> Option<bool>
     requires { HoldsBlocks file.now superblock.now }
     ensures value { IfSome result (λ free. free ≡ is_free file.now superblock.now n) }
@@ -71,7 +71,7 @@ pub fn free_blocks(file: &[u8], superblock: &Superblock) -> u32
 }
 
 /// Whether a block of the file is free, by the map block with its bit.
-#[tactic(auto, using(crate::proofs::SizeLaws::size_facts))]
+#[tactic(auto, using(msf_superblock::proofs::SizeLaws::size_facts))]
 fn is_free_by(map_block: &[u8], superblock: &Superblock, block: u32) -> bool
     requires { length map_block.now ≡ superblock.now.block_size }
     ensures value { result ≡ is_free_by map_block.now superblock.now block }
@@ -94,7 +94,7 @@ fn read_map<R: ReadAt>(
     ensures room { length map_block.new ≡ superblock.now.block_size }
     ensures given { IfSome result (λ _.
         IsMapGiven (R.bytes input.old) superblock.now block map_block.new) }
-    ensures read { IfNone result (Breaks (R.bytes input.old) (R.is_broken input.new)) }
+    ensures read { IfNone result (R.is_broken input.new ≡ true) }
 {
     let number = map_block_of(superblock, block);
     if number < u64::from(superblock.num_blocks()) {
@@ -105,7 +105,7 @@ fn read_map<R: ReadAt>(
 
 /// Makes `map_block` the map block with the bit of a block. A map block is read once, at the first
 /// block whose bit it has.
-#[tactic(auto, using(crate::proofs::SizeLaws::size_facts))]
+#[tactic(auto, using(msf_superblock::proofs::SizeLaws::size_facts))]
 fn turn_to<R: ReadAt>(
     input: &mut R,
     superblock: &Superblock,
@@ -119,7 +119,7 @@ fn turn_to<R: ReadAt>(
     ensures room { length map_block.new ≡ superblock.now.block_size }
     ensures given { IfSome result (λ _.
         IsMapGiven (R.bytes input.old) superblock.now block map_block.new) }
-    ensures read { IfNone result (Breaks (R.bytes input.old) (R.is_broken input.new)) }
+    ensures read { IfNone result (R.is_broken input.new ≡ true) }
 {
     if block % (8 * superblock.block_size()) == 0 {
         read_map(input, superblock, block, map_block)?;
@@ -143,7 +143,7 @@ fn is_free_at<R: ReadAt>(
     ensures listed { IfSome result (λ _. IsBlockSize superblock.now.block_size) }
     ensures given { IfSome result (λ _.
         IsMapGiven (R.bytes input.old) superblock.now block map_block.new) }
-    ensures read { IfNone result (Breaks (R.bytes input.old) (R.is_broken input.new)) }
+    ensures read { IfNone result (R.is_broken input.new ≡ true) }
 {
     turn_to(input, superblock, block, map_block)?;
     Some(is_free_by(map_block, superblock, block))
@@ -168,7 +168,7 @@ pub fn free_blocks_at<R: ReadAt>(
     // Even if the file's bytes are not known, these are the marks of map blocks that reads gave.
     ensures marks { IfSome result
         (IsFreeCount (R.bytes input.old) superblock.now superblock.now.num_blocks) }
-    ensures read { IfNone result (Breaks (R.bytes input.old) (R.is_broken input.new)) }
+    ensures read { IfNone result (R.is_broken input.new ≡ true) }
 {
     let mut free = 0;
     for block in 0..superblock.num_blocks() {
@@ -194,7 +194,7 @@ fn map_byte(num_blocks: u64, first: u64) -> u8
 /// `map_block` has as many bytes as a block. In map 1 the bits of blocks of the file are 0, and the
 /// others are 1. In map 2 all bits are 1. This does not allocate. ("The MSF File Format", "The Free
 /// Block Map".)
-#[tactic(auto, using(crate::proofs::SizeLaws::some_bytes), unfolding(crate::specs::FreeMap::map_block))]
+#[tactic(auto, using(msf_superblock::proofs::SizeLaws::some_bytes), unfolding(crate::specs::FreeMap::map_block))]
 pub fn fill_map_block(block_size: u32, num_blocks: u32, k: u32, map_block: &mut [u8])
     requires size { IsBlockSize block_size }
     requires long { length map_block.old ≡ block_size }

@@ -4,17 +4,17 @@ ghost use Rattle.std.specs.Prelude.{true, false, ◌≡◌, ◌≤◌, ◌<◌, 
 ghost use Rattle.byte_fields.specs.Bytes.{AreBytes};
 ghost use Rattle.byte_fields.specs.Number.{nth_u32};
 ghost use Rattle.byte_fields.specs.Check.{Refuses, first_failing};
-ghost use Rattle.byte_io.specs.At.{Breaks, IfKnown, IfOf, map_of};
-ghost use Rattle.msf_blocks.specs.Superblock.{HasFront, HoldsBlocks, IsFit};
+ghost use Rattle.byte_io.specs.At.{IfKnown, IfOf, Reads, map_of};
+ghost use Rattle.msf_superblock.specs.Superblock.{HasFront, HoldsBlocks, IsFit};
 ghost use Rattle.msf_blocks.specs.Directory.{list_start, listed_below, bytes_of};
 ghost use Rattle.msf_blocks.specs.Layout.{LayoutView, HasLayout, HasTexts, HasWithinFault, ListsLongStream, TextsRefuse, TextsRefuseWithin, IsLayout, block_of, layout_checks};
 ghost use Rattle.msf_blocks.specs.Stream.{listed_of};
 
 use crate::directory::{Directory, bytes_of};
 use crate::directory_at::read_contents;
-use crate::fault::{MsfFault, WithinFault};
-use crate::superblock::Superblock;
+use crate::fault::WithinFault;
 use byte_io::{AtFault, ReadAt};
+use msf_superblock::{MsfFault, Superblock};
 use std::alloc::{Allocator, Global};
 use std::marker::Model;
 
@@ -132,12 +132,10 @@ fn layout_behind<R: ReadAt, A: Allocator + Copy>(
     requires fit { IsFit superblock }
     requires whole { IfKnown (R.bytes input.old) (λ file. HoldsBlocks file superblock) }
     requires front { HasFront (R.bytes input.old) superblock }
-    ensures keeps { R.bytes input.new ≡ R.bytes input.old }
+    ensures reads { Reads R.bytes R.is_broken input.old input.new result }
     ensures superblock { IfOk result (λ layout. layout.superblock ≡ superblock) }
     ensures texts { IfOk result (HasTexts (R.bytes input.old)) }
     ensures refused { IfErr result (IfOf (TextsRefuse (R.bytes input.old))) }
-    ensures read { IfErr result (λ fault.
-        fault ≡ AtFault.Read → Breaks (R.bytes input.old) (R.is_broken input.new)) }
 {
     let contents = read_contents(alloc, input, &superblock)?;
     let directory = Directory::gathered(superblock, &contents);
@@ -155,12 +153,10 @@ fn layout_at<R: ReadAt, A: Allocator + Copy>(
     alloc: A,
     input: &mut R,
 ) -> Result<Layout<A>, AtFault<MsfFault>>
-    ensures keeps { R.bytes input.new ≡ R.bytes input.old }
+    ensures reads { Reads R.bytes R.is_broken input.old input.new result }
     ensures small { IfKnown (R.bytes input.old) AreBytes }
     ensures texts { IfOk result (HasTexts (R.bytes input.old)) }
     ensures refused { IfErr result (IfOf (TextsRefuse (R.bytes input.old))) }
-    ensures read { IfErr result (λ fault.
-        fault ≡ AtFault.Read → Breaks (R.bytes input.old) (R.is_broken input.new)) }
 {
     let superblock = Superblock::read_at(input)?;
     layout_behind(alloc, input, superblock)
@@ -174,7 +170,7 @@ impl<A: Allocator + Copy> Layout<A> {
     /// read fails. A file may change, so the directory is read once, and what was read is checked.
     /// ("The MSF File Format", "The Stream Directory".)
     pub fn read_at<R: ReadAt>(alloc: A, input: &mut R) -> Result<Layout<A>, AtFault<MsfFault>>
-        ensures keeps { R.bytes input.new ≡ R.bytes input.old }
+        ensures reads { Reads R.bytes R.is_broken input.old input.new result }
         ensures small { IfKnown (R.bytes input.old) AreBytes }
         ensures value { IfOk result (λ layout.
             IfKnown (R.bytes input.old) (λ file. HasLayout file layout)) }
@@ -186,8 +182,6 @@ impl<A: Allocator + Copy> Layout<A> {
             Refuses MsfFault.Memory (first_failing (layout_checks file)) fault))) }
         // Even if the file's bytes are not known, the fault is that of bytes that reads gave.
         ensures refused { IfErr result (IfOf (TextsRefuse (R.bytes input.old))) }
-        ensures read { IfErr result (λ fault.
-            fault ≡ AtFault.Read → Breaks (R.bytes input.old) (R.is_broken input.new)) }
     {
         layout_at(alloc, input)
     }
@@ -203,7 +197,7 @@ impl<A: Allocator + Copy> Layout<A> {
         input: &mut R,
         limit: u32,
     ) -> Result<Layout<A>, AtFault<WithinFault>>
-        ensures keeps { R.bytes input.new ≡ R.bytes input.old }
+        ensures reads { Reads R.bytes R.is_broken input.old input.new result }
         ensures small { IfKnown (R.bytes input.old) AreBytes }
         ensures value { IfOk result (λ layout.
             IfKnown (R.bytes input.old) (λ file. HasLayout file layout)) }
@@ -212,8 +206,6 @@ impl<A: Allocator + Copy> Layout<A> {
         ensures first { IfErr result (IfOf (λ fault.
             IfKnown (R.bytes input.old) (λ file. HasWithinFault limit file fault))) }
         ensures refused { IfErr result (IfOf (TextsRefuseWithin limit (R.bytes input.old))) }
-        ensures read { IfErr result (λ fault.
-            fault ≡ AtFault.Read → Breaks (R.bytes input.old) (R.is_broken input.new)) }
     {
         let superblock = match Superblock::read_at(input) {
             Ok(superblock) => superblock,

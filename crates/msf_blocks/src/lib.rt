@@ -1,22 +1,20 @@
-//! The blocks of an MSF container: its superblock, its stream directory and its free block maps.
+//! The streams of an MSF container: its stream directory and its free block maps.
 //!
 //! A container is a file that is cut into blocks. The superblock at its front gives the block map,
 //! the block map lists the blocks of the stream directory, and the directory lists each stream: its
 //! size in bytes and the numbers of its blocks ("The MSF File Format").
 //!
-//! - [`Superblock::read`] checks and reads the superblock.
-//! - [`Layout::read`] also checks and reads the stream directory. Each block number in a [`Layout`]
-//!   is the number of a block of the file, so the crates above need no check of their own.
-//! - [`Superblock::read_at`] and [`Layout::read_at`] do the same by position, and [`read_blocks`]
-//!   reads the bytes in a list of blocks. Of a file they read no more than they need.
-//!   [`Layout::read_within`] refuses a directory that is too long before it reads it.
-//! - [`BlockSize`] is a size that a block may have. [`is_block_size`] says which sizes these are,
-//!   and [`blocks_for`] how many blocks hold a number of bytes.
-//! - [`superblock_bytes`], [`block_map_bytes`], [`directory_bytes`] and [`fill_map_block`] write the
-//!   parts of an image that are not streams.
-//! - [`nth_block`] and [`is_map_block`] tell map blocks from other blocks. [`free_bit`] reads the
-//!   free block map in force, and [`free_blocks`] counts the blocks that it says are free, as
-//!   [`free_blocks_at`] does by position.
+//! - [`Layout::read`] checks and reads the superblock and the stream directory. Each block number in
+//!   a [`Layout`] is the number of a block of the file, so the crates above need no check of their
+//!   own.
+//! - [`Layout::read_at`] does the same by position, and [`read_blocks`] reads the bytes in a list of
+//!   blocks. Of a file they read no more than they need. [`Layout::read_within`] refuses a directory
+//!   that is too long before it reads it.
+//! - [`block_map_bytes`], [`directory_bytes`] and [`fill_map_block`] write the parts of an image that
+//!   are neither streams nor the superblock.
+//! - [`free_bit`] reads the free block map in force, and [`free_blocks`] counts the blocks that it
+//!   says are free, as [`free_blocks_at`] does by position.
+//! - [`Superblock`], [`BlockSize`] and what belongs to them are those of the crate `msf_superblock`.
 //! - [`Sink`], [`Source`] and what belongs to them are those of the crate `byte_io`.
 //! - [`laws`] says what holds of every container: a file has at most one layout, and what reads gave
 //!   of a file that is known is what the file has.
@@ -41,8 +39,6 @@
 //! ```
 #![tactic(auto)]
 
-mod block_number;
-mod block_size;
 mod blocks;
 mod directory;
 mod directory_at;
@@ -50,16 +46,16 @@ mod fault;
 mod free_map;
 pub mod laws;
 mod layout;
-mod superblock;
 mod window;
 mod without_memory;
 
-pub use block_number::{blocks_for, is_map_block, nth_block};
-pub use block_size::{BlockSize, is_block_size};
 pub use blocks::read_blocks;
 pub use byte_io::{In, NotTaken, Out, Sink, Source, put_all};
 pub use directory::{block_map_bytes, directory_bytes};
-pub use fault::{MsfFault, WithinFault};
+pub use fault::WithinFault;
 pub use free_map::{fill_map_block, free_bit, free_blocks, free_blocks_at};
 pub use layout::Layout;
-pub use superblock::{MAGIC, Superblock, superblock_bytes};
+pub use msf_superblock::{
+    BlockSize, MAGIC, MsfFault, Superblock, blocks_for, is_block_size, is_map_block, nth_block,
+    superblock_bytes,
+};

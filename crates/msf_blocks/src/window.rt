@@ -2,14 +2,14 @@
 
 ghost use Rattle.std.specs.Prelude.{◌≡◌, ◌+◌, ◌-◌, ◌*◌, ◌<◌, ◌≤◌, true, length, take, drop, IfSome, IfNone};
 ghost use Rattle.byte_fields.specs.Number.{number_at, four_bytes};
-ghost use Rattle.byte_io.specs.At.{Breaks, IfKnown};
+ghost use Rattle.byte_io.specs.At.{IfKnown};
 ghost use Rattle.msf_blocks.specs.Directory.{IsDirectoryNumber, IsNumberGiven, IsReadable, directory_blocks, map_number, map_start};
-ghost use Rattle.msf_blocks.specs.Superblock.{HoldsBlocks};
+ghost use Rattle.msf_superblock.specs.Superblock.{HoldsBlocks};
 ghost use Rattle.msf_blocks.specs.Window.{IsWindow, Shows, shown};
 
-use crate::superblock::Superblock;
 use byte_fields::u32_at;
 use byte_io::ReadAt;
+use msf_superblock::Superblock;
 
 /// How many numbers a window has. Two windows and their heads have 4 KB.
 const WINDOW: usize = 510;
@@ -21,7 +21,7 @@ fn read_number<R: ReadAt>(input: &mut R, offset: u64) -> Option<u32>
     ensures value { IfSome result (λ n.
         IfKnown (R.bytes input.old) (λ file. n ≡ number_at 4 file offset)) }
     ensures given { IfSome result (IsNumberGiven (R.bytes input.old) offset) }
-    ensures refuses { IfNone result (Breaks (R.bytes input.old) (R.is_broken input.new)) }
+    ensures refuses { IfNone result (R.is_broken input.new ≡ true) }
 {
     let mut bytes = [0u8; 4];
     input.read_at(offset, &mut bytes)?;
@@ -42,7 +42,7 @@ pub fn read_map_number<R: ReadAt>(
         IfKnown (R.bytes input.old) (λ file. n ≡ map_number file superblock.now position)) }
     ensures given { IfSome result
         (IsNumberGiven (R.bytes input.old) (map_start superblock.now + 4 * position)) }
-    ensures refuses { IfNone result (Breaks (R.bytes input.old) (R.is_broken input.new)) }
+    ensures refuses { IfNone result (R.is_broken input.new ≡ true) }
 {
     let start = u64::from(superblock.block_map_addr()) * u64::from(superblock.block_size());
     read_number(input, start + 4 * u64::from(position))
@@ -112,7 +112,7 @@ impl Window {
         ensures keeps { R.bytes input.new ≡ R.bytes input.old }
         ensures window { IsWindow (R.bytes input.old) superblock.now self.new }
         ensures shows { IfSome result (λ _. Shows self.new position) }
-        ensures refuses { IfNone result (Breaks (R.bytes input.old) (R.is_broken input.new)) }
+        ensures refuses { IfNone result (R.is_broken input.new ≡ true) }
     {
         self.count = 0;
         let block_size = superblock.block_size();
@@ -141,7 +141,7 @@ pub fn read_directory_number<R: ReadAt>(
     ensures keeps { R.bytes input.new ≡ R.bytes input.old }
     ensures window { IsWindow (R.bytes input.old) superblock.now window.new }
     ensures given { IfSome result (IsDirectoryNumber (R.bytes input.old) superblock.now position) }
-    ensures refuses { IfNone result (Breaks (R.bytes input.old) (R.is_broken input.new)) }
+    ensures refuses { IfNone result (R.is_broken input.new ≡ true) }
 {
     if !window.shows(position) {
         window.open(input, superblock, position)?;

@@ -1,27 +1,23 @@
 //! The checks of a directory for which memory was refused. They are made all the same, through two
 //! windows on the stack: one on the sizes of the streams, one on their lists of blocks.
 
-ghost use Rattle.std.specs.Prelude.{Some, ◌≡◌, ◌+◌, ◌*◌, ◌<◌, ◌≤◌, ◌^◌, map, OnOk, IfOk, IfErr, IfSome, IfNone};
-ghost use Rattle.byte_io.specs.At.{Breaks, IfKnown, IfOf};
+ghost use Rattle.std.specs.Prelude.{true, Some, ◌≡◌, ◌+◌, ◌*◌, ◌<◌, ◌≤◌, ◌^◌, map, OnOk, IfOk, IfErr, IfSome, IfNone};
+ghost use Rattle.byte_io.specs.At.{IfKnown, IfOf, Reads};
 ghost use Rattle.msf_blocks.specs.Directory.{IsDirectoryNumber, IsReadable, HasSize, HasSizes, HasRoom, LacksRoom, HasBlocks, HasLists, HasBlockMap, BlockMapRefuses, ListRefuses, ContentsRefuse, DirectoryRefuses};
-ghost use Rattle.msf_blocks.specs.Superblock.{HoldsBlocks, IsFit};
+ghost use Rattle.msf_superblock.specs.Superblock.{HoldsBlocks, IsFit};
 ghost use Rattle.msf_blocks.specs.Window.{IsWindow};
 
-use crate::block_number::{blocks_for, is_ordinary};
 use crate::directory::bytes_of;
-use crate::fault::MsfFault;
-use crate::superblock::Superblock;
 use crate::window::{Window, read_directory_number, read_map_number};
 use byte_io::{AtFault, ReadAt};
+use msf_superblock::{MsfFault, Superblock, blocks_for, is_ordinary};
 
 /// Checks the numbers in the block map.
 fn check_map<R: ReadAt>(input: &mut R, superblock: &Superblock) -> Result<(), AtFault<MsfFault>>
     requires whole { IfKnown (R.bytes input.old) (λ file. HoldsBlocks file superblock.now) }
-    ensures keeps { R.bytes input.new ≡ R.bytes input.old }
+    ensures reads { Reads R.bytes R.is_broken input.old input.new result }
     ensures map { OnOk result (HasBlockMap (R.bytes input.old) superblock.now) }
     ensures refused { IfErr result (IfOf (BlockMapRefuses (R.bytes input.old) superblock.now)) }
-    ensures read { IfErr result (λ fault.
-        fault ≡ AtFault.Read → Breaks (R.bytes input.old) (R.is_broken input.new)) }
 {
     for at in 0..blocks_for(superblock.block_size(), superblock.directory_bytes()) {
         let Some(n) = read_map_number(input, superblock, at) else {
@@ -48,7 +44,7 @@ fn read_stream_blocks<R: ReadAt>(
     ensures window { IsWindow (R.bytes input.old) superblock.now sizes.new }
     ensures few { IfSome result (λ n. n ≤ 2 ^ 23) }
     ensures size { IfSome result (HasSize (R.bytes input.old) superblock.now stream) }
-    ensures refuses { IfNone result (Breaks (R.bytes input.old) (R.is_broken input.new)) }
+    ensures refuses { IfNone result (R.is_broken input.new ≡ true) }
 {
     let block_size = superblock.block_size();
     let size = read_directory_number(input, superblock, sizes, 1 + stream)?;
@@ -74,7 +70,7 @@ fn read_lists_end<R: ReadAt>(
     ensures window { IsWindow (R.bytes input.old) superblock.now sizes.new }
     ensures few { IfSome result (λ n. n < 2 ^ 60) }
     ensures sizes { IfSome result (HasSizes (R.bytes input.old) superblock.now from streams start) }
-    ensures refuses { IfNone result (Breaks (R.bytes input.old) (R.is_broken input.new)) }
+    ensures refuses { IfNone result (R.is_broken input.new ≡ true) }
 {
     let mut end = start;
     for stream in from..streams {
@@ -98,13 +94,11 @@ fn check_end<R: ReadAt>(
     requires upto { from ≤ streams }
     requires short { start ≤ 2 ^ 33 }
     requires window { IsWindow (R.bytes input.old) superblock.now sizes.old }
-    ensures keeps { R.bytes input.new ≡ R.bytes input.old }
+    ensures reads { Reads R.bytes R.is_broken input.old input.new result }
     ensures window { IsWindow (R.bytes input.old) superblock.now sizes.new }
     ensures room { OnOk result (HasRoom (R.bytes input.old) superblock.now from streams start) }
     ensures refused { IfErr result
         (IfOf (LacksRoom (R.bytes input.old) superblock.now from streams start)) }
-    ensures read { IfErr result (λ fault.
-        fault ≡ AtFault.Read → Breaks (R.bytes input.old) (R.is_broken input.new)) }
 {
     let Some(end) = read_lists_end(input, superblock, sizes, from, start, streams) else {
         return Err(AtFault::Read);
@@ -127,14 +121,12 @@ fn check_length<R: ReadAt>(
 ) -> Result<u32, AtFault<MsfFault>>
     requires readable { IfKnown (R.bytes input.old) (λ file. IsReadable file superblock.now) }
     requires window { IsWindow (R.bytes input.old) superblock.now sizes.old }
-    ensures keeps { R.bytes input.new ≡ R.bytes input.old }
+    ensures reads { Reads R.bytes R.is_broken input.old input.new result }
     ensures window { IsWindow (R.bytes input.old) superblock.now sizes.new }
     ensures few { IfOk result (λ n. 4 * (1 + n) ≤ superblock.now.directory_bytes) }
     ensures short { IfOk result (λ n. 4 * (1 + n) < 2 ^ 32) }
     ensures given { IfOk result (IsDirectoryNumber (R.bytes input.old) superblock.now 0) }
     ensures refused { IfErr result (IfOf (ContentsRefuse (R.bytes input.old) superblock.now)) }
-    ensures read { IfErr result (λ fault.
-        fault ≡ AtFault.Read → Breaks (R.bytes input.old) (R.is_broken input.new)) }
 {
     let have = u64::from(superblock.directory_bytes());
     if have < 4 {
@@ -163,7 +155,7 @@ fn check_stream<R: ReadAt>(
 ) -> Result<(), AtFault<MsfFault>>
     requires readable { IfKnown (R.bytes input.old) (λ file. IsReadable file superblock.now) }
     requires window { IsWindow (R.bytes input.old) superblock.now lists.old }
-    ensures keeps { R.bytes input.new ≡ R.bytes input.old }
+    ensures reads { Reads R.bytes R.is_broken input.old input.new result }
     ensures window { IsWindow (R.bytes input.old) superblock.now lists.new }
     ensures room { OnOk result (4 * (start + count) ≤ superblock.now.directory_bytes) }
     ensures short { OnOk result (4 * (start + count) < 2 ^ 32) }
@@ -171,8 +163,6 @@ fn check_stream<R: ReadAt>(
         (HasBlocks (R.bytes input.old) superblock.now start (start + count)) }
     ensures refused { IfErr result
         (IfOf (ListRefuses (R.bytes input.old) superblock.now stream start count)) }
-    ensures read { IfErr result (λ fault.
-        fault ≡ AtFault.Read → Breaks (R.bytes input.old) (R.is_broken input.new)) }
 {
     let have = u64::from(superblock.directory_bytes());
     // A file that changes may list more blocks now than when its length was checked.
@@ -210,14 +200,12 @@ fn check_list<R: ReadAt>(
     requires lists { HasLists (R.bytes input.old) superblock.now streams stream start }
     requires on_sizes { IsWindow (R.bytes input.old) superblock.now sizes.old }
     requires on_lists { IsWindow (R.bytes input.old) superblock.now lists.old }
-    ensures keeps { R.bytes input.new ≡ R.bytes input.old }
+    ensures reads { Reads R.bytes R.is_broken input.old input.new result }
     ensures on_sizes { IsWindow (R.bytes input.old) superblock.now sizes.new }
     ensures on_lists { IsWindow (R.bytes input.old) superblock.now lists.new }
     ensures fits { IfOk result (λ end. 4 * end ≤ superblock.now.directory_bytes) }
     ensures lists { IfOk result (HasLists (R.bytes input.old) superblock.now streams (stream + 1)) }
     ensures refused { IfErr result (IfOf (ContentsRefuse (R.bytes input.old) superblock.now)) }
-    ensures read { IfErr result (λ fault.
-        fault ≡ AtFault.Read → Breaks (R.bytes input.old) (R.is_broken input.new)) }
 {
     let Some(count) = read_stream_blocks(input, superblock, sizes, stream) else {
         return Err(AtFault::Read);
@@ -247,14 +235,12 @@ fn check_streams<R: ReadAt>(
     requires given { IsDirectoryNumber (R.bytes input.old) superblock.now 0 streams }
     requires on_sizes { IsWindow (R.bytes input.old) superblock.now sizes.old }
     requires on_lists { IsWindow (R.bytes input.old) superblock.now lists.old }
-    ensures keeps { R.bytes input.new ≡ R.bytes input.old }
+    ensures reads { Reads R.bytes R.is_broken input.old input.new result }
     ensures on_sizes { IsWindow (R.bytes input.old) superblock.now sizes.new }
     ensures on_lists { IsWindow (R.bytes input.old) superblock.now lists.new }
     ensures sound { OnOk result
         (ContentsRefuse (R.bytes input.old) superblock.now MsfFault.Memory) }
     ensures refused { IfErr result (IfOf (ContentsRefuse (R.bytes input.old) superblock.now)) }
-    ensures read { IfErr result (λ fault.
-        fault ≡ AtFault.Read → Breaks (R.bytes input.old) (R.is_broken input.new)) }
 {
     let mut start = 1 + streams;
     for stream in 0..streams {
@@ -269,12 +255,10 @@ fn check_directory<R: ReadAt>(
     superblock: &Superblock,
 ) -> Result<(), AtFault<MsfFault>>
     requires readable { IfKnown (R.bytes input.old) (λ file. IsReadable file superblock.now) }
-    ensures keeps { R.bytes input.new ≡ R.bytes input.old }
+    ensures reads { Reads R.bytes R.is_broken input.old input.new result }
     ensures sound { OnOk result
         (ContentsRefuse (R.bytes input.old) superblock.now MsfFault.Memory) }
     ensures refused { IfErr result (IfOf (ContentsRefuse (R.bytes input.old) superblock.now)) }
-    ensures read { IfErr result (λ fault.
-        fault ≡ AtFault.Read → Breaks (R.bytes input.old) (R.is_broken input.new)) }
 {
     let mut sizes = Window::shut();
     let mut lists = Window::shut();
@@ -292,7 +276,7 @@ pub fn fault_without_memory<R: ReadAt>(input: &mut R, superblock: &Superblock) -
     requires whole { IfKnown (R.bytes input.old) (λ file. HoldsBlocks file superblock.now) }
     ensures keeps { R.bytes input.new ≡ R.bytes input.old }
     ensures refused { IfOf (DirectoryRefuses (R.bytes input.old) superblock.now) result }
-    ensures read { result ≡ AtFault.Read → Breaks (R.bytes input.old) (R.is_broken input.new) }
+    ensures read { result ≡ AtFault.Read → R.is_broken input.new ≡ true }
 {
     if let Err(fault) = check_map(input, superblock) {
         return fault;

@@ -6,14 +6,14 @@ use Rattle.std.proofs.lemmas.List.Elements.{All-get_or}
 use Rattle.std.proofs.lemmas.List.FromFn.{length-map-range_with_len}
 use Rattle.std.proofs.lemmas.Option.{slice_get_within, slice_get-get_or}
 use Rattle.byte_io.specs.At.{AreGiven, Bytes, stable}
-use Rattle.msf_blocks.specs.BlockNumber.{IsOrdinary, blocks_for}
+use Rattle.msf_superblock.specs.BlockNumber.{IsOrdinary, blocks_for}
 use Rattle.msf_blocks.specs.Blocks.{AreGivenIn, AreInside, in_blocks}
 use Rattle.msf_blocks.specs.Layout.{LayoutView, HasLayout, IsLayout, block_of}
 use Rattle.msf_blocks.specs.Directory.{Listed, IsListed, bytes_of}
-use Rattle.msf_blocks.specs.Superblock.{HoldsBlocks}
+use Rattle.msf_superblock.specs.Superblock.{HoldsBlocks}
 use Rattle.msf_streams.specs.Streams.{AreConsecutive, WasRead, blocks_in, listed_contents, stream_contents}
 use Rattle.msf_blocks.proofs.KnownLaws.{blocks_given, blocks_known}
-use Rattle.msf_blocks.proofs.SizeLaws.{ceil_ge, place_below, some_bytes}
+use Rattle.msf_superblock.proofs.SizeLaws.{ceil_ge, place_below, some_bytes}
 use Rattle.msf_streams.proofs.LentLaws.{IsSized, is_sized}
 
 -- the blocks of a stream, and what is in them

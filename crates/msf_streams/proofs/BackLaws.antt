@@ -11,14 +11,14 @@ use Rattle.std.proofs.lemmas.List.Sums.{sum_by-cons, sum_by-append}
 use Rattle.std.proofs.lemmas.List.Elements.{All-nil, All-cons, All-head, All-tail, All-from_get_or}
 use Rattle.byte_fields.specs.Number.{number_at, nth_u32, u32s}
 use Rattle.byte_fields.proofs.NumberLaws.{nth_u32-u32s, length-u32s}
-use Rattle.msf_blocks.specs.BlockNumber.{IsBlockSize, IsOrdinary, blocks_for, nth_block}
-use Rattle.msf_blocks.specs.Superblock.{Fields, IsSuperblock, magic}
+use Rattle.msf_superblock.specs.BlockNumber.{IsBlockSize, IsOrdinary, blocks_for, nth_block}
+use Rattle.msf_superblock.specs.Superblock.{Fields, IsSuperblock, magic}
 use Rattle.msf_blocks.specs.Directory.{IsListed, IsDirectory, directory_contents, map_number, bytes_of}
-use Rattle.msf_blocks.proofs.BlockLaws.{nth_zero, nth_ge}
-use Rattle.msf_blocks.proofs.SizeLaws.{size_facts, big_enough, next_row, ceil_ge, place_below}
+use Rattle.msf_superblock.proofs.BlockLaws.{nth_zero, nth_ge}
+use Rattle.msf_superblock.proofs.SizeLaws.{size_facts, big_enough, next_row, ceil_ge, place_below}
 use Rattle.msf_streams.specs.Streams.{listed_contents}
 use Rattle.msf_blocks.specs.Blocks.{in_blocks}
-use Rattle.msf_blocks.specs.BlockNumber.{block_numbers}
+use Rattle.msf_superblock.specs.BlockNumber.{block_numbers}
 use Rattle.msf_streams.specs.Image.{padded, laid_out, superblock_numbers, listed_from, blocks_of_all, directory_len, directory_count, data_count, image_blocks, superblock_part, block_map_part, directory_part, parts, image, Fits, image_fields, ReadsBack}
 use Rattle.msf_blocks.proofs.RangeLaws.{map-range_with_len_parts, map-same_ranges}
 use Rattle.msf_streams.proofs.PieceLaws.{in_blocks_first, at_most_one_for}

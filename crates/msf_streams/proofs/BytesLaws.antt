@@ -8,14 +8,14 @@ use Rattle.std.proofs.lemmas.Bool.Decides.{nat_tests}
 use Rattle.byte_fields.specs.Bytes.{AreBytes}
 use Rattle.byte_fields.proofs.BytesLaws.{bytes_append, bytes_take, bytes_drop, u32s_are_bytes}
 use Rattle.byte_fields.specs.Number.{u32s}
-use Rattle.msf_blocks.specs.BlockNumber.{is_map_block, blocks_for, data_blocks}
-use Rattle.msf_blocks.specs.Superblock.{magic}
+use Rattle.msf_superblock.specs.BlockNumber.{is_map_block, blocks_for, data_blocks}
+use Rattle.msf_superblock.specs.Superblock.{magic}
 use Rattle.msf_blocks.specs.Directory.{Listed, bytes_of}
 use Rattle.msf_blocks.specs.Layout.{LayoutView}
 use Rattle.msf_streams.specs.Streams.{listed_contents, stream_contents}
 use Rattle.msf_blocks.specs.Blocks.{in_blocks}
 use Rattle.msf_blocks.specs.FreeMap.{map_byte, map_block}
-use Rattle.msf_blocks.specs.BlockNumber.{block_numbers}
+use Rattle.msf_superblock.specs.BlockNumber.{block_numbers}
 use Rattle.msf_streams.specs.Image.{padded, data_block, image_block, laid_out, superblock_numbers, superblock_part, block_map_part, directory_part, directory_count, blocks_of_all, parts, image, image_blocks}
 use lib.ListN.{replicate}
 

@@ -1,9 +1,9 @@
 -- Which streams fit in a file.
 use Rattle.std.proofs.Common.{◌≡◌, ℕ, ◌+◌, ◌-◌, ◌*◌, ◌/◌, ◌<◌, ◌≤◌, refl, ap, ◌∙◌, arith}
 use Rattle.std.proofs.lemmas.Nat.{mul-le, div_below}
-use Rattle.msf_blocks.specs.BlockNumber.{IsBlockSize, blocks_for, nth_block}
-use Rattle.msf_blocks.proofs.SizeLaws.{size_facts, some_bytes, big_enough}
-use Rattle.msf_blocks.proofs.BlockLaws.{nth_few}
+use Rattle.msf_superblock.specs.BlockNumber.{IsBlockSize, blocks_for, nth_block}
+use Rattle.msf_superblock.proofs.SizeLaws.{size_facts, some_bytes, big_enough}
+use Rattle.msf_superblock.proofs.BlockLaws.{nth_few}
 use Rattle.msf_streams.specs.Image.{blocks_of_all, directory_len, directory_count, data_count}
 use Rattle.msf_streams.specs.Laws.{FewBlocksFit}
 

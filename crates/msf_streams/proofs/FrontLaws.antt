@@ -5,9 +5,9 @@ use Rattle.std.proofs.lemmas.List.Elements.{All-push, All-map, All-get_or}
 use lib.ListN.{set}
 use Rattle.std.proofs.lemmas.List.{take_more, take_more_set, take_all, map-append, length-map, get_or-map}
 use Rattle.byte_fields.specs.Number.{u32s}
-use Rattle.msf_blocks.specs.BlockNumber.{blocks_for, nth_block}
-use Rattle.msf_blocks.specs.Superblock.{magic}
-use Rattle.msf_blocks.specs.BlockNumber.{block_numbers}
+use Rattle.msf_superblock.specs.BlockNumber.{blocks_for, nth_block}
+use Rattle.msf_superblock.specs.Superblock.{magic}
+use Rattle.msf_superblock.specs.BlockNumber.{block_numbers}
 use Rattle.msf_streams.specs.Image.{blocks_of_all, directory_len, directory_count, image_blocks, superblock_part, block_map_part, directory_part}
 use Rattle.msf_streams.proofs.ImageLaws.{five_streams}
 

@@ -7,9 +7,9 @@ use Rattle.std.proofs.lemmas.List.{get_or-take, get_or-drop, get_or_append_left,
 use Rattle.std.proofs.lemmas.List.FromFn.{length-map-range_with_len, get_or-map-range_with_len}
 use Rattle.std.proofs.lemmas.List.Concat.{flat_map-append}
 use Rattle.std.proofs.lemmas.List.Sums.{sum_by-cons, sum_by-append}
-use Rattle.msf_blocks.specs.BlockNumber.{IsBlockSize, blocks_for, is_map_block, nth_block, data_blocks}
-use Rattle.msf_blocks.proofs.BlockLaws.{rank_is, nth_is_data, nth_onto, nth_monotone, nth_few}
-use Rattle.msf_blocks.proofs.SizeLaws.{size_facts, big_enough, ceil_ge, place_below}
+use Rattle.msf_superblock.specs.BlockNumber.{IsBlockSize, blocks_for, is_map_block, nth_block, data_blocks}
+use Rattle.msf_superblock.proofs.BlockLaws.{rank_is, nth_is_data, nth_onto, nth_monotone, nth_few}
+use Rattle.msf_superblock.proofs.SizeLaws.{size_facts, big_enough, ceil_ge, place_below}
 use Rattle.msf_blocks.specs.Blocks.{in_blocks}
 use Rattle.msf_blocks.specs.FreeMap.{map_block, map_byte}
 use Rattle.msf_streams.specs.Image.{padded, data_block, image_block, laid_out, blocks_of_all, directory_len, directory_count, data_count}

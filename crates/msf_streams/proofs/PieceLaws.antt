@@ -8,9 +8,9 @@ use Rattle.std.proofs.lemmas.Bool.{cases_lt}
 use Rattle.std.proofs.lemmas.Bool.Decides.{nat_tests}
 use Rattle.std.proofs.lemmas.List.{append-nil, drop_more, drop_all, nil_from_length, length-take, length-drop}
 use Rattle.std.proofs.lemmas.List.Elements.{All-head, All-tail, All-get_or, All-from_get_or}
-use Rattle.msf_blocks.specs.BlockNumber.{IsBlockSize, IsOrdinary, blocks_for}
-use Rattle.msf_blocks.proofs.SizeLaws.{size_facts, some_bytes, few_for}
-use Rattle.msf_blocks.specs.Superblock.{HoldsBlocks, Fields}
+use Rattle.msf_superblock.specs.BlockNumber.{IsBlockSize, IsOrdinary, blocks_for}
+use Rattle.msf_superblock.proofs.SizeLaws.{size_facts, some_bytes, few_for}
+use Rattle.msf_superblock.specs.Superblock.{HoldsBlocks, Fields}
 use Rattle.msf_blocks.specs.Directory.{Listed, IsListed, bytes_of}
 use Rattle.msf_blocks.specs.Layout.{LayoutView, IsLayout, block_in, block_of}
 use Rattle.msf_streams.specs.Streams.{FirstIsLong, pieces, blocks_in, pieces_from, stream_pieces, stream_contents}

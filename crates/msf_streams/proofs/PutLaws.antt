@@ -9,8 +9,8 @@ use Rattle.std.proofs.Math.Seq.{take-append-add}
 use Rattle.std.proofs.lemmas.Nat.{div-add-mod', mod_below, mul-le}
 use Rattle.std.proofs.lemmas.Bool.{cases_lt}
 use Rattle.std.proofs.lemmas.List.{append-nil, length-append, length-take, length-drop, take-append-drop, take_rest, take-append-le, drop_more, take_more, drop_all}
-use Rattle.msf_blocks.specs.BlockNumber.{IsBlockSize, blocks_for}
-use Rattle.msf_blocks.proofs.SizeLaws.{size_facts, some_bytes, big_enough, next_row, ceil_is}
+use Rattle.msf_superblock.specs.BlockNumber.{IsBlockSize, blocks_for}
+use Rattle.msf_superblock.proofs.SizeLaws.{size_facts, some_bytes, big_enough, next_row, ceil_is}
 use Rattle.msf_streams.specs.Image.{joined, padded, superblock_part, block_map_part, directory_part, parts, image, image_blocks, data_count}
 use Rattle.msf_streams.specs.Put.{WriterView, IsSameImage, maps_before, woven, woven_from, room, AppendsPart, IsImageFront}
 use Rattle.msf_blocks.proofs.RangeLaws.{next_block, first_block}

@@ -6,9 +6,9 @@ use Rattle.std.proofs.lemmas.Bool.{cases_lt}
 use Rattle.std.proofs.lemmas.Bool.Decides.{nat_tests}
 use Rattle.std.proofs.lemmas.List.{append-nil, length-take, length-drop, take-append-drop, take-take, drop-take, take_all}
 use Rattle.std.proofs.lemmas.List.Concat.{flat_map-append}
-use Rattle.msf_blocks.specs.BlockNumber.{IsBlockSize, is_map_block, nth_block}
-use Rattle.msf_blocks.proofs.SizeLaws.{size_facts, big_enough}
-use Rattle.msf_blocks.proofs.BlockLaws.{nth_first, nth_other, nth_zero, nth_is_data, map_at, rank_is, range_more}
+use Rattle.msf_superblock.specs.BlockNumber.{IsBlockSize, is_map_block, nth_block}
+use Rattle.msf_superblock.proofs.SizeLaws.{size_facts, big_enough}
+use Rattle.msf_superblock.proofs.BlockLaws.{nth_first, nth_other, nth_zero, nth_is_data, map_at, rank_is, range_more}
 use Rattle.msf_blocks.specs.FreeMap.{map_block}
 use Rattle.msf_streams.specs.Image.{padded, data_block, image_block, laid_out, parts, image, image_blocks, data_count, Fits}
 use Rattle.msf_streams.specs.Put.{stretch, follows_maps, maps_of, maps_before, woven, room}

@@ -3,9 +3,9 @@
 use Rattle.std.specs.Prelude.{ℕ, ◌≡◌, ◌+◌, ◌-◌, ◌*◌, ◌/◌, ◌^◌, ◌<◌, ◌≤◌, if◌then◌else◌, All, List, [], ◌∷◌, ◌++◌, length, map, take, drop, slice_get}
 use Rattle.std.specs.List.{range_with_len, flat_map, sum_by}
 use Rattle.byte_fields.specs.Number.{u32s}
-use Rattle.msf_blocks.specs.BlockNumber.{blocks_for, is_map_block, nth_block, data_blocks, block_numbers}
+use Rattle.msf_superblock.specs.BlockNumber.{blocks_for, is_map_block, nth_block, data_blocks, block_numbers}
 use Rattle.msf_blocks.specs.FreeMap.{map_block}
-use Rattle.msf_blocks.specs.Superblock.{Fields, magic}
+use Rattle.msf_superblock.specs.Superblock.{Fields, magic}
 use Rattle.msf_blocks.specs.Directory.{Listed}
 use Rattle.msf_blocks.specs.Layout.{LayoutView, HasLayout}
 use Rattle.msf_streams.specs.Streams.{stream_contents}

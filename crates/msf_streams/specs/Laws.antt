@@ -3,7 +3,7 @@ use Rattle.std.specs.Prelude.{ℕ, ◌≡◌, ◌↔◌, ◌+◌, ◌*◌, ◌�
 use Rattle.std.specs.List.{AllByRecursion}
 use Rattle.byte_fields.specs.Bytes.{AreBytes}
 use Rattle.byte_io.specs.At.{stable}
-use Rattle.msf_blocks.specs.BlockNumber.{IsBlockSize}
+use Rattle.msf_superblock.specs.BlockNumber.{IsBlockSize}
 use Rattle.msf_blocks.specs.Layout.{LayoutView, HasLayout}
 use Rattle.msf_streams.specs.Image.{Fits, ReadsBack, blocks_of_all, image}
 use Rattle.msf_streams.specs.Streams.{WasRead, stream_contents}

@@ -1,7 +1,7 @@
 -- An image during writing: the data, with the map blocks between its bytes.
 use Rattle.std.specs.Prelude.{ℕ, ◌≡◌, ◌+◌, ◌-◌, ◌*◌, ◌/◌, ◌%◌, ◌<◌, ◌==◌, ◌&&◌, nat_le, nat_lt, if◌then◌else◌, Bool, List, [], ◌∷◌, ◌++◌, Option, length, take}
 use Rattle.std.specs.Io.KnownBytes.{Appends}
-use Rattle.msf_blocks.specs.BlockNumber.{IsBlockSize}
+use Rattle.msf_superblock.specs.BlockNumber.{IsBlockSize}
 use Rattle.msf_blocks.specs.FreeMap.{map_block}
 use Rattle.msf_streams.specs.Image.{Fits, image_blocks, superblock_part, block_map_part, directory_part}
 

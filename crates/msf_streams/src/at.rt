@@ -4,7 +4,7 @@ ghost use Rattle.std.specs.Prelude.{IsTrue, ◌≡◌, ◌↔◌, ◌⊎◌, ◌
 ghost use Rattle.byte_io.specs.At.{IfKnown, IfOf, Reads};
 ghost use Rattle.msf_blocks.specs.Directory.{bytes_of};
 ghost use Rattle.msf_blocks.specs.Layout.{HasLayout, IsLayout, block_of};
-ghost use Rattle.msf_blocks.specs.Superblock.{HoldsBlocks};
+ghost use Rattle.msf_superblock.specs.Superblock.{HoldsBlocks};
 ghost use Rattle.msf_streams.specs.Streams.{AreConsecutive, WasRead, blocks_in, stream_contents};
 
 use crate::fault::StreamFault;

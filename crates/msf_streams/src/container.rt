@@ -1,7 +1,7 @@
 //! A file with its layout.
 
 ghost use Rattle.std.specs.Prelude.{◌≡◌};
-ghost use Rattle.msf_blocks.specs.Superblock.{HoldsBlocks};
+ghost use Rattle.msf_superblock.specs.Superblock.{HoldsBlocks};
 
 use msf_blocks::Layout;
 use std::alloc::{Allocator, Global};
@@ -17,7 +17,7 @@ pub struct Container<'f, 'l, A: Allocator = Global> {
 }
 
 impl<'f, 'l, A: Allocator> Model for Container<'f, 'l, A> {
-    ghost use Rattle.msf_blocks.specs.Superblock.{HoldsBlocks};
+    ghost use Rattle.msf_superblock.specs.Superblock.{HoldsBlocks};
     ghost use Rattle.msf_streams.specs.Container.{ContainerView};
 
     ghost Value = { ContainerView };

@@ -1,7 +1,7 @@
 //! The length of an image.
 
 ghost use Rattle.std.specs.Prelude.{◌≡◌, ◌+◌, ◌*◌, ◌/◌, ◌^◌, ◌<◌, ◌≤◌, IfSome, IfNone};
-ghost use Rattle.msf_blocks.specs.BlockNumber.{IsBlockSize, blocks_for};
+ghost use Rattle.msf_superblock.specs.BlockNumber.{IsBlockSize, blocks_for};
 ghost use Rattle.msf_streams.specs.Image.{Fits, blocks_of_all, directory_count, image_blocks, image_length};
 
 use msf_blocks::BlockSize;

@@ -9,7 +9,7 @@ ghost use Rattle.std.specs.Prelude.{◌≡◌, ◌<◌, ◌≤◌, ◌^◌, ◌+
 ghost use Rattle.std.specs.List.{flat_map};
 ghost use lib.ListN.{replicate};
 ghost use Rattle.std.specs.Io.KnownBytes.{Appends};
-ghost use Rattle.msf_blocks.specs.BlockNumber.{blocks_for};
+ghost use Rattle.msf_superblock.specs.BlockNumber.{blocks_for};
 ghost use Rattle.msf_blocks.specs.FreeMap.{map_block};
 ghost use Rattle.msf_streams.specs.Image.{padded, joined, joined_of};
 ghost use Rattle.msf_streams.specs.Put.{WriterView, IsSameImage, stretch, maps_of, maps_before, woven_from, room, AppendsPart};
@@ -21,7 +21,7 @@ use std::marker::Model;
 
 /// The length of a stretch: how many bytes of data are between the map blocks of one interval and
 /// the map blocks of the next.
-#[tactic(auto, using(msf_blocks::proofs::SizeLaws::big_enough, crate::proofs::WovenLaws::stretch_long), unfolding(crate::specs::Put::stretch))]
+#[tactic(auto, using(msf_superblock::proofs::SizeLaws::big_enough, crate::proofs::WovenLaws::stretch_long), unfolding(crate::specs::Put::stretch))]
 fn stretch(block_size: BlockSize) -> usize
     ensures value { result ≡ stretch block_size }
     ensures long { 4 * block_size ≤ result }
@@ -31,7 +31,7 @@ fn stretch(block_size: BlockSize) -> usize
 }
 
 /// How many bytes of data follow a position in the file before the next map blocks.
-#[tactic(auto, using(msf_blocks::proofs::SizeLaws::big_enough), unfolding(crate::specs::Put::room))]
+#[tactic(auto, using(msf_superblock::proofs::SizeLaws::big_enough), unfolding(crate::specs::Put::room))]
 fn room(block_size: BlockSize, position: usize) -> usize
     ensures value { result ≡ room block_size position }
     ensures big { 3 < block_size }
@@ -56,7 +56,7 @@ fn zeros(count: usize) -> &'static [u8]
 }
 
 /// How many zeros pad `len` bytes to whole blocks.
-#[tactic(auto, using(crate::proofs::PutLaws::fill_count, msf_blocks::proofs::SizeLaws::some_bytes))]
+#[tactic(auto, using(crate::proofs::PutLaws::fill_count, msf_superblock::proofs::SizeLaws::some_bytes))]
 fn fill_len(block_size: BlockSize, len: usize) -> usize
     requires { len < 2 ^ 33 }
     ensures value { result ≡ blocks_for block_size len * block_size - len }
@@ -145,7 +145,7 @@ impl<A: Allocator> ImageWriter<A> {
     }
 
     /// Puts the map blocks that come right before the position, if there are any.
-    #[tactic(auto, using(msf_blocks::proofs::SizeLaws::some_bytes), unfolding(crate::specs::Put::maps_before))]
+    #[tactic(auto, using(msf_superblock::proofs::SizeLaws::some_bytes), unfolding(crate::specs::Put::maps_before))]
     fn put_maps_before<W: Sink>(&mut self, out: &mut W) -> Result<(), NotTaken>
         requires few { self.old.position < 2 ^ 33 }
         ensures same { self.new ≡ self.old }

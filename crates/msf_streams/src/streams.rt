@@ -14,10 +14,10 @@
 ghost use Rattle.std.specs.Prelude.{◌≡◌, ◌↔◌, ◌⊎◌, ◌≤◌, ◌<◌, ◌*◌, ◌+◌, ◌-◌, ◌^◌, [], ◌∷◌, length, slice_get, Some, IfSome, IfNone, IsNone, IfOk, IfErr};
 ghost use Rattle.std.specs.List.{concat};
 ghost use Rattle.std.specs.Iterator.{YieldsFirstRef, item_count};
-ghost use Rattle.msf_blocks.specs.BlockNumber.{blocks_for};
+ghost use Rattle.msf_superblock.specs.BlockNumber.{blocks_for};
 ghost use Rattle.msf_blocks.specs.Directory.{bytes_of};
 ghost use Rattle.msf_blocks.specs.Layout.{IsLayout};
-ghost use Rattle.msf_blocks.specs.Superblock.{HoldsBlocks};
+ghost use Rattle.msf_superblock.specs.Superblock.{HoldsBlocks};
 ghost use Rattle.msf_streams.specs.Streams.{FirstIsLong, stream_pieces, stream_contents, pieces_from};
 
 use crate::at::gather_at;

@@ -2,7 +2,7 @@
 
 ghost use Rattle.std.specs.Prelude.{◌≡◌, ◌≢◌, ◌⊎◌, ◌<◌, ◌≤◌, ◌^◌, true, All, length, map, IfSome, IfNone, IfOk, IfErr, OnOk, OnErr};
 ghost use Rattle.std.specs.Io.KnownBytes.{Appends};
-ghost use Rattle.msf_blocks.specs.BlockNumber.{IsBlockSize};
+ghost use Rattle.msf_superblock.specs.BlockNumber.{IsBlockSize};
 ghost use Rattle.msf_streams.specs.Image.{Writable, image, contents_of, joined, joined_of};
 ghost use Rattle.msf_streams.specs.Put.{AppendsPart, IsImageFront};
 
@@ -120,7 +120,7 @@ pub fn write_parts<W: Sink, A: Allocator + Copy>(
 /// Writes the image of five streams into a sink, and returns the length of the image in bytes.
 ///
 /// Everything else is as in [`write_parts`], which calls this. ("The MSF File Format".)
-#[tactic(auto, using(msf_blocks::proofs::SizeLaws::some_bytes, crate::proofs::ImageLaws::count_back))]
+#[tactic(auto, using(msf_superblock::proofs::SizeLaws::some_bytes, crate::proofs::ImageLaws::count_back))]
 pub fn write_parts_len<W: Sink, A: Allocator + Copy>(
     alloc: A,
     block_size: u32,

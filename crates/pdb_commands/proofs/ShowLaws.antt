@@ -1,16 +1,16 @@
 -- A command whose read by position failed.
-use Rattle.std.proofs.Common.{◌≡◌, ◌⊎◌, ℕ, ◌-◌, ◌^◌, ◌≤◌, Bool, List, Option, arith, refl, ap, ◌∙◌, inl, inr}
+use Rattle.std.proofs.Common.{true, ◌≡◌, ◌⊎◌, ℕ, ◌-◌, ◌^◌, ◌≤◌, Bool, List, Option, arith, refl, ap, ◌∙◌, inl, inr}
 use Rattle.std.specs.Prelude.{Result, Ok, Err, IfOk, IfErr}
 use Rattle.std.proofs.lemmas.Bool.{cases_lt}
 use Rattle.byte_fields.specs.Bytes.{AreBytes}
-use Rattle.byte_io.specs.At.{Breaks, Bytes, IfKnown, IfOf}
+use Rattle.byte_io.specs.At.{Bytes, IfKnown, IfOf}
 use Rattle.byte_io.specs.Input.{GivesAll}
 use Rattle.byte_io.specs.declared.at.AtFault.{AtFault}
 use Rattle.byte_io.specs.declared.at.AtFault.TheVariants as at
 use Rattle.byte_io.specs.declared.input.ReadFault.TheVariants as reads
 use Rattle.msf_blocks.specs.Layout.{LayoutView, HasLayout, HasWithinFault, TextsRefuse, TextsRefuseWithin}
-use Rattle.msf_blocks.specs.declared.fault.MsfFault.{MsfFault}
-use Rattle.msf_blocks.specs.declared.fault.MsfFault.TheVariants as msf
+use Rattle.msf_superblock.specs.declared.fault.MsfFault.{MsfFault}
+use Rattle.msf_superblock.specs.declared.fault.MsfFault.TheVariants as msf
 use Rattle.msf_blocks.specs.declared.fault.WithinFault.{WithinFault}
 use Rattle.msf_blocks.specs.declared.fault.WithinFault.TheVariants as within
 use Rattle.msf_blocks.proofs.AtLayoutLaws.{short_directory}
@@ -24,7 +24,7 @@ use Rattle.pdb_commands.specs.declared.fault.RunFault.TheVariants.{Read, Memory,
 
 -- what holds after it: the reader is broken, its length is within the limit, and nothing was written
 pub record Failed {W : Type 0} (limit : ℕ) (bytes : Bytes) (broken : Bool) (before after : W) : Type 0 where
-  pub breaks : Breaks bytes broken
+  pub breaks : broken ≡ true
   pub within : bytes.told ≤ limit
   pub untouched : after ≡ before
 

@@ -6,7 +6,7 @@ use Rattle.byte_fields.specs.Bytes.{AreBytes}
 use Rattle.byte_fields.specs.Check.{first_failing}
 use Rattle.byte_io.specs.At.{stable}
 use Rattle.msf_blocks.specs.Layout.{LayoutView, HasLayout, ListsLongStream, layout_checks}
-use Rattle.msf_blocks.specs.declared.fault.MsfFault.{MsfFault}
+use Rattle.msf_superblock.specs.declared.fault.MsfFault.{MsfFault}
 use Rattle.msf_blocks.proofs.FoundLaws.{layout_holds}
 use Rattle.msf_blocks.proofs.FreeLaws.{free_known}
 use Rattle.msf_blocks.proofs.OneLayoutLaws.{one_layout}

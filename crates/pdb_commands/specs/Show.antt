@@ -4,12 +4,12 @@ use Rattle.std.specs.Prelude.{ℕ, ◌≡◌, ◌<◌, ◌≤◌, ◌⊎◌, Boo
 use Rattle.std.specs.Io.KnownBytes.{Appends}
 use Rattle.byte_fields.specs.Bytes.{AreBytes}
 use Rattle.byte_fields.specs.Check.{first_failing}
-use Rattle.byte_io.specs.At.{Breaks, Bytes, IfKnown, stable}
+use Rattle.byte_io.specs.At.{Bytes, IfKnown, stable}
 use Rattle.byte_io.specs.Input.{GivesAll, IsNotRead, HasGiven}
 use Rattle.byte_io.specs.declared.input.ReadFault.{ReadFault}
 use Rattle.byte_io.specs.declared.input.ReadFault.TheVariants as reads
 use Rattle.msf_blocks.specs.Layout.{LayoutView, GivesLongDirectory, HasLayout, HasLongDirectory, HasTexts, layout_checks}
-use Rattle.msf_blocks.specs.declared.fault.MsfFault.{MsfFault}
+use Rattle.msf_superblock.specs.declared.fault.MsfFault.{MsfFault}
 use Rattle.file_types.specs.declared.fault.PdbFault.TheVariants.{Msf}
 use Rattle.pdb_commands.specs.Streams.{RefusesLayout}
 use Rattle.pdb_commands.specs.declared.fault.RunFault.{RunFault}
@@ -102,7 +102,7 @@ PrintsPartAt Shows limit file taken_before taken_after =
 -- this is why a file is not read: a read failed, or it says that it has more bytes than the limit
 -- allows, which is true where its bytes are known
 abbrev pub IsNotReadAt : Bytes → Bool → ℕ → ReadFault → Type 0
-IsNotReadAt bytes broken limit reads.Read = Breaks bytes broken
+IsNotReadAt bytes broken limit reads.Read = broken ≡ true
 IsNotReadAt bytes broken limit reads.TooLong =
     (limit < bytes.told) × IfKnown bytes (λ file. limit < length file)
 IsNotReadAt bytes broken limit reads.Memory = ⊥
@@ -200,7 +200,7 @@ pub record IsByWhole {A W S T : Type 0} (Shows : List ℕ → List ℕ → Type 
     (left : S → Option (List ℕ)) (whole_broken : S → Bool) (whole_before whole_after : S)
     (taken : W → Option (List ℕ)) (is_broken : W → Bool) (before after : W)
     (result : Result T (RunFault A)) : Type 0 where
-  pub breaks : Breaks bytes broken
+  pub breaks : broken ≡ true
   pub within : bytes.told ≤ limit
   pub answers : Answers Shows Refuses limit (left whole_before) (left whole_after)
       (whole_broken whole_after) taken is_broken before after result

@@ -4,8 +4,8 @@ use Rattle.std.specs.List.{sum_by}
 use Rattle.std.proofs.lemmas.List.Sums.{sum_by-cons}
 use Rattle.std.proofs.lemmas.Nat.{mul-le}
 use Rattle.std.proofs.Math.Nat.{div-mul-le_self}
-use Rattle.msf_blocks.specs.BlockNumber.{IsBlockSize, blocks_for}
-use Rattle.msf_blocks.proofs.SizeLaws.{size_facts, some_bytes}
+use Rattle.msf_superblock.specs.BlockNumber.{IsBlockSize, blocks_for}
+use Rattle.msf_superblock.proofs.SizeLaws.{size_facts, some_bytes}
 use Rattle.msf_streams.specs.Image.{Fits, blocks_of_all}
 use Rattle.msf_streams.proofs.FitLaws.{few_hold, few_blocks_fit}
 use Rattle.pdb_info.specs.Settings.{SettingsView, AreSettings, RecordsFit, room_for_records}

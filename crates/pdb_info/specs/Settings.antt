@@ -1,7 +1,7 @@
 -- The settings of a file that is written.
 use Rattle.std.specs.Prelude.{ℕ, ◌≡◌, ◌≤◌, ◌+◌, ◌-◌, ◌*◌, ◌/◌, min, List, [], ◌∷◌, length}
 use Rattle.byte_fields.specs.Bytes.{AreBytes}
-use Rattle.msf_blocks.specs.BlockNumber.{IsBlockSize}
+use Rattle.msf_superblock.specs.BlockNumber.{IsBlockSize}
 use Rattle.msf_streams.specs.Image.{Fits}
 
 -- the GUID of the file (16 bytes, in the order in which it is printed), its age,

@@ -2,7 +2,7 @@
 
 ghost use Rattle.std.specs.Prelude.{◌≡◌, ◌≤◌, ◌↔◌, IfSome, IsSome};
 ghost use Rattle.byte_fields.specs.Bytes.{AreBytes};
-ghost use Rattle.msf_blocks.specs.BlockNumber.{IsBlockSize};
+ghost use Rattle.msf_superblock.specs.BlockNumber.{IsBlockSize};
 ghost use Rattle.pdb_info.specs.Settings.{SettingsView, AreSettings, RecordsFit, record_limit, room_for_records};
 
 use msf_blocks::BlockSize;
@@ -59,7 +59,7 @@ impl Settings {
     /// `block_size` is not one of the seven sizes.
     ///
     /// `limit` and `block_size` are in bytes. This does not allocate.
-    #[tactic(auto, using(msf_blocks::proofs::SizeLaws::size_decides))]
+    #[tactic(auto, using(msf_superblock::proofs::SizeLaws::size_decides))]
     pub fn new(guid: Uuid, age: u32, limit: u32, block_size: u32) -> Option<Settings>
         ensures value { IfSome result (λ s.
             s ≡ record { guid = guid; age = age; limit = limit; block_size = block_size }) }

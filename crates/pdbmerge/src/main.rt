@@ -96,30 +96,23 @@ fn merge_into_out<S: BuildHasher + Drop>(
 }
 
 /// Merges files into a new one, and writes the report on it. Returns the exit status.
-fn merge_with<S: BuildHasher + Drop>(
-    rt: &HostRuntime,
-    task: &Merging,
-    hasher: S,
-) -> Result<ExitCode, ProgramFault> {
+///
+/// The hashes are such that nobody can predict them, where the system gives random numbers. Where it
+/// gives none, the key is fixed, and records that share a hash have to be searched for.
+fn merge(rt: &HostRuntime, task: &Merging) -> Result<ExitCode, ProgramFault> {
     let taken = TakenStreams::of(rt, task.out.as_str());
-    let report = merge_into_out(rt, task, taken, hasher)?;
+    let report = match RandomState::new(rt) {
+        Ok(hasher) => merge_into_out(rt, task, taken, hasher)?,
+        Err(_) => {
+            let hasher: BuildHasherDefault<DefaultHasher> = BuildHasherDefault::new();
+            merge_into_out(rt, task, taken, hasher)?
+        }
+    };
     match print(rt, &report, taken) {
         Ok(()) => Ok(ExitCode::SUCCESS),
         // OUT is whole. The line of a refusal would be written into it.
         Err(_) if taken.error => Ok(ExitCode::FAILURE),
         Err(fault) => Err(fault),
-    }
-}
-
-/// Merges files with hashes that nobody can predict, where the system gives random numbers. Where
-/// it gives none, the key is fixed, and records that share a hash have to be searched for.
-fn merge(rt: &HostRuntime, task: &Merging) -> Result<ExitCode, ProgramFault> {
-    match RandomState::new(rt) {
-        Ok(hasher) => merge_with(rt, task, hasher),
-        Err(_) => {
-            let hasher: BuildHasherDefault<DefaultHasher> = BuildHasherDefault::new();
-            merge_with(rt, task, hasher)
-        }
     }
 }
 

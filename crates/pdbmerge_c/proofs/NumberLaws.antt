@@ -5,9 +5,9 @@ use Rattle.byte_io.specs.declared.input.ReadFault.{ReadFault}
 use Rattle.byte_io.specs.declared.input.ReadFault.TheVariants as reads
 use Rattle.byte_io.specs.declared.inputs.InputFault.{InputFault}
 use Rattle.byte_io.specs.declared.inputs.InputFault.TheVariants as inputs
-use Rattle.msf_blocks.specs.Fault.{msf_number}
-use Rattle.msf_blocks.specs.declared.fault.MsfFault.{MsfFault}
-use Rattle.msf_blocks.specs.declared.fault.MsfFault.TheVariants as msf
+use Rattle.msf_superblock.specs.Fault.{msf_number}
+use Rattle.msf_superblock.specs.declared.fault.MsfFault.{MsfFault}
+use Rattle.msf_superblock.specs.declared.fault.MsfFault.TheVariants as msf
 use Rattle.msf_streams.specs.Fault.{stream_number}
 use Rattle.msf_streams.specs.declared.fault.StreamFault.{StreamFault}
 use Rattle.msf_streams.specs.declared.fault.StreamFault.TheVariants as streams

@@ -3,11 +3,11 @@ use Rattle.std.specs.Prelude.{ℕ, ◌≡◌, List, length, map}
 use Rattle.std.specs.List.{flat_map}
 use Rattle.byte_fields.specs.Check.{Refuses, first_failing}
 use Rattle.msf_blocks.specs.Directory.{bytes_of}
-use Rattle.msf_blocks.specs.Fault.{msf_number}
+use Rattle.msf_superblock.specs.Fault.{msf_number}
 use Rattle.msf_blocks.specs.FreeMap.{free_blocks}
 use Rattle.msf_blocks.specs.Layout.{LayoutView, HasLayout, layout_checks}
-use Rattle.msf_blocks.specs.declared.fault.MsfFault.{MsfFault}
-use Rattle.msf_blocks.specs.declared.fault.MsfFault.TheVariants.{Memory}
+use Rattle.msf_superblock.specs.declared.fault.MsfFault.{MsfFault}
+use Rattle.msf_superblock.specs.declared.fault.MsfFault.TheVariants.{Memory}
 use Rattle.pdbmerge_c.specs.declared.fault.Fault.{Fault}
 use Rattle.pdbmerge_c.specs.declared.layout.ContainerCounts.{ContainerCounts}
 use Rattle.pdbmerge_c.specs.Fault.{IsTold, no_number}

@@ -3,7 +3,7 @@ use Rattle.std.specs.Prelude.{ℕ, ◌≡◌, ◌≤◌, ◌<◌, List, Option, 
 use Rattle.std.specs.Borrow.{Bor}
 use Rattle.std.specs.declared.alloc.Global.{Global}
 use Rattle.byte_io.specs.declared.inputs.InputFault.{InputFault}
-use Rattle.msf_blocks.specs.BlockNumber.{IsBlockSize}
+use Rattle.msf_superblock.specs.BlockNumber.{IsBlockSize}
 use Rattle.pdb_info.specs.Settings.{SettingsView, limit_of_records, record_limit}
 use Rattle.pdb_merge.specs.Answer.{RefusesFiles}
 use Rattle.pdb_merge.specs.Fault.{merge_number, faulty_file}

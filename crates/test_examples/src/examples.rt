@@ -16,6 +16,7 @@ use fault_pages::page_of;
 use file_types::{Buffer, read_types, read_unchecked};
 use msf_blocks::Layout;
 use msf_streams::{gather, pieces};
+use msf_superblock::{Superblock, blocks_for};
 use packed_texts::PackedTexts;
 use pdb_commands::run_check;
 use pdb_info::{Info, Settings, guid_of};
@@ -83,6 +84,16 @@ fn nodes_after_what_they_name(rt: HostRuntime) -> Result<(), Fail> {
     assert!(rt; names_nodes(&graph));
     let order = topological_order(rt.alloc(), &graph)?;
     assert_eq!(rt; order.as_slice(), [2, 1, 0].as_slice());
+    Ok(())
+}
+
+/// `msf_superblock` reads what the front of a file says.
+#[test]
+fn the_front_of_a_file(rt: HostRuntime) -> Result<(), Fail> {
+    let superblock = Superblock::read(&sample(rt.alloc())?)?;
+    assert_eq!(rt; superblock.block_size(), 512);
+    assert_eq!(rt; superblock.num_blocks(), 7);
+    assert_eq!(rt; blocks_for(512, superblock.directory_bytes()), 1);
     Ok(())
 }
 

@@ -5,7 +5,7 @@ use std::test::Fail;
 use test_samples::put;
 
 #[test]
-#[tactic(auto, using(msf_blocks::proofs::SizeLaws::size_4096), unfolding(msf_blocks::specs::BlockNumber::nth_block))]
+#[tactic(auto, using(msf_superblock::proofs::SizeLaws::size_4096), unfolding(msf_superblock::specs::BlockNumber::nth_block))]
 fn data_blocks_of_4096(rt: HostRuntime) {
     assert_eq!(rt; nth_block(4096, 0), 0);
     assert_eq!(rt; nth_block(4096, 1), 3);
@@ -17,7 +17,7 @@ fn data_blocks_of_4096(rt: HostRuntime) {
 }
 
 #[test]
-#[tactic(auto, using(msf_blocks::proofs::SizeLaws::size_decides), unfolding(msf_blocks::specs::BlockNumber::nth_block))]
+#[tactic(auto, using(msf_superblock::proofs::SizeLaws::size_decides), unfolding(msf_superblock::specs::BlockNumber::nth_block))]
 fn data_blocks_of_512(rt: HostRuntime) -> Result<(), Fail> {
     let block_size = 512;
     if !is_block_size(block_size) {

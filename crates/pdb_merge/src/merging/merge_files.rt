@@ -49,48 +49,6 @@ fn add_input<I: Inputs, S: BuildHasher, A: Allocator + Copy>(
     Ok(())
 }
 
-/// Adds the types of all files, in order. The bytes of at most one file are in memory at a time.
-fn add_all<I: Inputs, S: BuildHasher, A: Allocator + Copy>(
-    alloc: A,
-    inputs: &I,
-    merge: &mut Merge<S, A>,
-) -> Result<(), MergeFault<A>>
-    requires { HasTaken merge.old [] }
-    ensures value { (files : List (List ℕ)) → Give (I.known inputs.now) files →
-        OnOk result (HasTaken merge.new files) }
-    ensures within { OnOk result (Within (IsType merge.new.types) merge.new.limit) }
-    ensures read { OnOk result (IfSome (I.known inputs.now) (λ each. CanRead each (length each))) }
-    ensures limit { merge.new.limit ≡ merge.old.limit }
-    ensures refuses { IfErr result (RefusesFiles (I.known inputs.now) merge.old.limit) }
-{
-    let mut buffer = InputBuffer::new(alloc);
-    for input in 0..inputs.count() {
-        add_input(alloc, inputs, input, &mut buffer, merge)?;
-    }
-    Ok(())
-}
-
-/// The canonical list of the types of these files, or the first fault.
-fn list_all<I: Inputs, S: BuildHasher + Drop, A: Allocator + Copy>(
-    alloc: A,
-    inputs: &I,
-    limit: u32,
-    hasher: S,
-) -> Result<Canon<A>, MergeFault<A>>
-    ensures value { (files : List (List ℕ)) → Give (I.known inputs.now) files →
-        IfOk result (λ canon. IsCanonOf canon (HasType files)) }
-    ensures within { IfOk result (λ canon. length (concat canon) ≤ limit) }
-    ensures accepts { OnOk result (AcceptsFiles (I.known inputs.now) limit) }
-    ensures refuses { IfErr result (RefusesFiles (I.known inputs.now) limit) }
-{
-    let mut merge = Merge::new(alloc, limit, hasher);
-    add_all(alloc, inputs, &mut merge)?;
-    match merge.into_canon(alloc) {
-        Ok(canon) => Ok(canon),
-        Err(_) => Err(MergeFault::Memory),
-    }
-}
-
 /// The canonical list of the types of these files.
 ///
 /// The files are read one at a time, in order. A file that cannot be read is refused first,
@@ -114,5 +72,16 @@ pub fn merge_files<I: Inputs + Drop, S: BuildHasher + Drop, A: Allocator + Copy>
     ensures accepts { OnOk result (AcceptsFiles (I.known files) (record_limit settings.now)) }
     ensures refuses { IfErr result (RefusesFiles (I.known files) (record_limit settings.now)) }
 {
-    list_all(alloc, &files, settings.record_limit(), hasher)
+    let mut merge = Merge::new(alloc, settings.record_limit(), hasher);
+    {
+        // The memory of the files is given back before the list is made.
+        let mut buffer = InputBuffer::new(alloc);
+        for input in 0..files.count() {
+            add_input(alloc, &files, input, &mut buffer, &mut merge)?;
+        }
+    }
+    match merge.into_canon(alloc) {
+        Ok(canon) => Ok(canon),
+        Err(_) => Err(MergeFault::Memory),
+    }
 }

@@ -1,8 +1,8 @@
 use Rattle.std.proofs.Common.{arith, ◌≡◌, ◌∙◌, ◌+◌, ◌-◌, ◌*◌, ◌<◌, ℕ, List, sym, refl, min, length, take}
 use Rattle.std.proofs.lemmas.List.{length-take, take_all}
 use Rattle.std.proofs.lemmas.Nat.{le-div}
-use Rattle.msf_blocks.specs.BlockNumber.{blocks_for}
-use Rattle.msf_blocks.proofs.SizeLaws.{size_facts, some_bytes, few_for}
+use Rattle.msf_superblock.specs.BlockNumber.{blocks_for}
+use Rattle.msf_superblock.proofs.SizeLaws.{size_facts, some_bytes, few_for}
 use Rattle.msf_blocks.proofs.BlocksLaws.{run_facts, run_inside, all_bytes}
 use Rattle.msf_blocks.proofs.GivenLaws.{none_given, given_run}
 use Rattle.msf_blocks.proofs.blocks.read_runs.Goals as goal

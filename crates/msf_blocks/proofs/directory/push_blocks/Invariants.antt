@@ -1,6 +1,6 @@
 use Rattle.std.proofs.Common.{◌≡◌, ◌++◌}
 use Rattle.byte_fields.specs.Number.{u32s}
-use Rattle.msf_blocks.specs.BlockNumber.{block_numbers}
+use Rattle.msf_superblock.specs.BlockNumber.{block_numbers}
 use Rattle.msf_blocks.proofs.directory.push_blocks.Given as goal
 
 abbrev pub invariant-loop-j : goal.invariant-loop-j

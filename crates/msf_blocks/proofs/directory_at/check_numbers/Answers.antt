@@ -1,8 +1,8 @@
 use Rattle.std.proofs.Common.{arith, refl, get_or}
 use Rattle.byte_fields.proofs.CheckLaws.{checks_below-more, checks_below-stop, check_fails, check_holds}
-use Rattle.msf_blocks.specs.BlockNumber.{is_ordinary}
+use Rattle.msf_superblock.specs.BlockNumber.{is_ordinary}
 use Rattle.msf_blocks.specs.Directory.{number_checks, number_check, directory_blocks}
-use Rattle.msf_blocks.specs.declared.fault.MsfFault.TheVariants.{DirectoryBlock}
+use Rattle.msf_superblock.specs.declared.fault.MsfFault.TheVariants.{DirectoryBlock}
 use Rattle.msf_blocks.proofs.directory_at.check_numbers.Goals as goal
 
 pub returns-then-not-is_ordinary : goal.returns-then-not-is_ordinary

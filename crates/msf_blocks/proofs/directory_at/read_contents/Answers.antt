@@ -10,7 +10,7 @@ read_blocks-requires-clause-inside g c = λ file known.
     let fields = c.args.superblock.now in
     let m = c.in_ok-blocks.ensures in
     let numbers = c.in_ok-blocks.blocks.items in
-    let old = sym m.keeps ∙ known in
+    let old = sym m.reads.keeps ∙ known in
     let whole = c.requires.whole file old in
     let map : IsBlockMap (stable file) fields numbers = rw old at m.map in
     let readable = block_map_known file fields whole c.requires.fit (numbers, map) in
@@ -22,6 +22,6 @@ returns-in-Ok-clause-texts g c =
     record {
       numbers = c.in_ok-blocks.blocks.items;
       block_map = m.map;
-      given = rw (c.deref.ensures.value, c.block_size.ensures.value, m.keeps) at c.in-Ok.ensures.given;
+      given = rw (c.deref.ensures.value, c.block_size.ensures.value, m.reads.keeps) at c.in-Ok.ensures.given;
       count = c.in-Ok.ensures.len ∙ c.directory_bytes-size.ensures.value;
     }

@@ -1,5 +1,5 @@
 use Rattle.std.proofs.Common.{◌≡◌, ◌<◌, ◌≤◌, length}
-use Rattle.msf_blocks.specs.BlockNumber.{IsBlockSize}
+use Rattle.msf_superblock.specs.BlockNumber.{IsBlockSize}
 use Rattle.msf_blocks.specs.FreeMap.{IsFreeCount, IsMapHeld}
 use Rattle.msf_blocks.proofs.free_map.free_blocks_at.Given as goal
 

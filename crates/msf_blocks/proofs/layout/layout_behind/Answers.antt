@@ -5,8 +5,8 @@ use Rattle.byte_fields.proofs.CheckLaws.{first_failing-append_some}
 use Rattle.byte_io.proofs.AtLaws.{of_more}
 use Rattle.msf_blocks.specs.Directory.{ListsStreams, directory_checks, length_checks, stream_checks}
 use Rattle.msf_blocks.specs.Layout.{TextsRefuse}
-use Rattle.msf_blocks.specs.declared.fault.MsfFault.{MsfFault}
-use Rattle.msf_blocks.specs.declared.fault.MsfFault.TheVariants.{Memory}
+use Rattle.msf_superblock.specs.declared.fault.MsfFault.{MsfFault}
+use Rattle.msf_superblock.specs.declared.fault.MsfFault.TheVariants.{Memory}
 use Rattle.msf_blocks.specs.Stream.{listed_of}
 use Rattle.msf_blocks.proofs.LayoutLaws.{directory_answer}
 use Rattle.msf_blocks.proofs.ListsLaws.{lists_are_read, layout_fits_at}

@@ -1,5 +1,5 @@
 use Rattle.std.proofs.Common.{◌≡◌, ◌<◌, false, ◌∙◌, refl, arith}
-use Rattle.msf_blocks.specs.BlockNumber.{is_ordinary}
+use Rattle.msf_superblock.specs.BlockNumber.{is_ordinary}
 use Rattle.msf_blocks.specs.Directory.{directory_blocks}
 use Rattle.msf_blocks.proofs.RefusedLaws.{more_map, map_refuses, map_read}
 use Rattle.msf_blocks.proofs.without_memory.check_map.Goals as goal

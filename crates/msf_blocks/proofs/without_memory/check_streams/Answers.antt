@@ -17,7 +17,7 @@ loop-stream-preserved g c =
     let i = c.loop-stream.invariant in
     let e = c.in_ok-start.ensures in
     record {
-      keeps = e.keeps ∙ i.keeps;
+      keeps = e.reads.keeps ∙ i.keeps;
       on_sizes = rw i.keeps at e.on_sizes;
       on_lists = rw i.keeps at e.on_lists;
       fits = e.fits;

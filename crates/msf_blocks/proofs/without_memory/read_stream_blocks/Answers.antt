@@ -1,5 +1,5 @@
 use Rattle.std.proofs.Common.{arith}
-use Rattle.msf_blocks.proofs.SizeLaws.{listed_short}
+use Rattle.msf_superblock.proofs.SizeLaws.{listed_short}
 use Rattle.msf_blocks.proofs.without_memory.read_stream_blocks.Goals as goal
 
 pub overflow_add-stream : goal.overflow_add-stream

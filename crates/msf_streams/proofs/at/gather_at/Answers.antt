@@ -1,5 +1,5 @@
 use Rattle.std.proofs.Common.{◌≡◌, ◌∙◌, refl, sym, ap, inr, Some, ℕ, List}
-use Rattle.msf_blocks.specs.Superblock.{Fields}
+use Rattle.msf_superblock.specs.Superblock.{Fields}
 use Rattle.msf_streams.proofs.AtLaws.{are_blocks, was_read}
 use Rattle.msf_streams.proofs.LentLaws.{is_sized}
 use Rattle.msf_streams.proofs.at.gather_at.Goals as goal

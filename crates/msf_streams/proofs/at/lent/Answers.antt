@@ -1,6 +1,6 @@
 use Rattle.std.proofs.Common.{◌≡◌, ◌∙◌, ◌*◌, ap, length}
 use Rattle.byte_io.specs.At.{AreGiven}
-use Rattle.msf_blocks.specs.Superblock.{Fields}
+use Rattle.msf_superblock.specs.Superblock.{Fields}
 use Rattle.msf_streams.specs.Streams.{WasRead}
 use Rattle.msf_streams.proofs.AtLaws.{lent_given, some_of_both}
 use Rattle.msf_streams.proofs.at.lent.Goals as goal

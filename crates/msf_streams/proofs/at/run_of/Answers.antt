@@ -1,5 +1,5 @@
 use Rattle.std.proofs.Common.{◌≡◌, ◌∙◌, sym, ap}
-use Rattle.msf_blocks.specs.Superblock.{Fields}
+use Rattle.msf_superblock.specs.Superblock.{Fields}
 use Rattle.msf_streams.proofs.LentLaws.{is_sized}
 use Rattle.msf_streams.proofs.at.run_of.Goals as goal
 

@@ -1,6 +1,6 @@
 use Rattle.std.proofs.Common.{◌≡◌, get_or, arith}
 use Rattle.std.proofs.lemmas.List.Sums.{sum_by_more}
-use Rattle.msf_blocks.specs.BlockNumber.{blocks_for}
+use Rattle.msf_superblock.specs.BlockNumber.{blocks_for}
 use Rattle.msf_streams.proofs.image.stream_blocks.Goals as goal
 
 pub loop-size-preserved : goal.loop-size-preserved

@@ -1,6 +1,6 @@
 use Rattle.std.proofs.Common.{◌≡◌, ◌*◌, ◌^◌, ◌≤◌, take}
 use Rattle.std.specs.List.{sum_by}
-use Rattle.msf_blocks.specs.BlockNumber.{blocks_for}
+use Rattle.msf_superblock.specs.BlockNumber.{blocks_for}
 use Rattle.msf_streams.proofs.image.stream_blocks.Given as goal
 
 abbrev pub invariant-loop-size : goal.invariant-loop-size

@@ -1,6 +1,6 @@
 use Rattle.std.proofs.Common.{◌≡◌, Some, sym, ap, ◌∙◌, arith, refl, ◌*◌, ◌+◌, ◌-◌, min}
 use Rattle.msf_blocks.specs.Layout.{block_of}
-use Rattle.msf_blocks.specs.Superblock.{Fields}
+use Rattle.msf_superblock.specs.Superblock.{Fields}
 use Rattle.msf_streams.proofs.PieceLaws.{piece_here}
 use Rattle.msf_streams.proofs.streams.piece.Goals as goal
 

@@ -1,6 +1,6 @@
 use Rattle.std.proofs.Common.{arith, ◌*◌, ◌-◌, ◌/◌, ◌≤◌}
 use Rattle.std.proofs.lemmas.Nat.{mul-le}
-use Rattle.msf_blocks.proofs.SizeLaws.{size_facts}
+use Rattle.msf_superblock.proofs.SizeLaws.{size_facts}
 use Rattle.pdb_info.proofs.SettingsLaws.{some_room}
 use Rattle.pdb_info.proofs.settings.room_for_records.Goals as goal
 

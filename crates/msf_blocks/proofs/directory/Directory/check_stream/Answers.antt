@@ -1,9 +1,9 @@
 use Rattle.std.proofs.Common.{arith, ap, ◌+◌}
 use Rattle.byte_fields.specs.Number.{nth_u32}
 use Rattle.byte_fields.proofs.CheckLaws.{checks_below-more, checks_below-stop, check_fails, check_holds}
-use Rattle.msf_blocks.specs.BlockNumber.{is_ordinary}
+use Rattle.msf_superblock.specs.BlockNumber.{is_ordinary}
 use Rattle.msf_blocks.specs.Directory.{stream_checks, stream_block_check, stream_blocks, list_start}
-use Rattle.msf_blocks.specs.declared.fault.MsfFault.TheVariants.{StreamBlock}
+use Rattle.msf_superblock.specs.declared.fault.MsfFault.TheVariants.{StreamBlock}
 use Rattle.msf_blocks.proofs.directory.Directory.check_stream.Goals as goal
 
 pub returns-then-not-is_ordinary : goal.returns-then-not-is_ordinary

@@ -11,4 +11,4 @@ returns-clause-first g c = result_fault_known (g.R.ReadAt.bytes c.args.input.now
 pub returns-clause-found : goal.returns-clause-found
 returns-clause-found g c =
     let bytes = g.R.ReadAt.bytes c.args.input.now in
-    layout_wants bytes (g.R.ReadAt.is_broken c.layout_at.new.input) c.layout_at.result c.layout_at.ensures.small (result_fault_known bytes c.layout_at.result c.layout_at.ensures.refused) c.layout_at.ensures.read
+    layout_wants bytes c.layout_at.result c.layout_at.ensures.small (result_fault_known bytes c.layout_at.result c.layout_at.ensures.refused)

@@ -1,8 +1,8 @@
 use Rattle.std.proofs.Common.{◌≡◌, ◌∙◌, ◌+◌, ◌*◌, ◌%◌, ◌≤◌, length, take, rules, refl, sym, arith}
 use Rattle.std.proofs.lemmas.List.{length-take}
 use Rattle.std.proofs.lemmas.Nat.{mod_below}
-use Rattle.msf_blocks.specs.BlockNumber.{IsBlockSize}
-use Rattle.msf_blocks.proofs.SizeLaws.{listed_short, place_below, some_bytes}
+use Rattle.msf_superblock.specs.BlockNumber.{IsBlockSize}
+use Rattle.msf_superblock.proofs.SizeLaws.{listed_short, place_below, some_bytes}
 use Rattle.msf_blocks.proofs.WindowLaws.{count_is, number_ends, part_fits, window_opened}
 use Rattle.msf_blocks.proofs.window.Window.open.Goals as goal
 

@@ -4,9 +4,9 @@ use Rattle.std.specs.List.{starts_with}
 use Rattle.byte_fields.specs.Number.{number_at}
 use Rattle.byte_fields.specs.Check.{Check, first_failing}
 use Rattle.byte_io.specs.At.{Bytes, AreGiven}
-use Rattle.msf_blocks.specs.BlockNumber.{IsBlockSize, is_block_size, blocks_for, IsOrdinary, is_ordinary}
-use Rattle.msf_blocks.specs.declared.fault.MsfFault.{MsfFault}
-use Rattle.msf_blocks.specs.declared.fault.MsfFault.TheVariants.{Short, Magic, BlockSize, FreeMapBlock, FileSize, DirectorySize, BlockMapAddr}
+use Rattle.msf_superblock.specs.BlockNumber.{IsBlockSize, is_block_size, blocks_for, IsOrdinary, is_ordinary}
+use Rattle.msf_superblock.specs.declared.fault.MsfFault.{MsfFault}
+use Rattle.msf_superblock.specs.declared.fault.MsfFault.TheVariants.{Short, Magic, BlockSize, FreeMapBlock, FileSize, DirectorySize, BlockMapAddr}
 
 -- the 32 bytes with which every container begins
 abbrev pub magic : List ℕ

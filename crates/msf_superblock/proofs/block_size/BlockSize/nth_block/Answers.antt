@@ -1,6 +1,6 @@
-use Rattle.msf_blocks.proofs.SizeLaws.{big_enough}
-use Rattle.msf_blocks.proofs.BlockLaws.{nth_is_data, data_below, rank_is}
-use Rattle.msf_blocks.proofs.block_size.BlockSize.nth_block.Goals as goal
+use Rattle.msf_superblock.proofs.SizeLaws.{big_enough}
+use Rattle.msf_superblock.proofs.BlockLaws.{nth_is_data, data_below, rank_is}
+use Rattle.msf_superblock.proofs.block_size.BlockSize.nth_block.Goals as goal
 
 pub returns : goal.returns
 returns c =

@@ -1,7 +1,7 @@
 -- The numbers of the faults of a container.
 use Rattle.std.specs.Prelude.{ℕ}
-use Rattle.msf_blocks.specs.declared.fault.MsfFault.{MsfFault}
-use Rattle.msf_blocks.specs.declared.fault.MsfFault.TheVariants as msf
+use Rattle.msf_superblock.specs.declared.fault.MsfFault.{MsfFault}
+use Rattle.msf_superblock.specs.declared.fault.MsfFault.TheVariants as msf
 
 -- the number of a fault
 abbrev pub msf_number : MsfFault → ℕ

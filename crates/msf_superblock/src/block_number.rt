@@ -12,7 +12,7 @@
 
 ghost use Rattle.std.specs.Prelude.{◌≡◌, ◌^◌, ◌<◌, ◌≤◌, length, map, false};
 ghost use Rattle.std.specs.List.{range_with_len};
-ghost use Rattle.msf_blocks.specs.BlockNumber.{IsBlockSize, blocks_for, is_ordinary, is_map_block, nth_block, data_blocks};
+ghost use Rattle.msf_superblock.specs.BlockNumber.{IsBlockSize, blocks_for, is_ordinary, is_map_block, nth_block, data_blocks};
 
 use crate::block_size::BlockSize;
 

@@ -5,7 +5,7 @@ use Rattle.std.proofs.lemmas.Slice.Eq.{starts_is}
 use Rattle.std.proofs.lemmas.List.{take_at, take-append-drop}
 use Rattle.std.specs.List.{starts_with}
 use Rattle.std.specs.Prelude.{nat_eq}
-use Rattle.msf_blocks.specs.Superblock.{magic}
+use Rattle.msf_superblock.specs.Superblock.{magic}
 
 -- if a file begins with the magic, its first 32 bytes are the magic
 pub magic_from_starts_with : (file : List ℕ) → starts_with nat_eq file magic ≡ true → take 32 file ≡ magic

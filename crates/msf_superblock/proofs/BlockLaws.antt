@@ -7,8 +7,8 @@ use Rattle.std.proofs.lemmas.Bool.Decides.{nat_tests}
 use Rattle.std.proofs.lemmas.List.{map-id, append-nil}
 use Rattle.std.proofs.lemmas.List.FromFn.{map-range_with_len_more, length-map-range_with_len}
 use Rattle.std.proofs.lemmas.List.Elements.{filter-append}
-use Rattle.msf_blocks.specs.BlockNumber.{is_map_block, nth_block, data_blocks}
-use Rattle.msf_blocks.proofs.SizeLaws.{next_row}
+use Rattle.msf_superblock.specs.BlockNumber.{is_map_block, nth_block, data_blocks}
+use Rattle.msf_superblock.proofs.SizeLaws.{next_row}
 
 -- the first data block of an interval
 pub nth_first : (b q j : ℕ) → 3 < b → j ≡ q * (b - 2) → nth_block b j ≡ q * b

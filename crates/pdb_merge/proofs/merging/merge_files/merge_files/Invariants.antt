@@ -4,12 +4,12 @@ use Rattle.byte_io.specs.Inputs.{Give, CanRead}
 use Rattle.closed_trees.specs.Tree.{IsType}
 use Rattle.pdb_merge.specs.Union.{Within}
 use Rattle.pdb_merge.specs.Merging.{HasTaken}
-use Rattle.pdb_merge.proofs.merging.merge_files.add_all.Given as goal
+use Rattle.pdb_merge.proofs.merging.merge_files.merge_files.Given as goal
 
 abbrev pub invariant-loop-input : goal.invariant-loop-input
 invariant-loop-input g l = record {
-  taken : (files : List (List ℕ)) → Give (g.I.Inputs.known l.inputs) files → HasTaken l.merge (take l.input files);
-  read : IfSome (g.I.Inputs.known l.inputs) (λ each. CanRead each l.input);
+  taken : (files : List (List ℕ)) → Give (g.I.Inputs.known l.files) files → HasTaken l.merge (take l.input files);
+  read : IfSome (g.I.Inputs.known l.files) (λ each. CanRead each l.input);
   within : Within (IsType l.merge.types) l.merge.limit;
   limit : l.merge.limit ≡ l.initial.merge.limit;
 }

@@ -1,7 +1,7 @@
 use Rattle.std.proofs.Common.{◌∙◌, arith}
 use Rattle.std.proofs.lemmas.Result.{err_from_is_err_and}
-use Rattle.msf_blocks.proofs.AtLaws.{superblock_read, fields_read, checks_read, short_file}
-use Rattle.msf_blocks.proofs.superblock.Superblock.read_at.Goals as goal
+use Rattle.msf_superblock.proofs.FrontLaws.{superblock_read, fields_read, checks_read, short_file}
+use Rattle.msf_superblock.proofs.superblock.Superblock.read_at.Goals as goal
 
 pub returns-then-have-clause-first : goal.returns-then-have-clause-first
 returns-then-have-clause-first g c = λ file known.

@@ -2,7 +2,7 @@
 
 ghost use Rattle.std.specs.Prelude.{◌≡◌, ◌^◌, ◌<◌, ◌≤◌, IfSome, is_some, length, map, false};
 ghost use Rattle.std.specs.List.{range_with_len};
-ghost use Rattle.msf_blocks.specs.BlockNumber.{IsBlockSize, blocks_for, is_block_size, is_map_block, nth_block, data_blocks};
+ghost use Rattle.msf_superblock.specs.BlockNumber.{IsBlockSize, blocks_for, is_block_size, is_map_block, nth_block, data_blocks};
 
 use std::marker::Model;
 
@@ -26,7 +26,7 @@ pub struct BlockSize {
 
 impl Model for BlockSize {
     ghost use Rattle.std.specs.Prelude.{ℕ};
-    ghost use Rattle.msf_blocks.specs.BlockNumber.{IsBlockSize};
+    ghost use Rattle.msf_superblock.specs.BlockNumber.{IsBlockSize};
 
     ghost Value = { ℕ };
 

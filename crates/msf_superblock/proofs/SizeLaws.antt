@@ -6,7 +6,7 @@ use Rattle.std.proofs.lemmas.Bool.{cases_lt}
 use Rattle.std.proofs.lemmas.Bool.Decides.{Decides-eqb}
 use Rattle.std.proofs.lemmas.Map.Made.{is_member-Decides}
 use Rattle.std.proofs.lemmas.List.Elements.{All-nil, All-cons, All-contains}
-use Rattle.msf_blocks.specs.BlockNumber.{block_sizes, IsBlockSize, is_block_size, blocks_for}
+use Rattle.msf_superblock.specs.BlockNumber.{block_sizes, IsBlockSize, is_block_size, blocks_for}
 
 -- what holds of each size that a block may have: a superblock fits in the block, and the size is a multiple of four
 pub record SizeFacts (size : ℕ) : Type 0 where

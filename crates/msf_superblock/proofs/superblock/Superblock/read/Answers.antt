@@ -1,9 +1,9 @@
 use Rattle.std.proofs.Common.{◌≤◌, ◌∙◌, take, length, arith, refl}
 use Rattle.std.proofs.lemmas.List.{length-take}
 use Rattle.std.proofs.lemmas.Result.{err_from_is_err_and}
-use Rattle.msf_blocks.proofs.AtLaws.{front_stands, superblock_read, fields_read, checks_read, short_file}
-use Rattle.msf_blocks.proofs.FoundLaws.{superblock_holds}
-use Rattle.msf_blocks.proofs.superblock.Superblock.read.Goals as goal
+use Rattle.msf_superblock.proofs.FrontLaws.{front_stands, superblock_read, fields_read, checks_read, short_file}
+use Rattle.msf_superblock.proofs.FrontLaws.{superblock_holds}
+use Rattle.msf_superblock.proofs.superblock.Superblock.read.Goals as goal
 
 pub returns-then-file-lt-LENGTH-clause-first : goal.returns-then-file-lt-LENGTH-clause-first
 returns-then-file-lt-LENGTH-clause-first c = short_file c.args.file.now (omega (arith, c.if-file-lt-LENGTH.true))

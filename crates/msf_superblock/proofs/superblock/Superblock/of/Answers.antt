@@ -1,7 +1,7 @@
 use Rattle.std.proofs.Common.{arith}
 use Rattle.std.proofs.lemmas.Grind.{common_steps}
-use Rattle.msf_blocks.proofs.SuperblockLaws.{magic_from_starts_with}
-use Rattle.msf_blocks.proofs.superblock.Superblock.of.Goals as goal
+use Rattle.msf_superblock.proofs.SuperblockLaws.{magic_from_starts_with}
+use Rattle.msf_superblock.proofs.superblock.Superblock.of.Goals as goal
 
 pub invariant_of-result : goal.invariant_of-result
 invariant_of-result c = record {

@@ -3,10 +3,10 @@
 ghost use Rattle.std.specs.Prelude.{◌≡◌, ◌*◌, ◌/◌, ◌%◌, ◌<◌, ◌≤◌, ◌⊎◌, ◌≢◌, [], ◌∷◌, ◌++◌, length, take, Some, None, IfOk, OnOk, IfErr, IsOk};
 ghost use Rattle.byte_fields.specs.Bytes.{AreBytes};
 ghost use Rattle.byte_fields.specs.Check.{Makes, first_failing};
-ghost use Rattle.byte_io.specs.At.{Breaks, IfKnown, IfOf};
+ghost use Rattle.byte_io.specs.At.{IfKnown, IfOf, Reads};
 ghost use Rattle.byte_fields.specs.Number.{u32s};
-ghost use Rattle.msf_blocks.specs.BlockNumber.{IsBlockSize, IsOrdinary, blocks_for};
-ghost use Rattle.msf_blocks.specs.Superblock.{Fields, IsFit, IsSuperblock, fields_of, magic, front_checks, superblock_checks, HasFront, FrontRefuses};
+ghost use Rattle.msf_superblock.specs.BlockNumber.{IsBlockSize, IsOrdinary, blocks_for};
+ghost use Rattle.msf_superblock.specs.Superblock.{Fields, IsFit, IsSuperblock, fields_of, magic, front_checks, superblock_checks, HasFront, FrontRefuses};
 
 use crate::block_number::is_ordinary;
 use crate::block_size::BlockSize;
@@ -48,7 +48,7 @@ pub struct Superblock {
 }
 
 impl Model for Superblock {
-    ghost use Rattle.msf_blocks.specs.Superblock.{Fields, IsFit};
+    ghost use Rattle.msf_superblock.specs.Superblock.{Fields, IsFit};
 
     ghost Value = { Fields };
 
@@ -160,7 +160,7 @@ impl Superblock {
     /// Reads the superblock at the front of a file that is read by position. The faults are those
     /// of [`Superblock::read`], and `AtFault::Read` where a read failed. This does not allocate.
     pub fn read_at<R: ReadAt>(input: &mut R) -> Result<Superblock, AtFault<MsfFault>>
-        ensures keeps { R.bytes input.new ≡ R.bytes input.old }
+        ensures reads { Reads R.bytes R.is_broken input.old input.new result }
         ensures small { IfKnown (R.bytes input.old) AreBytes }
         ensures value { IfOk result (λ s.
             IfKnown (R.bytes input.old) (λ file. IsSuperblock file s)) }
@@ -175,8 +175,6 @@ impl Superblock {
         ensures refused { IfErr result (IfOf (FrontRefuses (R.bytes input.old))) }
         ensures first { IfErr result (IfOf (λ fault. IfKnown (R.bytes input.old) (λ file.
             first_failing (superblock_checks file) ≡ Some fault))) }
-        ensures read { IfErr result (λ fault.
-            fault ≡ AtFault.Read → Breaks (R.bytes input.old) (R.is_broken input.new)) }
     {
         let have = input.len();
         if have < LENGTH as u64 {

@@ -1,0 +1,4 @@
+pub mod SizeLaws
+pub mod BlockLaws
+pub mod SuperblockLaws
+pub mod FrontLaws
