@@ -1,10 +1,11 @@
 //! Writes an image into a sink.
 
-ghost use Rattle.std.specs.Prelude.{◌≡◌, ◌≢◌, ◌⊎◌, ◌<◌, ◌≤◌, ◌^◌, true, All, length, map, IfSome, IfNone, IfOk, IfErr, OnOk, OnErr};
+ghost use Rattle.std.specs.Prelude.{◌≡◌, ◌<◌, ◌≤◌, ◌^◌, true, All, length, map, IfSome, IfNone, IfOk, OnOk, OnErr};
 ghost use Rattle.std.specs.Io.KnownBytes.{Appends};
 ghost use Rattle.msf_superblock.specs.BlockNumber.{IsBlockSize};
-ghost use Rattle.msf_streams.specs.Image.{Writable, image, contents_of, joined, joined_of};
+ghost use Rattle.msf_streams.specs.Image.{image, contents_of, joined, joined_of};
 ghost use Rattle.msf_streams.specs.Put.{AppendsPart, IsImageFront};
+ghost use Rattle.msf_streams.specs.Write.{WritesImage};
 
 use crate::fault::WriteFault;
 use crate::front::Front;
@@ -96,22 +97,8 @@ pub fn write_parts<W: Sink, A: Allocator + Copy>(
     out: &mut W,
 ) -> Result<(), WriteFault>
     requires { IsBlockSize block_size }
-    ensures value { OnOk result
-        (Appends (W.taken out.old) (W.taken out.new) (image block_size (joined_of streams.now))) }
-    ensures image { IfErr result (λ fault.
-        fault ≡ WriteFault.Image → Writable block_size (joined_of streams.now) → ⊥) }
-    // Streams that fit are refused only when out of memory, or when the sink breaks.
-    ensures found { Writable block_size (joined_of streams.now) →
-        IfErr result (λ fault. (fault ≡ WriteFault.Memory) ⊎ (fault ≡ WriteFault.Write)) }
-    // The result is `Image`, or the streams fit.
-    ensures writable { (result ≡ Err WriteFault.Image)
-        ⊎ Writable block_size (joined_of streams.now) }
-    ensures write { IfErr result (λ fault.
-        fault ≡ WriteFault.Write →
-        (W.is_broken out.new ≡ true)
-        × AppendsPart (W.taken out.old) (W.taken out.new)
-        (image block_size (joined_of streams.now))) }
-    ensures untouched { IfErr result (λ fault. fault ≢ WriteFault.Write → out.new ≡ out.old) }
+    ensures { WritesImage block_size (joined_of streams.now) W.taken W.is_broken out.old
+        out.new result }
 {
     write_parts_len(alloc, block_size, streams, out)?;
     Ok(())
@@ -128,23 +115,9 @@ pub fn write_parts_len<W: Sink, A: Allocator + Copy>(
     out: &mut W,
 ) -> Result<u32, WriteFault>
     requires { IsBlockSize block_size }
-    ensures value { OnOk result
-        (Appends (W.taken out.old) (W.taken out.new) (image block_size (joined_of streams.now))) }
+    ensures image { WritesImage block_size (joined_of streams.now) W.taken W.is_broken out.old
+        out.new result }
     ensures len { IfOk result (λ len. len ≡ length (image block_size (joined_of streams.now))) }
-    ensures image { IfErr result (λ fault.
-        fault ≡ WriteFault.Image → Writable block_size (joined_of streams.now) → ⊥) }
-    // Streams that fit are refused only when out of memory, or when the sink breaks.
-    ensures found { Writable block_size (joined_of streams.now) →
-        IfErr result (λ fault. (fault ≡ WriteFault.Memory) ⊎ (fault ≡ WriteFault.Write)) }
-    // The result is `Image`, or the streams fit.
-    ensures writable { (result ≡ Err WriteFault.Image)
-        ⊎ Writable block_size (joined_of streams.now) }
-    ensures write { IfErr result (λ fault.
-        fault ≡ WriteFault.Write →
-        (W.is_broken out.new ≡ true)
-        × AppendsPart (W.taken out.old) (W.taken out.new)
-        (image block_size (joined_of streams.now))) }
-    ensures untouched { IfErr result (λ fault. fault ≢ WriteFault.Write → out.new ≡ out.old) }
 {
     let Some(sizes) = sizes_of(streams) else {
         return Err(WriteFault::Image);
@@ -171,20 +144,8 @@ pub fn write_image<W: Sink, A: Allocator + Copy>(
     out: &mut W,
 ) -> Result<(), WriteFault>
     requires { IsBlockSize block_size }
-    ensures value { OnOk result
-        (Appends (W.taken out.old) (W.taken out.new) (image block_size (contents_of streams.now))) }
-    ensures image { IfErr result (λ fault.
-        fault ≡ WriteFault.Image → Writable block_size (contents_of streams.now) → ⊥) }
-    ensures found { Writable block_size (contents_of streams.now) →
-        IfErr result (λ fault. (fault ≡ WriteFault.Memory) ⊎ (fault ≡ WriteFault.Write)) }
-    ensures writable { (result ≡ Err WriteFault.Image)
-        ⊎ Writable block_size (contents_of streams.now) }
-    ensures write { IfErr result (λ fault.
-        fault ≡ WriteFault.Write →
-        (W.is_broken out.new ≡ true)
-        × AppendsPart (W.taken out.old) (W.taken out.new)
-        (image block_size (contents_of streams.now))) }
-    ensures untouched { IfErr result (λ fault. fault ≢ WriteFault.Write → out.new ≡ out.old) }
+    ensures { WritesImage block_size (contents_of streams.now) W.taken W.is_broken out.old
+        out.new result }
 {
     let [first, second, third, fourth, fifth] = *streams;
     write_parts(

@@ -1,8 +1,8 @@
 -- Files that are given by inputs, one after the other.
-use Rattle.std.proofs.Common.{◌≡◌, ◌∙◌, ◌<◌, ◌≤◌, ◌+◌, ◌⊎◌, ℕ, List, [], Option, Some, None, length, map, get_or, refl, sym, ap, subst, arith, inl, inr}
+use Rattle.std.proofs.Common.{◌≡◌, ◌∙◌, ◌<◌, ◌≤◌, ◌+◌, ◌⊎◌, ℕ, List, [], Option, Some, None, length, map, take, get_or, refl, sym, ap, subst, arith, inl, inr}
 use Rattle.std.proofs.lemmas.Bool.{cases_lt}
 use Rattle.std.specs.Prelude.{Result, Ok, Err, IfOk, OnOk, IfSome, slice_get, option_map}
-use Rattle.std.proofs.lemmas.List.{length-map}
+use Rattle.std.proofs.lemmas.List.{length-map, take_all}
 use Rattle.std.proofs.lemmas.Option.{slice_get-map, slice_get_cases, get_or_from_slice_get}
 use Rattle.byte_io.specs.At.{Bytes}
 use Rattle.byte_io.specs.Inputs.{Give, CanRead, HasBytes}
@@ -180,6 +180,12 @@ refuses_reading known fault first reads named = record {
 -- an input within the inputs is within the files that they give
 pub given_inside : (known : Option (List (Result (List ℕ) InputFault))) (files : List (List ℕ)) (i : ℕ) → Give known files → IfSome known (λ each. i < length each) → i < length files
 given_inside known files i given inside = rw length-map at (rw given at inside)
+
+-- past the last input there is no other file
+pub take_given : (known : Option (List (Result (List ℕ) InputFault))) (files : List (List ℕ)) (i end : ℕ) → Give known files → IfSome known (λ each. end ≡ length each) → end ≤ i → take i files ≡ files
+take_given known files i end given count past =
+    let long : end ≡ length files = rw length-map at (rw given at count) in
+    take_all i files (omega (arith, long, past))
 
 -- the fault of a file is a fault at its position
 pub file_stops_at : {A : Type 0} (files : List (List ℕ)) (i : ℕ) (inner : PdbFault A) (outer : MergeFault A) → outer ≡ merge_from_add i (add_from_pdb inner)

@@ -36,6 +36,7 @@ fn out_fault<A: Allocator>(fault: WriteFault) -> OutFault<A>
 /// The faults, in order: `Memory`, when out of memory, and `Write`, where the sink did not take the
 /// whole file. After `Write` the sink is broken and took the first bytes of the file. After `Memory`
 /// it is unchanged.
+#[tactic(auto, unfolding(crate::specs::Merged::merged_file))]
 pub fn write_canon<W: Sink, A: Allocator + Copy>(
     alloc: A,
     canon: &Canon<A>,

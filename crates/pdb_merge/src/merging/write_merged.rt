@@ -1,10 +1,9 @@
 //! The file of a canonical list.
 
-ghost use Rattle.std.specs.Prelude.{◌≡◌, ◌≢◌, ◌⊎◌, ◌≤◌, true, length, OnOk, IfOk, IfErr};
+ghost use Rattle.std.specs.Prelude.{◌≡◌, ◌⊎◌, ◌≤◌, length, IfOk, IfErr};
 ghost use Rattle.std.specs.List.{concat};
-ghost use Rattle.std.specs.Io.KnownBytes.{Appends};
-ghost use Rattle.msf_streams.specs.Image.{Writable, image};
-ghost use Rattle.msf_streams.specs.Put.{AppendsPart};
+ghost use Rattle.msf_streams.specs.Image.{image};
+ghost use Rattle.msf_streams.specs.Write.{WritesImage};
 ghost use Rattle.pdb_info.specs.Settings.{AreSettings, record_limit};
 ghost use Rattle.tpi_records.specs.Written.{header_bytes};
 ghost use Rattle.pdb_merge.specs.Merged.{parts_contents, merged_contents, merged_file};
@@ -36,23 +35,10 @@ fn write_streams<'a, W: Sink, A: Allocator + Copy>(
     records: &'a [u8],
     out: &mut W,
 ) -> Result<u32, WriteFault>
-    ensures value { OnOk result (Appends (W.taken out.old) (W.taken out.new)
-        (image block_size (parts_contents info.now header.now records.now))) }
+    ensures image { WritesImage block_size (parts_contents info.now header.now records.now) W.taken
+        W.is_broken out.old out.new result }
     ensures len { IfOk result (λ len.
         len ≡ length (image block_size (parts_contents info.now header.now records.now))) }
-    ensures found { Writable block_size (parts_contents info.now header.now records.now) →
-        IfErr result (λ fault. (fault ≡ WriteFault.Memory) ⊎ (fault ≡ WriteFault.Write)) }
-    ensures image { IfErr result (λ fault.
-        fault ≡ WriteFault.Image →
-        Writable block_size (parts_contents info.now header.now records.now) → ⊥) }
-    ensures writable { (result ≡ Err WriteFault.Image)
-        ⊎ Writable block_size (parts_contents info.now header.now records.now) }
-    ensures write { IfErr result (λ fault.
-        fault ≡ WriteFault.Write →
-        (W.is_broken out.new ≡ true)
-        × AppendsPart (W.taken out.old) (W.taken out.new)
-        (image block_size (parts_contents info.now header.now records.now))) }
-    ensures untouched { IfErr result (λ fault. fault ≢ WriteFault.Write → out.new ≡ out.old) }
 {
     write_parts_len(
         alloc,
@@ -73,20 +59,12 @@ pub(crate) fn write_merged_len<W: Sink, A: Allocator + Copy>(
     out: &mut W,
 ) -> Result<u32, WriteFault>
     ensures settings { AreSettings settings.now }
-    ensures value { OnOk result
-        (Appends (W.taken out.old) (W.taken out.new) (merged_file settings.now canon.now)) }
+    // Every answer except `Image` comes only where there is such a file.
+    ensures image { WritesImage settings.now.block_size (merged_contents settings.now canon.now)
+        W.taken W.is_broken out.old out.new result }
     ensures len { IfOk result (λ len. len ≡ length (merged_file settings.now canon.now)) }
-    ensures image { IfErr result (λ fault.
-        fault ≡ WriteFault.Image →
-        Writable settings.now.block_size (merged_contents settings.now canon.now) → ⊥) }
     ensures found { length (concat canon.now) ≤ record_limit settings.now →
         IfErr result (λ fault. (fault ≡ WriteFault.Memory) ⊎ (fault ≡ WriteFault.Write)) }
-    // Every answer except `Image` comes only where there is such a file.
-    ensures writable { (result ≡ Err WriteFault.Image)
-        ⊎ Writable settings.now.block_size (merged_contents settings.now canon.now) }
-    ensures write { IfErr result (λ fault. fault ≡ WriteFault.Write → (W.is_broken out.new ≡ true)
-        × AppendsPart (W.taken out.old) (W.taken out.new) (merged_file settings.now canon.now)) }
-    ensures untouched { IfErr result (λ fault. fault ≢ WriteFault.Write → out.new ≡ out.old) }
 {
     let block_size = BlockSize::of(settings.block_size());
     let info = info_bytes(settings);
@@ -112,19 +90,11 @@ pub fn write_merged<W: Sink, A: Allocator + Copy>(
     settings: &Settings,
     out: &mut W,
 ) -> Result<(), WriteFault>
-    ensures value { OnOk result
-        (Appends (W.taken out.old) (W.taken out.new) (merged_file settings.now canon.now)) }
-    ensures image { IfErr result (λ fault.
-        fault ≡ WriteFault.Image →
-        Writable settings.now.block_size (merged_contents settings.now canon.now) → ⊥) }
+    // Every answer except `Image` comes only where there is such a file.
+    ensures image { WritesImage settings.now.block_size (merged_contents settings.now canon.now)
+        W.taken W.is_broken out.old out.new result }
     ensures found { length (concat canon.now) ≤ record_limit settings.now →
         IfErr result (λ fault. (fault ≡ WriteFault.Memory) ⊎ (fault ≡ WriteFault.Write)) }
-    // Every answer except `Image` comes only where there is such a file.
-    ensures writable { (result ≡ Err WriteFault.Image)
-        ⊎ Writable settings.now.block_size (merged_contents settings.now canon.now) }
-    ensures write { IfErr result (λ fault. fault ≡ WriteFault.Write → (W.is_broken out.new ≡ true)
-        × AppendsPart (W.taken out.old) (W.taken out.new) (merged_file settings.now canon.now)) }
-    ensures untouched { IfErr result (λ fault. fault ≢ WriteFault.Write → out.new ≡ out.old) }
 {
     write_merged_len(alloc, canon, settings, out)?;
     Ok(())

@@ -2,28 +2,16 @@ use Rattle.pdb_merge.specs.Merged.{type_stream, merged_file}
 use Rattle.pdb_merge.proofs.FitLaws.{merged_writable}
 use Rattle.pdb_merge.proofs.merging.write_merged.write_merged_len.Goals as goal
 
-pub returns-clause-value : goal.returns-clause-value
-unfolding merged_file type_stream
-returns-clause-value g c = rw (c.info_bytes-info.ensures.value, c.header_of-header.ensures, c.bytes.ensures, c.of-block_size.ensures, c.block_size.ensures.value) at c.write_streams.ensures.value
+pub returns-clause-image : goal.returns-clause-image
+unfolding type_stream
+returns-clause-image g c = rw (c.info_bytes-info.ensures.value, c.header_of-header.ensures, c.bytes.ensures, c.of-block_size.ensures, c.block_size.ensures.value) at c.write_streams.ensures.image
 
 pub returns-clause-len : goal.returns-clause-len
 unfolding merged_file type_stream
 returns-clause-len g c = rw (c.info_bytes-info.ensures.value, c.header_of-header.ensures, c.bytes.ensures, c.of-block_size.ensures, c.block_size.ensures.value) at c.write_streams.ensures.len
 
-pub returns-clause-image : goal.returns-clause-image
-unfolding type_stream
-returns-clause-image g c = rw (c.info_bytes-info.ensures.value, c.header_of-header.ensures, c.bytes.ensures, c.of-block_size.ensures, c.block_size.ensures.value) at c.write_streams.ensures.image
-
 pub returns-clause-found : goal.returns-clause-found
 unfolding type_stream
 returns-clause-found g c = λ few.
-    let found = rw (c.info_bytes-info.ensures.value, c.header_of-header.ensures, c.bytes.ensures, c.of-block_size.ensures, c.block_size.ensures.value) at c.write_streams.ensures.found in
-    found (merged_writable c.args.settings.now c.args.canon.now c.block_size.ensures.settings few)
-
-pub returns-clause-writable : goal.returns-clause-writable
-unfolding type_stream
-returns-clause-writable g c = rw (c.info_bytes-info.ensures.value, c.header_of-header.ensures, c.bytes.ensures, c.of-block_size.ensures, c.block_size.ensures.value) at c.write_streams.ensures.writable
-
-pub returns-clause-write : goal.returns-clause-write
-unfolding merged_file type_stream
-returns-clause-write g c = rw (c.info_bytes-info.ensures.value, c.header_of-header.ensures, c.bytes.ensures, c.of-block_size.ensures, c.block_size.ensures.value) at c.write_streams.ensures.write
+    let image = rw (c.info_bytes-info.ensures.value, c.header_of-header.ensures, c.bytes.ensures, c.of-block_size.ensures, c.block_size.ensures.value) at c.write_streams.ensures.image in
+    image.found (merged_writable c.args.settings.now c.args.canon.now c.block_size.ensures.settings few)
