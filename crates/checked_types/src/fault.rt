@@ -6,7 +6,7 @@ ghost use Rattle.checked_types.specs.Check.{IsOfRecord};
 ghost use Rattle.checked_types.specs.Fault.{type_number};
 
 use cv_leaves::LeafFault;
-use std::alloc::{AllocError, AllocFailed, Allocator, Global};
+use std::alloc::{AllocError, Allocator, Global};
 use std::fmt;
 use thiserror::Error;
 
@@ -84,14 +84,6 @@ impl<A: Allocator> From<AllocError> for TypeFault<A> {
     ghost from_gives = { λ _ fault. fault ≡ Memory };
 
     fn from(_error: AllocError) -> TypeFault<A> {
-        TypeFault::Memory
-    }
-}
-
-impl<T: Drop, A: Allocator> From<AllocFailed<T>> for TypeFault<A> {
-    ghost from_gives = { λ _ fault. fault ≡ Memory };
-
-    fn from(_error: AllocFailed<T>) -> TypeFault<A> {
         TypeFault::Memory
     }
 }

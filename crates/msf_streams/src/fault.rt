@@ -7,7 +7,7 @@ ghost use Rattle.msf_streams.specs.Fault.{stream_number};
 ghost use Rattle.msf_streams.specs.Fault.{write_number};
 
 use byte_io::NotTaken;
-use std::alloc::{AllocError, AllocFailed};
+use std::alloc::AllocError;
 use thiserror::Error;
 
 /// Why a stream is not gathered. The faults are checked in the order of the variants.
@@ -37,14 +37,6 @@ impl From<AllocError> for StreamFault {
     ghost from_gives = { λ _ fault. fault ≡ Memory };
 
     fn from(_error: AllocError) -> StreamFault {
-        StreamFault::Memory
-    }
-}
-
-impl<T: Drop> From<AllocFailed<T>> for StreamFault {
-    ghost from_gives = { λ _ fault. fault ≡ Memory };
-
-    fn from(_error: AllocFailed<T>) -> StreamFault {
         StreamFault::Memory
     }
 }

@@ -4,7 +4,7 @@ ghost use Rattle.std.specs.Prelude.{◌≡◌};
 ghost use Rattle.pdb_info.specs.declared.fault.InfoFault.TheVariants.{Memory};
 ghost use Rattle.pdb_info.specs.Fault.{info_number};
 
-use std::alloc::{AllocError, AllocFailed};
+use std::alloc::AllocError;
 use thiserror::Error;
 
 /// The first check that an info stream fails. The checks are made in the order of the fields.
@@ -48,14 +48,6 @@ impl From<AllocError> for InfoFault {
     ghost from_gives = { λ _ fault. fault ≡ Memory };
 
     fn from(_error: AllocError) -> InfoFault {
-        InfoFault::Memory
-    }
-}
-
-impl<T: Drop> From<AllocFailed<T>> for InfoFault {
-    ghost from_gives = { λ _ fault. fault ≡ Memory };
-
-    fn from(_error: AllocFailed<T>) -> InfoFault {
         InfoFault::Memory
     }
 }

@@ -1,17 +1,16 @@
 //! Streams with their names, and the feature codes after them.
 
-ghost use Rattle.std.specs.Prelude.{◌≡◌, ◌+◌, ◌-◌, ◌*◌, ◌^◌, ◌≤◌, true, length, map, min, sum_by, IfOk, IfErr, None};
+ghost use Rattle.std.specs.Prelude.{◌≡◌, ◌+◌, ◌-◌, ◌*◌, ◌^◌, ◌≤◌, true, length, map, min, sum_by, IfOk, None};
 ghost use Rattle.byte_fields.specs.Number.{number_at};
 ghost use Rattle.byte_fields.specs.Check.{first_failing, checks_below};
 ghost use Rattle.pdb_info.specs.Names.{IsMap, is_named, named_in, pair_at, pair_checks, pair_offset, pairs_offset, names_below, size_of, buffer_of, features_of, features_offset};
 ghost use Rattle.pdb_info.specs.Ends.{AreEnds};
 ghost use Rattle.pdb_info.specs.Name.{named};
 
-use crate::fault::InfoFault;
 use crate::map::NameMap;
 use crate::name_ends::{between, end_at, ends_of};
 use byte_fields::u32_at;
-use std::alloc::Allocator;
+use std::alloc::{AllocError, Allocator};
 
 /// A stream with its name, which is lent from the info stream. ("The PDB Info Stream", "Named
 /// Stream Map".)
@@ -64,14 +63,13 @@ impl NameMap {
         &self,
         alloc: A,
         stream: &'a [u8],
-    ) -> Result<Vec<Name<'a>, A>, InfoFault>
+    ) -> Result<Vec<Name<'a>, A>, AllocError>
         requires map { IsMap stream.now self.now }
         requires inside { pairs_offset stream.now + 8 * size_of stream.now ≤ length stream.now }
         requires held { first_failing (checks_below (size_of stream.now) (pair_checks stream.now))
             ≡ None }
         ensures value { IfOk result (λ names.
             map named names.items ≡ names_below stream.now (size_of stream.now)) }
-        ensures memory { IfErr result (λ fault. fault ≡ InfoFault.Memory) }
     {
         let ends = ends_of(alloc, self.buffer(stream))?;
         let mut names = Vec::with_capacity(alloc, self.size as usize)?;
@@ -103,11 +101,10 @@ impl NameMap {
         &self,
         alloc: A,
         stream: &[u8],
-    ) -> Result<Vec<u32, A>, InfoFault>
+    ) -> Result<Vec<u32, A>, AllocError>
         requires map { IsMap stream.now self.now }
         requires inside { pairs_offset stream.now + 8 * size_of stream.now ≤ length stream.now }
         ensures value { IfOk result (λ features. features.items ≡ features_of stream.now) }
-        ensures memory { IfErr result (λ fault. fault ≡ InfoFault.Memory) }
     {
         let start = self.features_offset(stream);
         let count = (stream.len() - start) / 4;

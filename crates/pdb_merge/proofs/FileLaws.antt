@@ -19,7 +19,7 @@ use Rattle.pdb_merge.proofs.ReadBackLaws.{IsBack, is_back}
 use Rattle.type_table.proofs.CanonTableLaws.{canon_same}
 use Rattle.msf_streams.specs.Put.{AppendsPart}
 use Rattle.file_types.proofs.ReadLaws.{one_list}
-use Rattle.pdb_merge.specs.Merged.{merged_file, IsFileOf, Merged, WroteFile, Wrote, WrotePart}
+use Rattle.pdb_merge.specs.Merged.{merged_file, IsFileOf, Merged, WroteFile, WroteAs, WrotePartAs}
 use Rattle.pdb_merge.specs.declared.fault.OutFault.{OutFault}
 use Rattle.pdb_merge.specs.declared.fault.OutFault.TheVariants as outs
 use Rattle.pdb_merge.specs.declared.summary.Summary.{Summary}
@@ -116,31 +116,31 @@ canon_weighs : (P : Tree → Type 0) (records : List (List ℕ)) (bytes : ℕ) �
 canon_weighs P records bytes (l, canonical, are, members) is =
     (l, record { distinct = canonical.distinct; members = members }, sym (is ∙ ap (λ (x : List (List ℕ)). length (concat x)) are ∙ weight_of_texts l canonical))
 
-pub wrote : {E : Type 0} (files : List (List ℕ)) (settings : SettingsView) (records : List (List ℕ)) (old new : Option (List ℕ)) (answer : Result Summary E)
-    → AreSettings settings → Within (HasType files) (record_limit settings) → IsCanonOf records (HasType files)
-    → IfOk answer (WroteFile records settings old new) → IfOk answer (Wrote files settings old new)
-wrote files settings records old new (Ok summary) are within canon did = record {
+wrote : {E : Type 0} (IsFile : List ℕ → List (List ℕ) → Type 0) (files : List (List ℕ)) (settings : SettingsView) (records : List (List ℕ)) (old new : Option (List ℕ)) (answer : Result Summary E)
+    → IsFile (merged_file settings records) records → IsCanonOf records (HasType files)
+    → IfOk answer (WroteFile records settings old new) → IfOk answer (WroteAs IsFile files old new)
+wrote IsFile files settings records old new (Ok summary) is canon did = record {
   file = merged_file settings records;
   records = records;
   taken = did.taken;
-  is_file = is_file files settings records are within canon;
+  is_file = is;
   types = did.types;
   bytes = canon_weighs (HasType files) records summary.bytes canon did.bytes;
   long = did.long;
 }
-wrote files settings records old new (Err fault) are within canon did = tt
+wrote IsFile files settings records old new (Err fault) is canon did = tt
 
-pub wrote_part : {A E : Type 0} (files : List (List ℕ)) (settings : SettingsView) (records : List (List ℕ)) (old new : Option (List ℕ)) (e : E) (answer : Result A E)
-    → AreSettings settings → Within (HasType files) (record_limit settings) → IsCanonOf records (HasType files)
-    → IfErr answer (λ fault. fault ≡ e → AppendsPart old new (merged_file settings records)) → IfErr answer (λ fault. fault ≡ e → WrotePart files settings old new)
-wrote_part files settings records old new e (Ok done) are within canon part = tt
-wrote_part files settings records old new e (Err fault) are within canon part = λ is.
-    record { file = merged_file settings records; records = records; taken = part is; is_file = is_file files settings records are within canon }
+wrote_part : {A E : Type 0} (IsFile : List ℕ → List (List ℕ) → Type 0) (settings : SettingsView) (records : List (List ℕ)) (old new : Option (List ℕ)) (e : E) (answer : Result A E)
+    → IsFile (merged_file settings records) records
+    → IfErr answer (λ fault. fault ≡ e → AppendsPart old new (merged_file settings records)) → IfErr answer (λ fault. fault ≡ e → WrotePartAs IsFile old new)
+wrote_part IsFile settings records old new e (Ok done) is part = tt
+wrote_part IsFile settings records old new e (Err fault) is part = λ same.
+    record { file = merged_file settings records; records = records; taken = part same; is_file = is }
 
 -- ---- the answer of a merge whose files were accepted
 
 -- the answer of writing is that of the merge
-pub merges_to : {A W : Type 0} (known : Option (List (Result (List ℕ) InputFault))) (limit : ℕ)
+merges_to : {A W : Type 0} (known : Option (List (Result (List ℕ) InputFault))) (limit : ℕ)
     (wrote : List (List ℕ) → Writes) (part : List (List ℕ) → WritesPart)
     (taken : W → Option (List ℕ)) (is_broken : W → Bool) (before after : W)
     (result : Result Summary (OutFault A)) → AcceptsFiles known limit
@@ -172,22 +172,22 @@ merges_to known limit wrote part taken is_broken before after (Err fault) accept
 }
 
 -- where the file of the list of their types was written, the merge answers so
-pub merges : {A W : Type 0} (known : Option (List (Result (List ℕ) InputFault)))
-    (settings : SettingsView) (records : List (List ℕ)) (taken : W → Option (List ℕ))
-    (is_broken : W → Bool) (before after : W) (result : Result Summary (OutFault A))
+pub merges_as : {A W : Type 0} (known : Option (List (Result (List ℕ) InputFault))) (limit : ℕ)
+    (IsFile : List (List ℕ) → List ℕ → List (List ℕ) → Type 0) (settings : SettingsView)
+    (records : List (List ℕ)) (taken : W → Option (List ℕ)) (is_broken : W → Bool)
+    (before after : W) (result : Result Summary (OutFault A))
     → IfOk result (WroteFile records settings (taken before) (taken after))
-    → AcceptsFiles known (record_limit settings)
+    → AcceptsFiles known limit
     → ((given : List (List ℕ)) → Give known given → IsCanonOf records (HasType given))
-    → AreSettings settings
+    → ((given : List (List ℕ)) → Give known given → IsFile given (merged_file settings records) records)
     → IfErr result (λ fault. (fault ≡ outs.Memory) ⊎ (fault ≡ outs.Write))
     → IfErr result (λ fault. fault ≡ outs.Write → is_broken after ≡ true)
     → IfErr result (λ fault. fault ≡ outs.Write
     → AppendsPart (taken before) (taken after) (merged_file settings records))
     → IfErr result (λ fault. fault ≢ outs.Write → after ≡ before)
-    → MergesTo known (record_limit settings) (λ given. Wrote given settings)
-    (λ given. WrotePart given settings) taken is_broken before after result
-merges known settings records taken is_broken before after result value accepts canon are fault broken write untouched =
-    merges_to known (record_limit settings) (λ given. Wrote given settings) (λ given. WrotePart given settings) taken is_broken before after result accepts
-    (λ given is. wrote given settings records (taken before) (taken after) result are (accepts.can given is).within (canon given is) value)
-    (λ given is. wrote_part given settings records (taken before) (taken after) outs.Write result are (accepts.can given is).within (canon given is) write)
+    → MergesTo known limit (λ given. WroteAs (IsFile given) given) (λ given. WrotePartAs (IsFile given)) taken is_broken before after result
+merges_as known limit IsFile settings records taken is_broken before after result value accepts canon file fault broken write untouched =
+    merges_to known limit (λ given. WroteAs (IsFile given) given) (λ given. WrotePartAs (IsFile given)) taken is_broken before after result accepts
+    (λ given gives. wrote (IsFile given) given settings records (taken before) (taken after) result (file given gives) (canon given gives) value)
+    (λ given gives. wrote_part (IsFile given) settings records (taken before) (taken after) outs.Write result (file given gives) write)
     fault broken untouched

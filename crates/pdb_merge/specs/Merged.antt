@@ -82,22 +82,31 @@ pub record WroteFile (records : List (List ℕ)) (settings : SettingsView) (old 
   pub bytes : summary.bytes ≡ length (concat records)
   pub long : summary.length ≡ length (merged_file settings records)
 
--- a sink took the file of the types of some files, and the summary says how many types it has, how
--- many bytes they have together, and how long the file is
-pub record Wrote (files : List (List ℕ)) (settings : SettingsView) (old new : Option (List ℕ))
-    (summary : Summary) : Type 0 where
+-- a sink took the file of the types of some files, which is as `IsFile` has it, and the summary says
+-- how many types it has, how many bytes they have together, and how long the file is
+pub record WroteAs (IsFile : List ℕ → List (List ℕ) → Type 0) (files : List (List ℕ))
+    (old new : Option (List ℕ)) (summary : Summary) : Type 0 where
   pub file : List ℕ
   pub records : List (List ℕ)
   pub taken : Appends old new file
-  pub is_file : IsFileOf files settings file records
+  pub is_file : IsFile file records
   pub types : summary.types ≡ length records
   pub bytes : Weighs (HasType files) summary.bytes
   pub long : summary.length ≡ length file
 
--- a sink took the first bytes of that file, but not all of them
-pub record WrotePart (files : List (List ℕ)) (settings : SettingsView) (old new : Option (List ℕ))
+-- a sink took the first bytes of such a file, but not all of them
+pub record WrotePartAs (IsFile : List ℕ → List (List ℕ) → Type 0) (old new : Option (List ℕ))
     : Type 0 where
   pub file : List ℕ
   pub records : List (List ℕ)
   pub taken : AppendsPart old new file
-  pub is_file : IsFileOf files settings file records
+  pub is_file : IsFile file records
+
+-- a sink took the file of the types of some files
+abbrev pub Wrote : List (List ℕ) → SettingsView → Option (List ℕ) → Option (List ℕ) → Summary
+    → Type 0
+Wrote files settings old new summary = WroteAs (IsFileOf files settings) files old new summary
+
+-- a sink took the first bytes of that file, but not all of them
+abbrev pub WrotePart : List (List ℕ) → SettingsView → Option (List ℕ) → Option (List ℕ) → Type 0
+WrotePart files settings old new = WrotePartAs (IsFileOf files settings) old new

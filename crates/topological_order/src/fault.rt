@@ -3,7 +3,7 @@
 ghost use Rattle.std.specs.Prelude.{◌≡◌};
 ghost use Rattle.topological_order.specs.declared.fault.OrderFault.TheVariants.{Memory};
 
-use std::alloc::{AllocError, AllocFailed, Allocator, Global};
+use std::alloc::{AllocError, Allocator, Global};
 use thiserror::Error;
 
 /// Why there is no topological order.
@@ -22,14 +22,6 @@ impl<A: Allocator> From<AllocError> for OrderFault<A> {
     ghost from_gives = { λ _ fault. fault ≡ Memory };
 
     fn from(_error: AllocError) -> OrderFault<A> {
-        OrderFault::Memory
-    }
-}
-
-impl<T: Drop, A: Allocator> From<AllocFailed<T>> for OrderFault<A> {
-    ghost from_gives = { λ _ fault. fault ≡ Memory };
-
-    fn from(_error: AllocFailed<T>) -> OrderFault<A> {
         OrderFault::Memory
     }
 }

@@ -4,7 +4,7 @@ ghost use Rattle.std.specs.Prelude.{◌≡◌};
 ghost use Rattle.tpi_records.specs.declared.fault.TpiFault.TheVariants.{Memory};
 ghost use Rattle.tpi_records.specs.Fault.{tpi_number};
 
-use std::alloc::{AllocError, AllocFailed};
+use std::alloc::AllocError;
 use thiserror::Error;
 
 /// The first check that a TPI stream fails.
@@ -70,14 +70,6 @@ impl From<AllocError> for TpiFault {
     ghost from_gives = { λ _ fault. fault ≡ Memory };
 
     fn from(_error: AllocError) -> TpiFault {
-        TpiFault::Memory
-    }
-}
-
-impl<T: Drop> From<AllocFailed<T>> for TpiFault {
-    ghost from_gives = { λ _ fault. fault ≡ Memory };
-
-    fn from(_error: AllocFailed<T>) -> TpiFault {
         TpiFault::Memory
     }
 }

@@ -4,7 +4,7 @@ ghost use Rattle.std.specs.Prelude.{◌≡◌};
 ghost use Rattle.type_table.specs.declared.fault.JoinFault.TheVariants as join;
 ghost use Rattle.type_table.specs.Fault.{join_number};
 
-use std::alloc::{AllocError, AllocFailed};
+use std::alloc::AllocError;
 use thiserror::Error;
 
 /// Why types are not joined.
@@ -37,14 +37,6 @@ impl From<AllocError> for JoinFault {
     ghost from_gives = { λ _ fault. fault ≡ join.Memory };
 
     fn from(_error: AllocError) -> JoinFault {
-        JoinFault::Memory
-    }
-}
-
-impl<T: Drop> From<AllocFailed<T>> for JoinFault {
-    ghost from_gives = { λ _ fault. fault ≡ join.Memory };
-
-    fn from(_error: AllocFailed<T>) -> JoinFault {
         JoinFault::Memory
     }
 }

@@ -1,12 +1,10 @@
 -- Merges whose GUID is made of the types.
-use Rattle.std.specs.Prelude.{ℕ, ◌≡◌, List, Option, length}
-use Rattle.std.specs.Io.KnownBytes.{Appends}
-use Rattle.msf_streams.specs.Put.{AppendsPart}
+use Rattle.std.specs.Prelude.{ℕ, ◌≡◌, List, Option}
 use Rattle.pdb_info.specs.Settings.{SettingsView}
 use Rattle.closed_trees.specs.Tree.{Tree}
 use Rattle.canonical_list.specs.Finish.{IsCanonOf}
-use Rattle.pdb_merge.specs.Union.{HasType, SameTypes, Weighs}
-use Rattle.pdb_merge.specs.Merged.{merged_file, IsFileOf}
+use Rattle.pdb_merge.specs.Union.{HasType, SameTypes}
+use Rattle.pdb_merge.specs.Merged.{merged_file, IsFileOf, WroteAs, WrotePartAs}
 use Rattle.pdb_merge.specs.declared.summary.Summary.{Summary}
 use Rattle.types_guid.specs.Guid.{named}
 
@@ -33,22 +31,13 @@ pub record IsFileByTypes (files : List (List ℕ)) (settings : SettingsView) (fi
   -- the same types give the same GUID and the same bytes
   pub same : IsSameByTypes files settings file
 
--- a sink took this file, and the summary says how many types it has,
--- how many bytes they have together, and how long the file is
-pub record WroteByTypes (files : List (List ℕ)) (settings : SettingsView)
-    (old new : Option (List ℕ)) (summary : Summary) : Type 0 where
-  pub file : List ℕ
-  pub records : List (List ℕ)
-  pub taken : Appends old new file
-  pub is_file : IsFileByTypes files settings file records
-  pub types : summary.types ≡ length records
-  pub bytes : Weighs (HasType files) summary.bytes
-  pub long : summary.length ≡ length file
+-- a sink took this file
+abbrev pub WroteByTypes : List (List ℕ) → SettingsView → Option (List ℕ) → Option (List ℕ) → Summary
+    → Type 0
+WroteByTypes files settings old new summary =
+    WroteAs (IsFileByTypes files settings) files old new summary
 
--- a sink took the first bytes of that file, but not all of them
-pub record WrotePartByTypes (files : List (List ℕ)) (settings : SettingsView)
-    (old new : Option (List ℕ)) : Type 0 where
-  pub file : List ℕ
-  pub records : List (List ℕ)
-  pub taken : AppendsPart old new file
-  pub is_file : IsFileByTypes files settings file records
+-- a sink took the first bytes of this file, but not all of them
+abbrev pub WrotePartByTypes : List (List ℕ) → SettingsView → Option (List ℕ) → Option (List ℕ)
+    → Type 0
+WrotePartByTypes files settings old new = WrotePartAs (IsFileByTypes files settings) old new
