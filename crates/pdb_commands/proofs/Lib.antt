@@ -2,5 +2,4 @@ pub mod DifferenceLaws
 pub mod InfoLaws
 pub mod MergeLaws
 pub mod ShowLaws
-pub mod ShownLaws
 pub mod TypesLaws
