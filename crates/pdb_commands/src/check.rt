@@ -8,9 +8,9 @@ ghost use Rattle.pdb_commands.specs.Check.{ShowsChecked, ShowsCheckedRead, Refus
 ghost use Rattle.pdb_commands.specs.Show.{Answers};
 ghost use Rattle.file_types.specs.Read.{TypesWereRead};
 
-use crate::command::{Show, run};
+use crate::command::{Show, Text, run};
 use crate::fault::RunFault;
-use byte_io::{AtFault, ReadAt, Sink, Source};
+use byte_io::{ReadAt, Sink, Source};
 use checked_types::Types;
 use command_texts::push_checked;
 use file_types::{Buffer, read_types_of};
@@ -47,12 +47,7 @@ impl<A: Allocator + Copy> Show<A> for ShowCheck {
 
     ghost refuses_read = { λ _. RefusesCheckRead };
 
-    fn text_of<R: ReadAt>(
-        &self,
-        alloc: A,
-        input: &mut R,
-        layout: &Layout<A>,
-    ) -> Result<String<A>, AtFault<RunFault<A>>> {
+    fn text_of<R: ReadAt>(&self, alloc: A, input: &mut R, layout: &Layout<A>) -> Text<A> {
         let mut buffer = Buffer::new(alloc);
         let types = match read_types_of(alloc, input, layout, &mut buffer) {
             Ok(types) => types,

@@ -13,6 +13,9 @@ use file_types::PdbFault;
 use msf_blocks::{Layout, WithinFault};
 use std::alloc::Allocator;
 
+/// The text of a command, or why there is none.
+pub type Text<A> = Result<String<A>, AtFault<RunFault<A>>>;
+
 /// A command that shows a file, and reads by position only the parts of it that it needs.
 pub trait Show<A: Allocator + Copy> {
     ghost use Rattle.msf_blocks.specs.Layout.{LayoutView};
@@ -31,12 +34,7 @@ pub trait Show<A: Allocator + Copy> {
     ghost refuses_read: { Self → Bytes → LayoutView → RunFault A → Type 0 };
 
     /// Makes the whole text of a file with this layout.
-    fn text_of<R: ReadAt>(
-        &self,
-        alloc: A,
-        input: &mut R,
-        layout: &Layout<A>,
-    ) -> Result<String<A>, AtFault<RunFault<A>>>
+    fn text_of<R: ReadAt>(&self, alloc: A, input: &mut R, layout: &Layout<A>) -> Text<A>
         requires bytes { IfKnown (R.bytes input.old) AreBytes }
         requires layout { IfKnown (R.bytes input.old) (λ file.
             HasLayout file layout.now) }
@@ -65,7 +63,7 @@ fn text_at<C: Show<A>, R: ReadAt, A: Allocator + Copy>(
     command: &C,
     input: &mut R,
     limit: u32,
-) -> Result<String<A>, AtFault<RunFault<A>>>
+) -> Text<A>
     ensures value { IfOk result (λ text. IfKnown (R.bytes input.old) (λ file.
         ShowsBounded limit (C.shows command.now) file (string_bytes text))) }
     ensures texts { IfOk result (λ text.

@@ -8,7 +8,7 @@ ghost use Rattle.pdb_commands.specs.Known.{info_shown, info_refused};
 ghost use Rattle.pdb_commands.specs.Show.{Answers};
 ghost use Rattle.pdb_commands.specs.Info.{ShowsInfo, ShowsInfoRead, ShowsInfoWithin, RefusesInfo, RefusesInfoRead, RefusesInfoWithin, HasLongNames, HasNoInfoStreamRead, HasShortNames, IsInfoFault, IsInfoText};
 
-use crate::command::{Show, run};
+use crate::command::{Show, Text, run};
 use crate::fault::RunFault;
 use byte_io::{AtFault, ReadAt, Sink, Source};
 use command_texts::{push_features, push_info_header, push_names};
@@ -94,12 +94,7 @@ impl<A: Allocator + Copy> Show<A> for ShowInfo {
 
     ghost refuses_read = { λ c. RefusesInfoRead c.limit };
 
-    fn text_of<R: ReadAt>(
-        &self,
-        alloc: A,
-        input: &mut R,
-        layout: &Layout<A>,
-    ) -> Result<String<A>, AtFault<RunFault<A>>> {
+    fn text_of<R: ReadAt>(&self, alloc: A, input: &mut R, layout: &Layout<A>) -> Text<A> {
         let mut buffer = Vec::new(alloc);
         if let Err(fault) = stream_bytes_of(input, layout, &mut buffer) {
             return Err(fault.widen());

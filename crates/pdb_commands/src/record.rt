@@ -8,7 +8,7 @@ ghost use Rattle.pdb_commands.specs.Record.{ShowsRecord, ShowsRecordRead, Refuse
 ghost use Rattle.pdb_commands.specs.Show.{Answers, IsOfText};
 ghost use Rattle.file_types.specs.Read.{RecordsWereRead};
 
-use crate::command::{Show, run};
+use crate::command::{Show, Text, run};
 use crate::fault::RunFault;
 use byte_io::{AtFault, ReadAt, Sink, Source};
 use command_texts::record_text;
@@ -66,12 +66,7 @@ impl<A: Allocator + Copy> Show<A> for ShowRecord {
 
     ghost refuses_read = { λ c. RefusesRecordRead c.index };
 
-    fn text_of<R: ReadAt>(
-        &self,
-        alloc: A,
-        input: &mut R,
-        layout: &Layout<A>,
-    ) -> Result<String<A>, AtFault<RunFault<A>>> {
+    fn text_of<R: ReadAt>(&self, alloc: A, input: &mut R, layout: &Layout<A>) -> Text<A> {
         let mut buffer = Buffer::new(alloc);
         let records = match read_records_of(alloc, input, layout, &mut buffer) {
             Ok(records) => records,

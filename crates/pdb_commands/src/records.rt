@@ -4,7 +4,7 @@ ghost use Rattle.pdb_commands.specs.Known.{records_shown, records_refused};
 ghost use Rattle.pdb_commands.specs.Records.{ShowsRecords, ShowsRecordsRead, RefusesRecords, RefusesRecordsRead};
 ghost use Rattle.pdb_commands.specs.Show.{Answers};
 
-use crate::command::{Show, run};
+use crate::command::{Show, Text, run};
 use crate::fault::RunFault;
 use byte_io::{AtFault, ReadAt, Sink, Source};
 use command_texts::record_lines;
@@ -25,12 +25,7 @@ impl<A: Allocator + Copy> Show<A> for ShowRecords {
 
     ghost refuses_read = { λ _. RefusesRecordsRead };
 
-    fn text_of<R: ReadAt>(
-        &self,
-        alloc: A,
-        input: &mut R,
-        layout: &Layout<A>,
-    ) -> Result<String<A>, AtFault<RunFault<A>>> {
+    fn text_of<R: ReadAt>(&self, alloc: A, input: &mut R, layout: &Layout<A>) -> Text<A> {
         let mut buffer = Buffer::new(alloc);
         let records = match read_records_of(alloc, input, layout, &mut buffer) {
             Ok(records) => records,

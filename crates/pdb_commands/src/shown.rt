@@ -9,14 +9,14 @@ ghost use Rattle.pdb_commands.specs.Show.{Answers, AnswersAt, IsByPosition, IsBy
 ghost use Rattle.pdb_commands.specs.Shown.{ListsTooLong, RefusesItRead, RefusesWithin, RefusesWithinRead, ShowsItRead, ShowsWithin, ShowsWithinRead, stream_of};
 
 use crate::check::ShowCheck;
-use crate::command::{Show, run_at, run_bounded};
+use crate::command::{Show, Text, run_at, run_bounded};
 use crate::fault::RunFault;
 use crate::info::ShowInfo;
 use crate::record::ShowRecord;
 use crate::records::ShowRecords;
 use crate::streams::ShowStreams;
 use crate::types::ShowTypes;
-use byte_io::{AtFault, ReadAt, ReadFault, Sink, Source};
+use byte_io::{ReadAt, ReadFault, Sink, Source};
 use msf_blocks::Layout;
 use pdb_info::INFO_STREAM;
 use std::alloc::Allocator;
@@ -82,7 +82,7 @@ impl Within {
         alloc: A,
         input: &mut R,
         layout: &Layout<A>,
-    ) -> Result<String<A>, AtFault<RunFault<A>>>
+    ) -> Text<A>
         requires bytes { IfKnown (R.bytes input.old) AreBytes }
         requires layout { IfKnown (R.bytes input.old) (λ file.
             HasLayout file layout.now) }
@@ -115,12 +115,7 @@ impl<A: Allocator + Copy> Show<A> for Within {
 
     ghost refuses_read = { λ c. RefusesWithinRead c.command c.limit };
 
-    fn text_of<R: ReadAt>(
-        &self,
-        alloc: A,
-        input: &mut R,
-        layout: &Layout<A>,
-    ) -> Result<String<A>, AtFault<RunFault<A>>> {
+    fn text_of<R: ReadAt>(&self, alloc: A, input: &mut R, layout: &Layout<A>) -> Text<A> {
         self.check_layout(layout)?;
         self.checked_text(alloc, input, layout)
     }

@@ -4,7 +4,7 @@ ghost use Rattle.pdb_commands.specs.Known.{streams_refused, streams_shown};
 ghost use Rattle.pdb_commands.specs.Show.{Answers};
 ghost use Rattle.pdb_commands.specs.Streams.{RefusesStreams, RefusesStreamsRead, ShowsStreams, ShowsStreamsRead};
 
-use crate::command::{Show, run};
+use crate::command::{Show, Text, run};
 use crate::fault::RunFault;
 use byte_io::{AtFault, ReadAt, Sink, Source};
 use command_texts::layout_text;
@@ -24,12 +24,7 @@ impl<A: Allocator + Copy> Show<A> for ShowStreams {
 
     ghost refuses_read = { λ _. RefusesStreamsRead };
 
-    fn text_of<R: ReadAt>(
-        &self,
-        alloc: A,
-        input: &mut R,
-        layout: &Layout<A>,
-    ) -> Result<String<A>, AtFault<RunFault<A>>> {
+    fn text_of<R: ReadAt>(&self, alloc: A, input: &mut R, layout: &Layout<A>) -> Text<A> {
         let superblock = layout.superblock();
         let mut map_block = Vec::new(alloc);
         if map_block

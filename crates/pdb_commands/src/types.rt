@@ -11,7 +11,7 @@ ghost use Rattle.pdb_commands.specs.Show.{Answers};
 ghost use Rattle.pdb_commands.specs.Types.{ShowsTypes, ShowsTypesRead, RefusesTypes, RefusesTypesRead, AreTypeLines, HasLeafFault};
 ghost use Rattle.command_texts.specs.Types.{type_line};
 
-use crate::command::{Show, run};
+use crate::command::{Show, Text, run};
 use crate::fault::RunFault;
 use byte_io::{AtFault, ReadAt, Sink, Source};
 use command_texts::push_type_line;
@@ -76,21 +76,10 @@ impl<A: Allocator + Copy> Show<A> for ShowTypes {
 
     ghost refuses_read = { λ _. RefusesTypesRead };
 
-    fn text_of<R: ReadAt>(
-        &self,
-        alloc: A,
-        input: &mut R,
-        layout: &Layout<A>,
-    ) -> Result<String<A>, AtFault<RunFault<A>>> {
+    fn text_of<R: ReadAt>(&self, alloc: A, input: &mut R, layout: &Layout<A>) -> Text<A> {
         let mut buffer = Buffer::new(alloc);
-        let records = match read_records_of(alloc, input, layout, &mut buffer) {
-            Ok(records) => records,
-            Err(fault) => return Err(fault.widen()),
-        };
-        match type_lines(alloc, &records) {
-            Ok(text) => Ok(text),
-            Err(fault) => Err(AtFault::Of(fault)),
-        }
+        let records = read_records_of(alloc, input, layout, &mut buffer).map_err(AtFault::widen)?;
+        Ok(type_lines(alloc, &records)?)
     }
 
     ghost shows_known = { λ _. types_shown };
