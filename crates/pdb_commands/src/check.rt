@@ -10,7 +10,7 @@ ghost use Rattle.file_types.specs.Read.{TypesWereRead};
 
 use crate::command::{Show, Text, run};
 use crate::fault::RunFault;
-use byte_io::{ReadAt, Sink, Source};
+use byte_io::{AtFault, ReadAt, Sink, Source};
 use checked_types::Types;
 use command_texts::push_checked;
 use file_types::{Buffer, read_types_of};
@@ -49,10 +49,7 @@ impl<A: Allocator + Copy> Show<A> for ShowCheck {
 
     fn text_of<R: ReadAt>(&self, alloc: A, input: &mut R, layout: &Layout<A>) -> Text<A> {
         let mut buffer = Buffer::new(alloc);
-        let types = match read_types_of(alloc, input, layout, &mut buffer) {
-            Ok(types) => types,
-            Err(fault) => return Err(fault.widen()),
-        };
+        let types = read_types_of(alloc, input, layout, &mut buffer).map_err(AtFault::widen)?;
         Ok(types_text(alloc, &types)?)
     }
 

@@ -27,10 +27,7 @@ impl<A: Allocator + Copy> Show<A> for ShowRecords {
 
     fn text_of<R: ReadAt>(&self, alloc: A, input: &mut R, layout: &Layout<A>) -> Text<A> {
         let mut buffer = Buffer::new(alloc);
-        let records = match read_records_of(alloc, input, layout, &mut buffer) {
-            Ok(records) => records,
-            Err(fault) => return Err(fault.widen()),
-        };
+        let records = read_records_of(alloc, input, layout, &mut buffer).map_err(AtFault::widen)?;
         match record_lines(alloc, &records) {
             Ok(text) => Ok(text),
             Err(_) => Err(AtFault::Of(RunFault::Memory)),
