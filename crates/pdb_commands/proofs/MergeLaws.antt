@@ -10,8 +10,7 @@ use Rattle.pdb_merge.specs.declared.fault.OutFault.TheVariants as outs
 use Rattle.pdb_merge.specs.Fault.{NamesFault}
 use Rattle.pdb_commands.specs.Fault.{run_from_out}
 use Rattle.pdb_commands.specs.Merge.{IsOfMerging, MergesInto}
-use Rattle.pdb_commands.specs.declared.fault.RunFault.{RunFault}
-use Rattle.pdb_commands.specs.declared.fault.RunFault.TheVariants.{Merge, Memory, Write}
+use Rattle.pdb_commands.specs.declared.fault.RunFault.TheVariants.{Merge, Write}
 
 one_inside : {A : Type 0} (a b : MergeFault A) → Merge a ≡ Merge b → a ≡ b
 one_inside a b same = cc
