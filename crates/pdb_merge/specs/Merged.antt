@@ -82,7 +82,7 @@ pub record WroteFile (records : List (List ℕ)) (settings : SettingsView) (old 
   pub bytes : summary.bytes ≡ length (concat records)
   pub long : summary.length ≡ length (merged_file settings records)
 
--- a sink took the file of the types of some files, which is as `IsFile` has it, and the summary says
+-- a sink took the file of the types of some files, of which `IsFile` holds, and the summary says
 -- how many types it has, how many bytes they have together, and how long the file is
 pub record WroteAs (IsFile : List ℕ → List (List ℕ) → Type 0) (files : List (List ℕ))
     (old new : Option (List ℕ)) (summary : Summary) : Type 0 where
