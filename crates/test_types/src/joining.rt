@@ -19,18 +19,6 @@ use type_table::{Canon, CanonRecords, JoinFault, Table};
 /// A limit that no test reaches.
 const LIMIT: u32 = 1000;
 
-/// A list that has these types too.
-fn with_types<A: Allocator + Copy>(
-    canon: &Canon<A>,
-    alloc: A,
-    types: &Types<'_, A>,
-) -> Result<Canon<A>, Fail> {
-    match join(canon, alloc, types, LIMIT) {
-        Ok(both) => Ok(both),
-        Err(_) => Err("not joined".into()),
-    }
-}
-
 /// A list that has the types of a stream too.
 fn with_stream<A: Allocator + Copy>(
     canon: &Canon<A>,
@@ -38,13 +26,19 @@ fn with_stream<A: Allocator + Copy>(
     stream: &[u8],
 ) -> Result<Canon<A>, Fail> {
     let types = types_of(alloc, stream)?;
-    with_types(canon, alloc, &types)
+    match join(canon, alloc, &types, LIMIT) {
+        Ok(both) => Ok(both),
+        Err(_) => Err("not joined".into()),
+    }
 }
 
-/// The canonical list of two streams, by joining.
-fn joined<A: Allocator + Copy>(alloc: A, first: &[u8], second: &[u8]) -> Result<Canon<A>, Fail> {
-    let canon = with_stream(&Canon::empty(alloc), alloc, first)?;
-    with_stream(&canon, alloc, second)
+/// The canonical list of the types of some streams, joined one after the other.
+fn joined<A: Allocator + Copy>(alloc: A, streams: &[&[u8]]) -> Result<Canon<A>, Fail> {
+    let mut canon = Canon::empty(alloc);
+    for stream in streams {
+        canon = with_stream(&canon, alloc, stream)?;
+    }
+    Ok(canon)
 }
 
 /// What is tested, the records of two files, and their canonical list.
@@ -141,7 +135,7 @@ fn is_list(canon: &Canon, want: &[&[u8]]) -> bool {
 
 /// Whether the canonical list of two streams, by joining, has these bytes.
 fn joins(alloc: Global, first: &[u8], second: &[u8], want: &[u8]) -> Result<bool, Fail> {
-    let canon = joined(alloc, first, second)?;
+    let canon = joined(alloc, &[first, second])?;
     Ok(canon.bytes() == want && canon.bytes_len() as usize == want.len())
 }
 
@@ -160,7 +154,7 @@ fn each_type_once_in_canonical_order(rt: HostRuntime) -> Result<(), Fail> {
         let bytes = bytes_of(rt.alloc(), want)?;
         assert!(rt; both_give(rt.alloc(), &first, &second, &bytes)?, "{what}");
         assert!(rt;
-            is_list(&joined(rt.alloc(), &first, &second)?, want),
+            is_list(&joined(rt.alloc(), &[&first, &second])?, want),
             "{what}"
         );
     }
@@ -169,6 +163,18 @@ fn each_type_once_in_canonical_order(rt: HostRuntime) -> Result<(), Fail> {
 
 /// How many bytes the heap has in a test that runs out of memory.
 const HEAP: usize = 4096;
+
+/// A call that is tried while memory is refused: it is given a stream at this limit, where the types
+/// of earlier ones are there.
+#[derive(Clone, Copy)]
+struct Trial<'t> {
+    alloc: Global,
+    heap: &'t TestHeap,
+    refusal: Refusal,
+    limit: u32,
+    earlier: &'t [&'t [u8]],
+    stream: &'t [u8],
+}
 
 /// What a call returns while some memory is taken, and the bytes of two lists: the one that the
 /// table or the list gives after that, and the one that it gives after the same call with ample
@@ -185,48 +191,42 @@ fn list_bytes<S: BuildHasher, A: Allocator + Copy>(
     copied(alloc, &canon)
 }
 
-/// The bytes of two lists of a table: the one that it gives, and the one that it gives when these
-/// types were added at this limit.
+/// What a call said, and the bytes of two lists of a table: the one that it gives, and the one that
+/// it gives when these types were added at this limit.
 fn listed_twice<S: BuildHasher, A: Allocator + Copy>(
     alloc: Global,
     heap: A,
     table: &mut Table<S, A>,
     types: &Types<'_, A>,
     limit: u32,
-) -> Result<(Vec<u8>, Vec<u8>), Fail> {
+    said: Result<(), JoinFault>,
+) -> Result<Answer, Fail> {
     let after = list_bytes(alloc, heap, table)?;
     add(table, heap, types, limit)?;
-    Ok((after, list_bytes(alloc, heap, table)?))
+    Ok((said, after, list_bytes(alloc, heap, table)?))
 }
 
-/// Adds types to a table, up to this limit, while memory is refused.
-fn add_refused<'h, S: BuildHasher>(
-    table: &mut Table<S, &'h TestHeap>,
-    heap: &'h TestHeap,
-    refusal: Refusal,
-    types: &Types<'_, &'h TestHeap>,
-    limit: u32,
+/// Adds types to a table while memory is refused.
+fn add_refused<'t, S: BuildHasher>(
+    trial: Trial<'t>,
+    table: &mut Table<S, &'t TestHeap>,
+    types: &Types<'_, &'t TestHeap>,
 ) -> Result<(), JoinFault> {
-    let filler = refusal.begin(heap);
-    let answer = add(table, heap, types, limit);
+    let filler = trial.refusal.begin(trial.heap);
+    let said = add(table, trial.heap, types, trial.limit);
     drop(filler);
-    heap.stop_failing();
-    answer
+    trial.heap.stop_failing();
+    said
 }
 
-/// Adds the types of a stream to a table, up to this limit, while memory is refused, and then again.
-fn add_twice<'h, S: BuildHasher>(
-    table: &mut Table<S, &'h TestHeap>,
-    heap: &'h TestHeap,
-    refusal: Refusal,
-    stream: &[u8],
-    limit: u32,
-    alloc: Global,
+/// Adds the types of a stream to a table while memory is refused, and then again.
+fn add_twice<'t, S: BuildHasher>(
+    trial: Trial<'t>,
+    table: &mut Table<S, &'t TestHeap>,
 ) -> Result<Answer, Fail> {
-    let types = types_of(heap, stream)?;
-    let answer = add_refused(table, heap, refusal, &types, limit);
-    let (after, end) = listed_twice(alloc, heap, table, &types, LIMIT)?;
-    Ok((answer, after, end))
+    let types = types_of(trial.heap, trial.stream)?;
+    let said = add_refused(trial, table, &types);
+    listed_twice(trial.alloc, trial.heap, table, &types, LIMIT, said)
 }
 
 /// Adds the types of each of these streams to a table.
@@ -252,31 +252,23 @@ fn table_of_each<S: BuildHasher + Drop, A: Allocator + Copy>(
     Ok(table)
 }
 
-/// Adds the types of a stream to those of earlier ones at this limit, while memory is refused.
-fn add_amid(
-    heap: &TestHeap,
-    refusal: Refusal,
-    limit: u32,
-    alloc: Global,
-    earlier: &[&[u8]],
-    stream: &[u8],
-) -> Result<Answer, Fail> {
-    let mut table = table_of_each(heap, folding(), earlier)?;
-    add_twice(&mut table, heap, refusal, stream, limit, alloc)
+/// Adds the types of a stream to those of earlier ones while memory is refused.
+fn add_amid(trial: Trial<'_>) -> Result<Answer, Fail> {
+    let mut table = table_of_each(trial.heap, folding(), trial.earlier)?;
+    add_twice(trial, &mut table)
 }
 
-/// Adds records to a table while memory is refused. Where they are not added, the answer is out of
-/// memory.
-fn add_records_refused<'h, S: BuildHasher>(
-    table: &mut Table<S, &'h TestHeap>,
-    heap: &'h TestHeap,
-    refusal: Refusal,
-    records: &Records<'_, &'h TestHeap>,
+/// Adds records to a table, as they stand, while memory is refused. Where they are not added, the
+/// answer is out of memory.
+fn add_records_refused<'t, S: BuildHasher>(
+    trial: Trial<'t>,
+    table: &mut Table<S, &'t TestHeap>,
+    records: &Records<'_, &'t TestHeap>,
 ) -> Result<(), JoinFault> {
-    let filler = refusal.begin(heap);
-    let was_added = add_records(table, heap, records, LIMIT);
+    let filler = trial.refusal.begin(trial.heap);
+    let was_added = add_records(table, trial.heap, records, trial.limit);
     drop(filler);
-    heap.stop_failing();
+    trial.heap.stop_failing();
     if was_added {
         Ok(())
     } else {
@@ -284,60 +276,23 @@ fn add_records_refused<'h, S: BuildHasher>(
     }
 }
 
-/// The bytes of two lists of a table: the one that it gives, and the one that it gives when the types
-/// of a stream were added.
-fn listed_with<S: BuildHasher, A: Allocator + Copy>(
-    alloc: Global,
-    heap: A,
-    table: &mut Table<S, A>,
-    stream: &[u8],
-) -> Result<(Vec<u8>, Vec<u8>), Fail> {
-    let after = list_bytes(alloc, heap, table)?;
-    add_stream(table, heap, stream, LIMIT)?;
-    Ok((after, list_bytes(alloc, heap, table)?))
-}
-
 /// Adds the records of a stream to a table, as they stand, while memory is refused, and then its
 /// types.
-fn add_records_twice<'h, S: BuildHasher>(
-    table: &mut Table<S, &'h TestHeap>,
-    heap: &'h TestHeap,
-    refusal: Refusal,
-    stream: &[u8],
-    alloc: Global,
+fn add_records_twice<'t, S: BuildHasher>(
+    trial: Trial<'t>,
+    table: &mut Table<S, &'t TestHeap>,
 ) -> Result<Answer, Fail> {
-    let records = records_of(heap, stream)?;
-    let answer = add_records_refused(table, heap, refusal, &records);
-    let (after, end) = listed_with(alloc, heap, table, stream)?;
-    Ok((answer, after, end))
+    let records = records_of(trial.heap, trial.stream)?;
+    let said = add_records_refused(trial, table, &records);
+    let types = types_of(trial.heap, trial.stream)?;
+    listed_twice(trial.alloc, trial.heap, table, &types, LIMIT, said)
 }
 
 /// Adds the records of a stream, as they stand, to the types of earlier ones, while memory is
 /// refused.
-fn add_records_amid(
-    heap: &TestHeap,
-    refusal: Refusal,
-    alloc: Global,
-    earlier: &[&[u8]],
-    stream: &[u8],
-) -> Result<Answer, Fail> {
-    let mut table = table_of_each(heap, folding(), earlier)?;
-    add_records_twice(&mut table, heap, refusal, stream, alloc)
-}
-
-/// Joins a list with types, up to this limit, while memory is refused.
-fn join_refused<'h>(
-    canon: &Canon<&'h TestHeap>,
-    heap: &'h TestHeap,
-    refusal: Refusal,
-    types: &Types<'_, &'h TestHeap>,
-    limit: u32,
-) -> Result<Canon<&'h TestHeap>, JoinFault> {
-    let filler = refusal.begin(heap);
-    let answer = join(canon, heap, types, limit);
-    drop(filler);
-    heap.stop_failing();
-    answer
+fn add_records_amid(trial: Trial<'_>) -> Result<Answer, Fail> {
+    let mut table = table_of_each(trial.heap, folding(), trial.earlier)?;
+    add_records_twice(trial, &mut table)
 }
 
 /// What a call says, and the bytes of the list that is there after it.
@@ -355,19 +310,29 @@ fn outcome_of<A: Allocator>(
     }
 }
 
-/// Joins a list with types, up to this limit, while memory is refused. After a refusal the bytes are
-/// those of the list that is joined.
-fn join_outcome<'h>(
-    canon: &Canon<&'h TestHeap>,
-    heap: &'h TestHeap,
-    refusal: Refusal,
-    types: &Types<'_, &'h TestHeap>,
-    limit: u32,
-    alloc: Global,
+/// Joins a list with types while memory is refused.
+fn join_refused<'t>(
+    trial: Trial<'t>,
+    canon: &Canon<&'t TestHeap>,
+    types: &Types<'_, &'t TestHeap>,
+) -> Result<Canon<&'t TestHeap>, JoinFault> {
+    let filler = trial.refusal.begin(trial.heap);
+    let answer = join(canon, trial.heap, types, trial.limit);
+    drop(filler);
+    trial.heap.stop_failing();
+    answer
+}
+
+/// Joins a list with types while memory is refused. After a refusal the bytes are those of the list
+/// that is joined.
+fn join_outcome<'t>(
+    trial: Trial<'t>,
+    canon: &Canon<&'t TestHeap>,
+    types: &Types<'_, &'t TestHeap>,
 ) -> Result<Outcome, Fail> {
-    match join_refused(canon, heap, refusal, types, limit) {
-        Ok(both) => Ok((Ok(()), copied(alloc, &both)?)),
-        Err(fault) => Ok((Err(fault), copied(alloc, canon)?)),
+    match join_refused(trial, canon, types) {
+        Ok(both) => Ok((Ok(()), copied(trial.alloc, &both)?)),
+        Err(fault) => Ok((Err(fault), copied(trial.alloc, canon)?)),
     }
 }
 
@@ -382,96 +347,56 @@ fn bytes_joined<A: Allocator + Copy>(
     copied(alloc, &both)
 }
 
-/// Joins a list with types, up to this limit, while memory is refused, and then again.
-fn join_twice<'h>(
-    canon: &Canon<&'h TestHeap>,
-    heap: &'h TestHeap,
-    refusal: Refusal,
-    types: &Types<'_, &'h TestHeap>,
-    limit: u32,
-    alloc: Global,
-) -> Result<Answer, Fail> {
-    let (answer, after) = join_outcome(canon, heap, refusal, types, limit, alloc)?;
-    let end = bytes_joined(canon, heap, types, alloc)?;
-    Ok((answer, after, end))
-}
-
-/// The list of the types of some streams, joined one after the other.
-fn joined_each<A: Allocator + Copy>(alloc: A, streams: &[&[u8]]) -> Result<Canon<A>, Fail> {
-    let mut canon = Canon::empty(alloc);
-    for stream in streams {
-        canon = with_stream(&canon, alloc, stream)?;
-    }
-    Ok(canon)
-}
-
-/// Joins the list of earlier streams with the types of a stream at this limit, while memory is
-/// refused.
-fn join_amid(
-    heap: &TestHeap,
-    refusal: Refusal,
-    limit: u32,
-    alloc: Global,
-    earlier: &[&[u8]],
-    stream: &[u8],
-) -> Result<Answer, Fail> {
-    let canon = joined_each(heap, earlier)?;
-    let types = types_of(heap, stream)?;
-    join_twice(&canon, heap, refusal, &types, limit, alloc)
+/// Joins the list of earlier streams with the types of a stream while memory is refused, and then
+/// again.
+fn join_amid(trial: Trial<'_>) -> Result<Answer, Fail> {
+    let canon = joined(trial.heap, trial.earlier)?;
+    let types = types_of(trial.heap, trial.stream)?;
+    let (said, after) = join_outcome(trial, &canon, &types)?;
+    let end = bytes_joined(&canon, trial.heap, &types, trial.alloc)?;
+    Ok((said, after, end))
 }
 
 /// Makes the list of a table while memory is refused.
-fn finish_refused<'h, S: BuildHasher>(
-    table: &Table<S, &'h TestHeap>,
-    heap: &'h TestHeap,
-    refusal: Refusal,
-) -> Result<Canon<&'h TestHeap>, JoinFault> {
-    let filler = refusal.begin(heap);
-    let answer = list_of(heap, table);
+fn finish_refused<'t, S: BuildHasher>(
+    trial: Trial<'t>,
+    table: &Table<S, &'t TestHeap>,
+) -> Result<Canon<&'t TestHeap>, JoinFault> {
+    let filler = trial.refusal.begin(trial.heap);
+    let answer = list_of(trial.heap, table);
     drop(filler);
-    heap.stop_failing();
+    trial.heap.stop_failing();
     answer
 }
 
 /// Makes the list of a table while memory is refused, and then again. After a refusal the first of
 /// the two lists in the answer is the one before it.
-fn finish_twice<'h, S: BuildHasher>(
-    table: &Table<S, &'h TestHeap>,
-    heap: &'h TestHeap,
-    refusal: Refusal,
-    alloc: Global,
+fn finish_twice<'t, S: BuildHasher>(
+    trial: Trial<'t>,
+    table: &Table<S, &'t TestHeap>,
     before: Vec<u8>,
 ) -> Result<Answer, Fail> {
-    let (answer, after) = outcome_of(alloc, finish_refused(table, heap, refusal), before)?;
-    let end = list_bytes(alloc, heap, table)?;
-    Ok((answer, after, end))
+    let (said, after) = outcome_of(trial.alloc, finish_refused(trial, table), before)?;
+    let end = list_bytes(trial.alloc, trial.heap, table)?;
+    Ok((said, after, end))
 }
 
 /// Adds the types of a stream to a table, and makes its list while memory is refused. After a refusal
 /// the first of the two lists in the answer is the one before these types.
-fn finish_with<'h, S: BuildHasher>(
-    table: &mut Table<S, &'h TestHeap>,
-    heap: &'h TestHeap,
-    refusal: Refusal,
-    alloc: Global,
-    stream: &[u8],
+fn finish_with<'t, S: BuildHasher>(
+    trial: Trial<'t>,
+    table: &mut Table<S, &'t TestHeap>,
 ) -> Result<Answer, Fail> {
-    let before = list_bytes(alloc, heap, table)?;
-    add_stream(table, heap, stream, LIMIT)?;
-    finish_twice(table, heap, refusal, alloc, before)
+    let before = list_bytes(trial.alloc, trial.heap, table)?;
+    add_stream(table, trial.heap, trial.stream, LIMIT)?;
+    finish_twice(trial, table, before)
 }
 
 /// Makes the list of a stream and earlier ones, while memory is refused. After a refusal the first of
 /// the two lists in the answer is that of the earlier ones.
-fn finish_amid(
-    heap: &TestHeap,
-    refusal: Refusal,
-    alloc: Global,
-    earlier: &[&[u8]],
-    stream: &[u8],
-) -> Result<Answer, Fail> {
-    let mut table = table_of_each(heap, folding(), earlier)?;
-    finish_with(&mut table, heap, refusal, alloc, stream)
+fn finish_amid(trial: Trial<'_>) -> Result<Answer, Fail> {
+    let mut table = table_of_each(trial.heap, folding(), trial.earlier)?;
+    finish_with(trial, &mut table)
 }
 
 /// A call that allocates.
@@ -484,19 +409,12 @@ enum Call {
 }
 
 /// What this call returns while memory is refused.
-fn amid(
-    call: Call,
-    heap: &TestHeap,
-    refusal: Refusal,
-    alloc: Global,
-    earlier: &[&[u8]],
-    stream: &[u8],
-) -> Result<Answer, Fail> {
+fn amid(call: Call, trial: Trial<'_>) -> Result<Answer, Fail> {
     match call {
-        Call::Add => add_amid(heap, refusal, LIMIT, alloc, earlier, stream),
-        Call::AddRecords => add_records_amid(heap, refusal, alloc, earlier, stream),
-        Call::Join => join_amid(heap, refusal, LIMIT, alloc, earlier, stream),
-        Call::Finish => finish_amid(heap, refusal, alloc, earlier, stream),
+        Call::Add => add_amid(trial),
+        Call::AddRecords => add_records_amid(trial),
+        Call::Join => join_amid(trial),
+        Call::Finish => finish_amid(trial),
     }
 }
 
@@ -568,8 +486,15 @@ fn refuse_in_turn(alloc: Global, call: Call, step: Step) -> Result<(), Fail> {
     let before = bytes_of(alloc, before)?;
     let want = bytes_of(alloc, want)?;
     refusals_amid(alloc, HEAP, 8, |heap, refusal| {
-        let earlier = [first.as_slice(), second.as_slice()];
-        let answer = amid(call, heap, refusal, alloc, &earlier, &stream)?;
+        let trial = Trial {
+            alloc,
+            heap,
+            refusal,
+            limit: LIMIT,
+            earlier: &[&first, &second],
+            stream: &stream,
+        };
+        let answer = amid(call, trial)?;
         match was_accepted(&answer, &before, &want) {
             Some(accepted) => Ok(!accepted),
             None => Err("another answer".into()),
@@ -626,9 +551,8 @@ fn add_again_to<S: BuildHasher>(
 ) -> Result<Answer, Fail> {
     add(table, alloc, types, 12)?;
     let larger = types_of(alloc, second)?;
-    let answer = add(table, alloc, &larger, 23);
-    let (after, end) = listed_twice(alloc, alloc, table, types, 12)?;
-    Ok((answer, after, end))
+    let said = add(table, alloc, &larger, 23);
+    listed_twice(alloc, alloc, table, types, 12, said)
 }
 
 /// Adds a first stream at limit 12, a second one at limit 23, and then the first one again.
@@ -651,12 +575,26 @@ fn a_union_at_the_limit(rt: HostRuntime) -> Result<(), Fail> {
     let both = stream_with(rt.alloc(), &[TO_INT, CONST])?;
     let want = bytes_of(rt.alloc(), &[CONST, TO_INT])?;
     let heap = TestHeap::new(LocalHeap::new(rt.alloc(), HEAP)?);
-    let none = Refusal::Taken(0);
-    let answer = join_amid(&heap, none, 23, rt.alloc(), &[&pointer], &other)?;
+    let pointers = [pointer.as_slice()];
+    let trial = Trial {
+        alloc: rt.alloc(),
+        heap: &heap,
+        refusal: Refusal::Taken(0),
+        limit: 23,
+        earlier: &pointers,
+        stream: &other,
+    };
+    let answer = join_amid(trial)?;
     assert!(rt; is_answer(&answer, large, TO_INT, &want));
-    let answer = join_amid(&heap, none, 24, rt.alloc(), &[&pointer], &other)?;
+    let answer = join_amid(Trial { limit: 24, ..trial })?;
     assert!(rt; is_answer(&answer, Ok(()), &want, &want));
-    let answer = add_amid(&heap, none, 24, rt.alloc(), &[&other], &both)?;
+    let others = [other.as_slice()];
+    let answer = add_amid(Trial {
+        limit: 24,
+        earlier: &others,
+        stream: &both,
+        ..trial
+    })?;
     assert!(rt; is_answer(&answer, Ok(()), &want, &want));
     let answer = add_again(rt.alloc(), &other, &both)?;
     assert!(rt; is_answer(&answer, large, CONST, CONST));
