@@ -164,9 +164,7 @@ impl Changing<'_> {
         };
         let start = usize::try_from(offset).ok()?;
         let part = now.get(start..start.checked_add(into.len())?)?;
-        for (place, byte) in into.iter_mut().zip(part) {
-            *place = *byte;
-        }
+        put(into, 0, part);
         Some(())
     }
 }

@@ -3,6 +3,7 @@
 ghost use Rattle.std.specs.Prelude.{length};
 ghost use Rattle.byte_io.specs.At.{unknown};
 
+use crate::file::put;
 use byte_io::{Lend, ReadAt};
 
 /// A file of which one read fails, and all others give its bytes. Clauses do not see them.
@@ -47,9 +48,7 @@ impl ReadAt for Positions<'_> {
         self.reads = self.reads.saturating_add(1);
         match self.bytes_at(offset, into.len()) {
             Some(part) if !fails => {
-                for (place, byte) in into.iter_mut().zip(part) {
-                    *place = *byte;
-                }
+                put(into, 0, part);
                 Some(())
             }
             _ => {
