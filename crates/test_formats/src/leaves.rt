@@ -66,8 +66,7 @@ fn set_nth(record: &mut [u8], number: usize, to: u32) -> Result<usize, Fail> {
 /// A record of this kind with the longest fixed part. The other bytes are 0.
 fn empty_record(kind: u16) -> [u8; 24] {
     let mut record = [0u8; 24];
-    record[2] = (kind & 0xFF) as u8;
-    record[3] = (kind >> 8) as u8;
+    put(&mut record, 2, &kind.to_le_bytes());
     record
 }
 
@@ -160,10 +159,8 @@ fn the_name_of_a_structure(rt: HostRuntime) {
 /// NUL at the end.
 fn union_with(first: u16) -> [u8; 28] {
     let mut record = [0x41u8; 28];
-    record[2] = 0x06;
-    record[3] = 0x15;
-    record[12] = (first & 0xFF) as u8;
-    record[13] = (first >> 8) as u8;
+    put(&mut record, 2, b"\x06\x15");
+    put(&mut record, 12, &first.to_le_bytes());
     record[27] = 0;
     record
 }
@@ -202,10 +199,8 @@ const ROOM: usize = 40;
 /// A field list with one member of a kind. The other bytes of the member are 0.
 fn one_member(kind: u16) -> [u8; ROOM] {
     let mut record = [0u8; ROOM];
-    record[2] = 0x03;
-    record[3] = 0x12;
-    record[4] = (kind & 0xFF) as u8;
-    record[5] = (kind >> 8) as u8;
+    put(&mut record, 2, b"\x03\x12");
+    put(&mut record, 4, &kind.to_le_bytes());
     record
 }
 
@@ -217,33 +212,20 @@ fn check_body(record: &[u8], len: usize) -> Option<Result<(), LeafFault>> {
 /// The faults of a member that is cut short, each with the length below which it is met.
 type Cuts = &'static [(usize, LeafFault)];
 
+/// Those of each member: in its kind, and in its attributes.
+const FIRST: Cuts = &[(2, LeafFault::Body(0)), (4, LeafFault::Body(2))];
+
 /// A member that has only the four bytes after its attributes.
-const PLAIN: Cuts = &[
-    (2, LeafFault::Body(0)),
-    (4, LeafFault::Body(2)),
-    (8, LeafFault::Body(4)),
-];
+const PLAIN: Cuts = &[(8, LeafFault::Body(4))];
 
 /// A member with a name after those.
-const NAMED: Cuts = &[
-    (2, LeafFault::Body(0)),
-    (4, LeafFault::Body(2)),
-    (8, LeafFault::Body(4)),
-    (9, LeafFault::Name(8)),
-];
+const NAMED: Cuts = &[(8, LeafFault::Body(4)), (9, LeafFault::Name(8))];
 
 /// A member with a number after those.
-const NUMBERED: Cuts = &[
-    (2, LeafFault::Body(0)),
-    (4, LeafFault::Body(2)),
-    (8, LeafFault::Body(4)),
-    (10, LeafFault::Numeric(8)),
-];
+const NUMBERED: Cuts = &[(8, LeafFault::Body(4)), (10, LeafFault::Numeric(8))];
 
 /// A member with a number and a name after those.
 const NUMBERED_AND_NAMED: Cuts = &[
-    (2, LeafFault::Body(0)),
-    (4, LeafFault::Body(2)),
     (8, LeafFault::Body(4)),
     (10, LeafFault::Numeric(8)),
     (11, LeafFault::Name(10)),
@@ -251,8 +233,6 @@ const NUMBERED_AND_NAMED: Cuts = &[
 
 /// A member with four more bytes and two numbers after those.
 const NUMBERED_TWICE: Cuts = &[
-    (2, LeafFault::Body(0)),
-    (4, LeafFault::Body(2)),
     (8, LeafFault::Body(4)),
     (12, LeafFault::Body(8)),
     (14, LeafFault::Numeric(12)),
@@ -260,16 +240,11 @@ const NUMBERED_TWICE: Cuts = &[
 ];
 
 /// A member with a number and a name after its attributes.
-const ENUMERATED: Cuts = &[
-    (2, LeafFault::Body(0)),
-    (4, LeafFault::Body(2)),
-    (6, LeafFault::Numeric(4)),
-    (7, LeafFault::Name(6)),
-];
+const ENUMERATED: Cuts = &[(6, LeafFault::Numeric(4)), (7, LeafFault::Name(6))];
 
-/// The fault of a member that is cut to this length.
+/// The fault of a member that is cut to this length. `cuts` has those after the first ones.
 fn fault_of(cuts: Cuts, len: usize) -> Option<LeafFault> {
-    for (below, fault) in cuts {
+    for (below, fault) in FIRST.iter().chain(cuts) {
         if len < *below {
             return Some(*fault);
         }
@@ -313,8 +288,6 @@ fn each_member_at_its_smallest(rt: HostRuntime) {
 
 /// A method that introduces a virtual function: it has four more bytes before its name.
 const INTRODUCING: Cuts = &[
-    (2, LeafFault::Body(0)),
-    (4, LeafFault::Body(2)),
     (8, LeafFault::Body(4)),
     (12, LeafFault::Body(8)),
     (13, LeafFault::Name(12)),
