@@ -72,12 +72,23 @@ fn lengths_of_images(rt: HostRuntime) -> Result<(), Fail> {
     Ok(())
 }
 
-/// The image with an info stream and this stream 2, in blocks of this size.
-fn image_of(alloc: Global, block_size: u32, types: &[u8]) -> Result<Vec<u8>, Fail> {
+/// What writing the image with this stream 2 says, in blocks of this size, and what was written.
+fn written_of(
+    alloc: Global,
+    block_size: u32,
+    types: &[u8],
+) -> Result<(Result<(), WriteFault>, Vec<u8>), Fail> {
     let settings = settings(LIMIT, block_size)?;
     let info = info_stream(&settings);
     let mut file = Vec::new(alloc);
-    write_two(alloc, &settings, &info, types, &mut Out::new(&mut file))?;
+    let answer = write_two(alloc, &settings, &info, types, &mut Out::new(&mut file));
+    Ok((answer, file))
+}
+
+/// The image with an info stream and this stream 2, in blocks of this size.
+fn image_of(alloc: Global, block_size: u32, types: &[u8]) -> Result<Vec<u8>, Fail> {
+    let (answer, file) = written_of(alloc, block_size, types)?;
+    answer?;
     Ok(file)
 }
 
@@ -107,19 +118,6 @@ fn maps_of_small_blocks(rt: HostRuntime) -> Result<(), Fail> {
         assert!(rt; has_map(&file, place, 512, first, others), "at {place}");
     }
     Ok(())
-}
-
-/// What writing the image with this stream 2 says, in blocks of this size, and what was written.
-fn written_of(
-    alloc: Global,
-    block_size: u32,
-    types: &[u8],
-) -> Result<(Result<(), WriteFault>, Vec<u8>), Fail> {
-    let settings = settings(LIMIT, block_size)?;
-    let info = info_stream(&settings);
-    let mut file = Vec::new(alloc);
-    let answer = write_two(alloc, &settings, &info, types, &mut Out::new(&mut file));
-    Ok((answer, file))
 }
 
 #[test]
