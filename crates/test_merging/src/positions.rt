@@ -7,7 +7,7 @@ use super::merging::{ROWS, is_listed, wanted, zeros};
 use byte_io::{InputFault, Inputs, Opened};
 use pdb_info::Settings;
 use pdb_merge::{MergeFault, PdbFault, merge_files};
-use std::alloc::{Allocator, Global};
+use std::alloc::Allocator;
 use std::test::Fail;
 use test_samples::{LIMIT, Positions, folding, pdb_with, refusals, sample, settings};
 use type_table::Canon;
@@ -77,12 +77,12 @@ fn list_at<A: Allocator + Copy>(
 }
 
 /// The list of the types of files that are read by position and cannot be read whole.
-fn parts_alone(
-    alloc: Global,
+fn parts_alone<A: Allocator + Copy>(
+    alloc: A,
     files: &[&[u8]],
     fails_at: usize,
     settings: &Settings,
-) -> Result<Canon, MergeFault> {
+) -> Result<Canon<A>, MergeFault<A>> {
     let files = Parts {
         files,
         fails_at,
@@ -174,12 +174,7 @@ fn growth_is_refused_by_position(rt: HostRuntime) -> Result<(), Fail> {
     let files = [file.as_slice(), file.as_slice()];
     let settings = settings(LIMIT, 4096)?;
     refusals(rt.alloc(), 64, 96, |heap| {
-        let files_at = Parts {
-            files: &files,
-            fails_at: usize::MAX,
-            whole: false,
-        };
-        match list_at(heap, files_at, &settings) {
+        match parts_alone(heap, &files, usize::MAX, &settings) {
             Ok(_) => Ok(false),
             Err(MergeFault::Memory) => Ok(true),
             Err(_) => Err("refused for another reason".into()),
