@@ -4,7 +4,7 @@ use Rattle.pdb_commands.proofs.ShowLaws.{fault_known, layout_refused, refused_of
 use Rattle.pdb_commands.proofs.command.text_at.Goals as goal
 
 pub text_of-requires-clause-layout : goal.text_of-requires-clause-layout
-text_of-requires-clause-layout g c = λ file known. c.in-Ok.ensures.value file (sym c.in-Ok.ensures.keeps ∙ known)
+text_of-requires-clause-layout g c = λ file known. c.in-Ok.ensures.value file (sym c.in-Ok.ensures.reads.keeps ∙ known)
 
 pub returns-in-Err-Of-Of-clause-first : goal.returns-in-Err-Of-Of-clause-first
 returns-in-Err-Of-Of-clause-first g c = λ file known.
@@ -28,10 +28,10 @@ pub returns-clause-value : goal.returns-clause-value
 returns-clause-value g c =
     let e = c.in-Ok.ensures in
     let command = c.args.command.now in
-    text_known string_bytes (g.C.Show.shows command) (g.C.Show.shows_read command) c.args.limit (g.R.ReadAt.bytes c.args.input.now) c.in-Ok.layout c.text_of.result (g.met.C.Show.shows_known command) e.small e.value e.short (rw e.keeps at c.text_of.ensures.texts)
+    text_known string_bytes (g.C.Show.shows command) (g.C.Show.shows_read command) c.args.limit (g.R.ReadAt.bytes c.args.input.now) c.in-Ok.layout c.text_of.result (g.met.C.Show.shows_known command) e.small e.value e.short (rw e.reads.keeps at c.text_of.ensures.texts)
 
 pub returns-clause-first : goal.returns-clause-first
 returns-clause-first g c =
     let e = c.in-Ok.ensures in
     let command = c.args.command.now in
-    fault_known (g.C.Show.refuses command) (g.C.Show.refuses_read command) c.args.limit (g.R.ReadAt.bytes c.args.input.now) c.in-Ok.layout c.text_of.result (g.met.C.Show.refuses_known command) e.small e.value e.short (rw e.keeps at c.text_of.ensures.refused)
+    fault_known (g.C.Show.refuses command) (g.C.Show.refuses_read command) c.args.limit (g.R.ReadAt.bytes c.args.input.now) c.in-Ok.layout c.text_of.result (g.met.C.Show.refuses_known command) e.small e.value e.short (rw e.reads.keeps at c.text_of.ensures.refused)
