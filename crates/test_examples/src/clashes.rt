@@ -19,50 +19,43 @@ enum Step {
 
 use Step::{Intern, Keep};
 
-/// What is tested, the steps, and the texts of the set at the end.
-type Row = (&'static str, &'static [Step], &'static [&'static Text]);
+/// Two texts come.
+const TWO: &[Step] = &[Intern(b"one.", 0), Intern(b"two.", 1)];
+
+/// Three texts come.
+const THREE: &[Step] = &[Intern(b"one.", 0), Intern(b"two.", 1), Intern(b"more", 2)];
+
+/// What is tested, the first steps and the others, and the texts of the set at the end.
+type Row = (
+    &'static str,
+    &'static [Step],
+    &'static [Step],
+    &'static [&'static Text],
+);
 
 const ROWS: [Row; 6] = [
     (
         "two texts",
-        &[
-            Intern(b"one.", 0),
-            Intern(b"two.", 1),
-            Intern(b"one.", 0),
-            Intern(b"two.", 1),
-        ],
+        TWO,
+        &[Intern(b"one.", 0), Intern(b"two.", 1)],
         &[b"one.", b"two."],
     ),
     (
         "three texts",
-        &[
-            Intern(b"one.", 0),
-            Intern(b"two.", 1),
-            Intern(b"more", 2),
-            Intern(b"more", 2),
-            Intern(b"two.", 1),
-            Intern(b"one.", 0),
-        ],
+        THREE,
+        &[Intern(b"more", 2), Intern(b"two.", 1), Intern(b"one.", 0)],
         &[b"one.", b"two.", b"more"],
     ),
     (
         "the last text comes again",
-        &[
-            Intern(b"one.", 0),
-            Intern(b"two.", 1),
-            Intern(b"more", 2),
-            Keep(2),
-            Intern(b"more", 2),
-            Intern(b"two.", 1),
-        ],
+        THREE,
+        &[Keep(2), Intern(b"more", 2), Intern(b"two.", 1)],
         &[b"one.", b"two.", b"more"],
     ),
     (
         "another text in place of the last",
+        THREE,
         &[
-            Intern(b"one.", 0),
-            Intern(b"two.", 1),
-            Intern(b"more", 2),
             Keep(2),
             Intern(b"four", 2),
             Intern(b"more", 3),
@@ -72,10 +65,8 @@ const ROWS: [Row; 6] = [
     ),
     (
         "two texts change places",
+        THREE,
         &[
-            Intern(b"one.", 0),
-            Intern(b"two.", 1),
-            Intern(b"more", 2),
             Keep(1),
             Intern(b"more", 1),
             Intern(b"two.", 2),
@@ -85,13 +76,8 @@ const ROWS: [Row; 6] = [
     ),
     (
         "all texts are given up",
-        &[
-            Intern(b"one.", 0),
-            Intern(b"two.", 1),
-            Keep(0),
-            Intern(b"two.", 0),
-            Intern(b"one.", 1),
-        ],
+        TWO,
+        &[Keep(0), Intern(b"two.", 0), Intern(b"one.", 1)],
         &[b"two.", b"one."],
     ),
 ];
@@ -169,19 +155,20 @@ fn has<S: BuildHasher, A: Allocator>(set: &TextSet<S, A>, want: &[&Text]) -> boo
 fn goes<S: BuildHasher + Drop>(
     alloc: Global,
     hasher: S,
-    steps: &[Step],
+    first: &[Step],
+    others: &[Step],
     want: &[&Text],
 ) -> Result<bool, AllocError> {
     let mut set = empty(alloc, hasher);
-    Ok(make_all(&mut set, steps)? && has(&set, want))
+    Ok(make_all(&mut set, first)? && make_all(&mut set, others)? && has(&set, want))
 }
 
 #[test]
 fn texts_that_share_a_hash_are_told_apart(rt: HostRuntime) -> Result<(), Fail> {
-    for (what, steps, want) in ROWS {
-        assert!(rt; goes(rt.alloc(), folding(), steps, want)?, "{what}");
-        assert!(rt; goes(rt.alloc(), LEAST, steps, want)?, "{what}");
-        assert!(rt; goes(rt.alloc(), GREATEST, steps, want)?, "{what}");
+    for (what, first, others, want) in ROWS {
+        assert!(rt; goes(rt.alloc(), folding(), first, others, want)?, "{what}");
+        assert!(rt; goes(rt.alloc(), LEAST, first, others, want)?, "{what}");
+        assert!(rt; goes(rt.alloc(), GREATEST, first, others, want)?, "{what}");
     }
     Ok(())
 }
