@@ -11,7 +11,7 @@ use Rattle.file_types.specs.declared.fault.PdbFault.{PdbFault}
 use Rattle.file_types.specs.declared.fault.PdbFault.TheVariants.{Memory}
 use Rattle.pdbmerge_c.specs.declared.check.Counts.{Counts}
 use Rattle.pdbmerge_c.specs.declared.fault.Fault.{Fault}
-use Rattle.pdbmerge_c.specs.Fault.{IsTold, no_number}
+use Rattle.pdbmerge_c.specs.Fault.{Tells}
 
 -- the file is accepted, and these are its counts
 pub record Checks (file : List ℕ) (counts : Counts) : Type 0 where
@@ -28,7 +28,5 @@ IsFaultOfFile file why =
     HasPdbFault file why ⊎ ((why ≡ Memory) × (first_failing (layout_checks file) ≡ None))
 
 -- what is told is such a fault
-pub record RefusesCheck (file : List ℕ) (fault : Fault) : Type 0 where
-  pub why : PdbFault Global
-  pub is_fault : IsFaultOfFile file why
-  pub told : IsTold fault (pdb_number why) no_number
+abbrev pub RefusesCheck : List ℕ → Fault → Type 0
+RefusesCheck file = Tells {Why = PdbFault Global} (IsFaultOfFile file) pdb_number

@@ -10,7 +10,7 @@ use Rattle.msf_superblock.specs.declared.fault.MsfFault.{MsfFault}
 use Rattle.msf_superblock.specs.declared.fault.MsfFault.TheVariants.{Memory}
 use Rattle.pdbmerge_c.specs.declared.fault.Fault.{Fault}
 use Rattle.pdbmerge_c.specs.declared.layout.ContainerCounts.{ContainerCounts}
-use Rattle.pdbmerge_c.specs.Fault.{IsTold, no_number}
+use Rattle.pdbmerge_c.specs.Fault.{Tells}
 
 -- these are the numbers of the container of the file, and the sizes of its streams in bytes
 pub record HasContainer (file : List ℕ) (container : ContainerCounts) (sizes : List ℕ)
@@ -36,7 +36,5 @@ abbrev pub IsFaultOfContainer : List ℕ → MsfFault → Type 0
 IsFaultOfContainer file = Refuses Memory (first_failing (layout_checks file))
 
 -- what is told is such a fault
-pub record RefusesContainer (file : List ℕ) (fault : Fault) : Type 0 where
-  pub why : MsfFault
-  pub is_fault : IsFaultOfContainer file why
-  pub told : IsTold fault (msf_number why) no_number
+abbrev pub RefusesContainer : List ℕ → Fault → Type 0
+RefusesContainer file = Tells (IsFaultOfContainer file) msf_number

@@ -24,6 +24,13 @@ pub record IsSaid (fault : Fault) (result : ℕ) : Type 0 where
   pub room : result ≡ 100 → fault.input ≡ no_number
   pub settings : result ≡ 101 → fault.input ≡ no_number
 
+-- what is told is the number of such a fault, and no input
+pub record Tells {Why : Type 0} (IsFault : Why → Type 0) (number_of : Why → ℕ) (fault : Fault)
+    : Type 0 where
+  pub why : Why
+  pub is_fault : IsFault why
+  pub told : IsTold fault (number_of why) no_number
+
 -- the last byte of the text is a NUL, so the text ends within its field
 abbrev pub IsEnded : Fault → Type 0
 IsEnded fault = slice_get fault.text 235 ≡ Some 0

@@ -11,7 +11,7 @@ use Rattle.file_types.specs.declared.fault.PdbFault.{PdbFault}
 use Rattle.file_types.specs.declared.fault.PdbFault.TheVariants as pdb
 use Rattle.pdbmerge_c.specs.declared.fault.Fault.{Fault}
 use Rattle.pdbmerge_c.specs.declared.identify.Identity.{Identity}
-use Rattle.pdbmerge_c.specs.Fault.{IsTold, no_number}
+use Rattle.pdbmerge_c.specs.Fault.{Tells}
 
 -- the container has blocks of this size,
 -- and its stream 1 begins with a header of this age and this GUID
@@ -35,7 +35,5 @@ IsFaultOfIdentity file inner =
     (layout : LayoutView) × HasLayout file layout × HasInfoFault file layout inner
 
 -- what is told is such a fault
-pub record RefusesIdentity (file : List ℕ) (fault : Fault) : Type 0 where
-  pub why : PdbFault Global
-  pub is_fault : IsFaultOfIdentity file why
-  pub told : IsTold fault (pdb_number why) no_number
+abbrev pub RefusesIdentity : List ℕ → Fault → Type 0
+RefusesIdentity file = Tells {Why = PdbFault Global} (IsFaultOfIdentity file) pdb_number

@@ -7,7 +7,7 @@ use Rattle.pdb_info.specs.Info.{InfoView, HasInfo, info_checks}
 use Rattle.pdb_info.specs.declared.fault.InfoFault.{InfoFault}
 use Rattle.pdb_info.specs.declared.fault.InfoFault.TheVariants.{Memory}
 use Rattle.pdbmerge_c.specs.declared.fault.Fault.{Fault}
-use Rattle.pdbmerge_c.specs.Fault.{IsTold, no_number}
+use Rattle.pdbmerge_c.specs.Fault.{Tells}
 
 -- these are the numbers of the streams that have a name, in the order of the buckets
 abbrev pub AreNamedStreams : List ℕ → List ℕ → Type 0
@@ -30,7 +30,5 @@ abbrev pub IsFaultOfInfoStream : List ℕ → InfoFault → Type 0
 IsFaultOfInfoStream stream = Refuses Memory (first_failing (info_checks stream))
 
 -- what is told is such a fault
-pub record RefusesInfoStream (stream : List ℕ) (fault : Fault) : Type 0 where
-  pub why : InfoFault
-  pub is_fault : IsFaultOfInfoStream stream why
-  pub told : IsTold fault (info_number why) no_number
+abbrev pub RefusesInfoStream : List ℕ → Fault → Type 0
+RefusesInfoStream stream = Tells (IsFaultOfInfoStream stream) info_number

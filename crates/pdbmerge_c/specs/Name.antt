@@ -3,9 +3,8 @@ use Rattle.std.specs.Prelude.{ℕ, ◌≡◌, ◌⊎◌, List, Option, Some, Non
 use Rattle.cv_leaves.specs.Name.{name_of}
 use Rattle.tpi_records.specs.Fault.{tpi_number}
 use Rattle.tpi_records.specs.Records.{BeginsWith, IsFlaw}
-use Rattle.tpi_records.specs.declared.fault.TpiFault.{TpiFault}
 use Rattle.pdbmerge_c.specs.declared.fault.Fault.{Fault}
-use Rattle.pdbmerge_c.specs.Fault.{IsTold, no_number}
+use Rattle.pdbmerge_c.specs.Fault.{Tells, no_number}
 use Rattle.pdbmerge_c.specs.Given.{Fills}
 
 -- the bytes begin with a record whose type has this name, or none
@@ -20,7 +19,5 @@ GivesName bytes size old new =
     ⊎ (IsNamed bytes None × (size ≡ no_number) × (new ≡ old))
 
 -- what is told is the fault of the record at the front of the bytes
-pub record RefusesName (bytes : List ℕ) (index : ℕ) (fault : Fault) : Type 0 where
-  pub why : TpiFault
-  pub is_fault : IsFlaw bytes index why
-  pub told : IsTold fault (tpi_number why) no_number
+abbrev pub RefusesName : List ℕ → ℕ → Fault → Type 0
+RefusesName bytes index = Tells (IsFlaw bytes index) tpi_number

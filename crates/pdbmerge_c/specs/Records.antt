@@ -5,7 +5,7 @@ use Rattle.tpi_records.specs.Records.{HasRecords, IsFirstFault, start_of}
 use Rattle.tpi_records.specs.declared.fault.TpiFault.{TpiFault}
 use Rattle.tpi_records.specs.declared.fault.TpiFault.TheVariants.{Memory}
 use Rattle.pdbmerge_c.specs.declared.fault.Fault.{Fault}
-use Rattle.pdbmerge_c.specs.Fault.{IsTold, no_number}
+use Rattle.pdbmerge_c.specs.Fault.{Tells}
 
 -- there is an offset for each record of the stream, and the record begins there:
 -- behind the header and the records before it
@@ -22,7 +22,5 @@ IsFaultOfRecords stream why =
     ⊎ ((why ≡ Memory) × ((records : List (List ℕ)) × HasRecords stream records))
 
 -- what is told is such a fault
-pub record RefusesRecords (stream : List ℕ) (fault : Fault) : Type 0 where
-  pub why : TpiFault
-  pub is_fault : IsFaultOfRecords stream why
-  pub told : IsTold fault (tpi_number why) no_number
+abbrev pub RefusesRecords : List ℕ → Fault → Type 0
+RefusesRecords stream = Tells (IsFaultOfRecords stream) tpi_number

@@ -12,7 +12,7 @@ use Rattle.file_types.specs.declared.fault.PdbFault.{PdbFault}
 use Rattle.file_types.specs.declared.fault.PdbFault.TheVariants as pdb
 use Rattle.pdbmerge_c.specs.declared.fault.Fault.{Fault}
 use Rattle.pdbmerge_c.specs.declared.references.Reference.{Reference}
-use Rattle.pdbmerge_c.specs.Fault.{IsTold, no_number}
+use Rattle.pdbmerge_c.specs.Fault.{Tells}
 
 -- what a record names at a place
 abbrev pub reference_in : List ℕ → ℕ → Reference
@@ -37,7 +37,5 @@ IsFaultOfRecord bytes index pdb.Memory = (r : List ℕ) × BeginsWith bytes r ×
 IsFaultOfRecord bytes index _ = ⊥
 
 -- what is told is such a fault
-pub record RefusesRecord (bytes : List ℕ) (index : ℕ) (fault : Fault) : Type 0 where
-  pub why : PdbFault Global
-  pub is_fault : IsFaultOfRecord bytes index why
-  pub told : IsTold fault (pdb_number why) no_number
+abbrev pub RefusesRecord : List ℕ → ℕ → Fault → Type 0
+RefusesRecord bytes index = Tells {Why = PdbFault Global} (IsFaultOfRecord bytes index) pdb_number

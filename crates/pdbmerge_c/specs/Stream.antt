@@ -9,7 +9,7 @@ use Rattle.file_types.specs.Fault.{pdb_number}
 use Rattle.file_types.specs.declared.fault.PdbFault.{PdbFault}
 use Rattle.file_types.specs.declared.fault.PdbFault.TheVariants as pdb
 use Rattle.pdbmerge_c.specs.declared.fault.Fault.{Fault}
-use Rattle.pdbmerge_c.specs.Fault.{IsTold, no_number}
+use Rattle.pdbmerge_c.specs.Fault.{Tells}
 
 -- these are the bytes of the stream of this number
 pub record IsStreamOf (file : List ℕ) (stream : ℕ) (bytes : List ℕ) : Type 0 where
@@ -30,7 +30,5 @@ IsFaultOfStream file stream pdb.Memory = first_failing (layout_checks file) ≡ 
 IsFaultOfStream file stream _ = ⊥
 
 -- what is told is such a fault
-pub record RefusesStream (file : List ℕ) (stream : ℕ) (fault : Fault) : Type 0 where
-  pub why : PdbFault Global
-  pub is_fault : IsFaultOfStream file stream why
-  pub told : IsTold fault (pdb_number why) no_number
+abbrev pub RefusesStream : List ℕ → ℕ → Fault → Type 0
+RefusesStream file stream = Tells {Why = PdbFault Global} (IsFaultOfStream file stream) pdb_number
