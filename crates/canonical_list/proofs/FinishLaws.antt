@@ -167,9 +167,6 @@ numbered_more ps first end before numbers after position number h inside is coun
   kept = λ i none. others i (λ e. none end (omega arith) (sym is ∙ sym e)) ∙ h.kept i (λ k old. none k (omega (arith, old)));
 }
 
-pub none_numbered : (ps : List ℕ) (first : ℕ) (before : List ℕ) → Numbered ps first 0 before before
-none_numbered ps first before = record { put = λ distinct k inside. absurd (omega (arith, inside)); kept = λ i none. refl }
-
 pub bounded_put : (numbers after : List ℕ) (position number : ℕ) → ((k : ℕ) → get_or numbers k 0 < 2 ^ 31) → number < 2 ^ 31 → get_or after position 0 ≡ number → ((i : ℕ) → i ≢ position → get_or after i 0 ≡ get_or numbers i 0) → (k : ℕ) → get_or after k 0 < 2 ^ 31
 bounded_put numbers after position number bounded small here others k = elim (cases_order k position) [
   | inl same ↦ rw (same, here) small

@@ -1,10 +1,10 @@
 -- What the head and the key of a row say of its bytes.
-use Rattle.std.proofs.Common.{◌≡◌, ℕ, zero, suc, ◌+◌, ◌-◌, ◌*◌, ◌^◌, ◌<◌, ◌≤◌, List, [], ◌∷◌, ◌++◌, length, drop, get_or, replicate, refl, sym, ap, ◌∙◌, arith, inl, inr}
+use Rattle.std.proofs.Common.{◌≡◌, ℕ, zero, suc, ◌+◌, ◌-◌, ◌*◌, ◌^◌, ◌<◌, ◌≤◌, List, [], ◌∷◌, drop, get_or, refl, sym, ap, ◌∙◌, arith, inl, inr}
 use Rattle.std.proofs.Math.Nat.{mul-le-mul_right, one-le-pow, pow-succ', suc-add, zero-add}
 use Rattle.std.proofs.lemmas.Nat.{pow-add}
 use Rattle.std.proofs.lemmas.Bool.{cases_order}
 use Rattle.std.proofs.lemmas.Cmp.{tied_itself, nat_cmp_total}
-use Rattle.std.proofs.lemmas.List.{drop-drop, drop-replicate, get_or-drop}
+use Rattle.std.proofs.lemmas.List.{drop-drop, get_or-drop}
 use Rattle.std.specs.Cmp.{nat_cmp_is}
 use Rattle.std.specs.Cmp.Lexicographic.{slice_cmp}
 use Rattle.std.specs.Ordering.{nat_cmp}
@@ -65,18 +65,6 @@ head_is x = omega (
 pub key_is : (x : List ℕ) → key 0 x ≡ get_or x 8 0 * 256 ^ 3 + get_or x 9 0 * 256 ^ 2 + get_or x 10 0 * 256 + get_or x 11 0
 unfolding key
 key_is x = omega (arith, first_bytes-at 8 3 x, first_bytes-at 9 2 x, first_bytes-at 10 1 x, first_bytes-at 11 0 x, none_left (drop 12 x))
-
--- zeros after a row do not show
-zeros_after : (x : List ℕ) (m i : ℕ) → get_or (x ++ replicate m 0) i 0 ≡ get_or x i 0
-zeros_after [] zero i = refl
-zeros_after [] (suc m) zero = refl
-zeros_after [] (suc m) (suc i) = zeros_after [] m i
-zeros_after (b ∷ x) m zero = refl
-zeros_after (b ∷ x) m (suc i) = zeros_after x m i
-
--- a row of at most 12 bytes, over 12 zeros
-pub padded_same : (x : List ℕ) (i : ℕ) → get_or (x ++ drop (length x) (replicate 12 0)) i 0 ≡ get_or x i 0
-padded_same x i = ap (λ (y : List ℕ). get_or (x ++ y) i 0) (drop-replicate {X = ℕ} (length x) 12 0) ∙ zeros_after x (12 - length x) i
 
 -- ---- The order of keys
 

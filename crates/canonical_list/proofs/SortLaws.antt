@@ -4,7 +4,7 @@ use Rattle.std.proofs.lemmas.Bool.{cases_lt, cases_order}
 use Rattle.std.proofs.lemmas.Cmp.{tied_itself, nat_cmp_total, nat_list_cmp_total}
 use Rattle.std.proofs.lemmas.List.{drop-drop, drop-map, get_or_append_left, get_or_default, get_or-append_right, get_or-drop, get_or-map, get_or-take, length-map, length-take-le, map-append, map-set, set-get_or, take-map}
 use Rattle.std.proofs.lemmas.List.Elements.{All-contains, All-drop, All-head, All-map, All-tail, All-take, Contains-get_or}
-use Rattle.std.proofs.lemmas.List.Sorted.{All-permutation, Contains-permutation, IsPermutation-map, IsPermutation-put_mid, IsPermutation-refl, IsPermutation-sym, IsPermutation-trans, IsNonDecreasingBy-from_all_adjacent, length_permutation}
+use Rattle.std.proofs.lemmas.List.Sorted.{All-permutation, Contains-permutation, IsPermutation-map, IsPermutation-put_mid, IsPermutation-sym, IsPermutation-trans, IsNonDecreasingBy-from_all_adjacent, length_permutation}
 use Rattle.std.specs.Cmp.{nat_cmp_is}
 use Rattle.std.specs.Cmp.Lexicographic.{slice_cmp}
 use Rattle.std.specs.List.{All}
@@ -194,18 +194,6 @@ pub record IsSorting (n : ℕ) (r : List (List ℕ)) (before : List Row) (start 
   pub leads : map (lead n r) ps ≡ map (lead n r) before
   pub sorted : (k : ℕ) → k + 1 < start → slice_cmp nat_cmp (get_or (row_bytes r ps) k []) (get_or (row_bytes r ps) (k + 1) []) ≢ Greater
   pub seam : (d : Row) → 0 < start → start < length before → lead n r (get_or before (start - 1) d) < lead n r (get_or before start d)
-
-pub sorting_starts : (n : ℕ) (r : List (List ℕ)) (ps : List Row) → IsSorting n r ps 0 ps
-sorting_starts n r ps = record {
-  moved = IsPermutation-refl (nths ps);
-  rest = refl;
-  leads = refl;
-  sorted = λ k inside. absurd (omega (arith, inside));
-  seam = λ d some inside. absurd (omega (arith, some));
-}
-
-pub sorting_ends : (n : ℕ) (r : List (List ℕ)) (before ps : List Row) (start : ℕ) → IsSorting n r before start ps → length ps ≤ start → AreInOrder (row_bytes r ps)
-sorting_ends n r before ps start h all k inside = h.sorted k (omega (arith, all, inside, length-map ps (λ p. get_or r p.nth [])))
 
 map_put : {X : Type 0} (f : Row → X) (a m : ℕ) (ps qs : List Row) → map f (put_mid a m ps qs) ≡ put_mid a m (map f ps) (map f qs)
 map_put f a m ps qs =

@@ -49,20 +49,6 @@ position_named (n ∷ ns) p there = elim (cases_lt n first_index) [
   ]
 ]
 
--- a reference that isn't simple names a position
-pub reference_names : (ns : List ℕ) (n : ℕ) → Contains ns n → first_index ≤ n → Contains (positions_in ns) (n - first_index)
-reference_names [] n there large = none_in n there
-reference_names (m ∷ ns) n there large = elim (cases_lt m first_index) [
-  | inl small ↦ elim (in_cons m ns n there) [
-    | inl same ↦ absurd (omega (arith, same, small, large))
-    | inr later ↦ subst (λ (xs : List ℕ). Contains xs (n - first_index)) (sym (positions_simple m ns small)) (reference_names ns n later large)
-  ]
-  | inr high ↦ subst (λ (xs : List ℕ). Contains xs (n - first_index)) (sym (positions_other m ns high)) (elim (in_cons m ns n there) [
-    | inl same ↦ subst (λ (x : ℕ). Contains ((m - first_index) ∷ positions_in ns) (x - first_index)) same (in_head (m - first_index) (positions_in ns))
-    | inr later ↦ in_tail (m - first_index) (positions_in ns) (n - first_index) (reference_names ns n later large)
-  ])
-]
-
 -- where something holds of each position that is named, each reference is simple or has it
 pub each_named : (P : ℕ → Type 0) (ns : List ℕ) → ((p : ℕ) → Contains (positions_in ns) p → P p) → AllByRecursion (λ n. (n < first_index) ⊎ P (n - first_index)) ns
 each_named P [] holds = tt

@@ -91,11 +91,6 @@ above_all r places f own = none_max (depth_above f (map (reference_at r) places)
     none_max : (n : ℕ) → max 0 n ≡ n
     none_max n = omega arith
 
--- all references of a record are lower, place by place
-pub lower_own : (r places : List ℕ) (end : ℕ) → places ≡ places_of r → AllByRecursion (λ n. n < end) (references r) → AllByRecursion (λ p. reference_at r p < end) places
-unfolding references
-lower_own r places end own lower = lower_places r places end (subst (λ (ps : List ℕ). AllByRecursion (λ n. n < end) (map (reference_at r) ps)) (sym own) lower)
-
 -- one step takes the height of one reference and leaves the others
 pub above_step : (r : List ℕ) (f : ℕ → ℕ) (deepest new place all : ℕ) (left others : List ℕ) → max deepest (depth_above f (map (reference_at r) left)) ≡ all → left ≡ place ∷ others → new ≡ max deepest (height f (reference_at r place))
     → max new (depth_above f (map (reference_at r) others)) ≡ all
@@ -171,22 +166,6 @@ pub all_records : (records : List (List ℕ)) (k : ℕ) (left : List (List ℕ))
 all_records records k left is none le = omega (arith, le, length-drop k records, ap length (sym is ∙ none))
 
 -- ---- Levels
-
--- the levels stay right when one more depth is counted
-pub counts_more : (depths : List ℕ) (end levels : ℕ) → CountsLevels depths end levels → CountsLevels depths (end + 1) (max levels (get_or depths end 0 + 1))
-counts_more depths end levels counts = record {
-  all = λ k inside. elim (cases_lt k end) [
-    | inl old ↦ omega (arith, counts.all k old)
-    | inr new ↦ let at : k ≡ end = omega (arith, new, inside) in omega (arith, ap (λ (n : ℕ). get_or depths n 0) at)
-  ];
-  one = elim (cases_lt (get_or depths end 0 + 1) levels) [
-    | inl less ↦ elim counts.one [
-      | inl none ↦ absurd (omega (arith, none, less))
-      | inr some ↦ inr (some.0, omega (arith, some.1), omega (arith, some.2, less))
-    ]
-    | inr more ↦ inr (end, omega arith, omega (arith, more))
-  ];
-}
 
 -- records have as many levels as their depths count
 pub levels_counted : (records : List (List ℕ)) (depths : List ℕ) (levels : ℕ) → ((i : ℕ) → i < length records → (t : Tree) × IsTreeAt records i t) → length depths ≡ length records → AreDepths records depths

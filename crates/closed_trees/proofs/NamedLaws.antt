@@ -40,14 +40,6 @@ named_each P r (p ∷ ps) each = elim (cases_lt (reference_at r p) first_index) 
   | inr large ↦ rw (named-kept r p ps large) (each.0, named_each P r ps each.1)
 ]
 
--- the places that are listed name records
-pub named_large : (r ps : List ℕ) → AllByRecursion (λ p. first_index ≤ reference_at r p) (named_among r ps)
-named_large r [] = rw (named-none r) tt
-named_large r (p ∷ ps) = elim (cases_lt (reference_at r p) first_index) [
-  | inl small ↦ rw (named-simple r p ps small) (named_large r ps)
-  | inr large ↦ rw (named-kept r p ps large) (large, named_large r ps)
-]
-
 -- what is in a list is in it with one more before it
 one_before : (q p : ℕ) (xs : List ℕ) → Contains xs p → Contains (q ∷ xs) p
 one_before q p xs (k, inside, is) = (suc k, omega (arith, inside), is)

@@ -7,7 +7,7 @@ use Rattle.cv_leaves.specs.Checks.{places_of}
 use Rattle.cv_leaves.specs.References.{reference_at, references, filled}
 use Rattle.tpi_records.specs.Header.{first_index}
 use Rattle.closed_trees.specs.Types.{NamesThere}
-use Rattle.closed_trees.specs.Table.{renumber, renumber_one, renumbered, AreNumbered}
+use Rattle.closed_trees.specs.Table.{renumber, renumber_one, renumbered}
 use Rattle.tpi_records.specs.Records.{IsRecord}
 use Rattle.cv_leaves.specs.Place.{IsChecked}
 use Rattle.cv_leaves.proofs.FilledLaws.{filled_len}
@@ -16,10 +16,6 @@ use Rattle.cv_leaves.proofs.FilledLaws.{filled_len}
 pub all_left : (r places copy : List ℕ) (f : ℕ → ℕ) → places ≡ places_of r → copy ≡ r → fill copy places (renumber f (map (reference_at r) places)) ≡ renumbered f r
 unfolding renumbered filled references
 all_left r places copy f own same = rw (own, same) refl
-
-pub all_named : (r places numbers : List ℕ) → places ≡ places_of r → AreNumbered numbers (references r) → AreNumbered numbers (map (reference_at r) places)
-unfolding references
-all_named r places numbers own named = rw own named
 
 renumber-more : (f : ℕ → ℕ) (n : ℕ) (ns : List ℕ) → renumber f (n ∷ ns) ≡ renumber_one f n ∷ renumber f ns
 unfolding renumber
@@ -55,11 +51,6 @@ simple_number f n small = rw (lt-ltb n first_index small) refl
 pub given_number : (f : ℕ → ℕ) (n : ℕ) → first_index ≤ n → first_index + f (n - first_index) ≡ renumber_one f n
 unfolding renumber_one
 given_number f n large = rw (le-ltb n first_index large) refl
-
--- at the start all references are left
-pub names_left : (many : ℕ) (r places : List ℕ) → places ≡ places_of r → NamesThere many (map (reference_at r) places) → NamesThere many (references r)
-unfolding references
-names_left many r places own there = rw (← own) there
 
 -- one reference more names an earlier record
 pub names_more : (many : ℕ) (r left others : List ℕ) (p : ℕ) (P : Type 0) → left ≡ p ∷ others → reference_at r p < first_index + many → (NamesThere many (map (reference_at r) left) → P) → NamesThere many (map (reference_at r) others) → P

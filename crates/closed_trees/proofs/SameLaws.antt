@@ -1,11 +1,11 @@
 -- Laws of equal trees, and of the position of a tree in a list.
-use Rattle.std.proofs.Common.{◌≡◌, ◌≢◌, ℕ, ◌<◌, ◌≤◌, ◌⊎◌, true, false, List, length, get_or, refl, sym, ◌∙◌, subst, arith, inl, inr}
+use Rattle.std.proofs.Common.{◌≡◌, ◌≢◌, ℕ, ◌<◌, ◌⊎◌, true, false, List, length, get_or, refl, sym, ◌∙◌, subst, arith, inl, inr}
 use Rattle.std.proofs.lemmas.Bool.{and_parts, and_from, eqb-true, eq-eqb, cases_Bool, cases_lt}
 use lib.Dec.{eqb}
 use Rattle.std.proofs.lemmas.Slice.Eq.{bytes_eq-Decides}
 use Rattle.std.proofs.lemmas.List.{get_or_default}
 use Rattle.std.proofs.lemmas.List.Elements.{Contains-get_or}
-use Rattle.std.proofs.lemmas.List.Sums.{position_or_len_is, fails_before_first, passes_at_first, prefix_len-le-length}
+use Rattle.std.proofs.lemmas.List.Sums.{position_or_len_is, fails_before_first, passes_at_first}
 use Rattle.std.specs.List.{position_or_len, AllPairs, Contains}
 use Rattle.std.specs.Str.{bytes_eq}
 use Rattle.closed_trees.specs.Tree.{Tree, Branches, tree, no_branch, simple, branch, nothing, same_tree, same_branches}
@@ -57,10 +57,6 @@ same_or_not t u = elim (cases_Bool (same_tree t u)) [ inl same ↦ inl (same_tre
 
 pub differ : (t u : Tree) → t ≢ u → same_tree t u ≡ false
 differ t u ne = elim (same_or_not t u) [ inl e ↦ absurd (ne e) | inr apart ↦ apart ]
-
-pub position_in-le-length : (l : List Tree) (t : Tree) → position_in l t ≤ length l
-unfolding position_in
-position_in-le-length l t = prefix_len-le-length _ l
 
 -- t is at its position, if that is below the length
 pub get_or-position_in : (l : List Tree) (t : Tree) → position_in l t < length l → get_or l (position_in l t) nothing ≡ t

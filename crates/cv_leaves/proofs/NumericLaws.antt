@@ -1,12 +1,12 @@
 -- One numeric leaf, and several one after the other.
-use Rattle.std.proofs.Common.{◌≡◌, ◌<◌, ◌≤◌, ◌+◌, ◌-◌, true, false, cond, ℕ, zero, suc, List, Some, None, length, refl, arith}
+use Rattle.std.proofs.Common.{◌≡◌, ◌<◌, ◌≤◌, ◌+◌, ◌-◌, true, cond, ℕ, zero, suc, List, Some, None, length, refl, arith}
 use Rattle.std.specs.Prelude.{◌&&◌, nat_le, nat_lt}
 use Rattle.std.proofs.lemmas.Bool.{leb-true, ltb-true}
 use Rattle.byte_fields.specs.Number.{number_at}
 use Rattle.byte_fields.specs.Check.{first_failing}
 use Rattle.byte_fields.proofs.CheckLaws.{first_failing-append_none, first_failing-append_some}
 use Rattle.cv_leaves.specs.Numeric.{numeric_len, numeric_end, has_numeric, numeric_checks, numerics_end, numerics_checks}
-use Rattle.cv_leaves.proofs.TestLaws.{and_both, chosen, not_chosen}
+use Rattle.cv_leaves.proofs.TestLaws.{and_both, chosen}
 use Rattle.cv_leaves.specs.declared.fault.LeafFault.{LeafFault}
 
 -- ---- one
@@ -23,10 +23,6 @@ numeric_inside body at has =
 -- a numeric leaf that was found is there
 pub numeric_found : (body : List ℕ) (at end : ℕ) → cond (has_numeric body at) (Some (numeric_end body at)) None ≡ Some end → (has_numeric body at ≡ true) × (numeric_end body at ≡ end)
 numeric_found body at end is = chosen (has_numeric body at) (numeric_end body at) end is
-
--- a numeric leaf that wasn't found is not there
-pub numeric_missing : (body : List ℕ) (at : ℕ) → cond (has_numeric body at) (Some (numeric_end body at)) None ≡ None → has_numeric body at ≡ false
-numeric_missing body at is = not_chosen (has_numeric body at) (numeric_end body at) is
 
 -- its first two bytes say where it ends
 pub numeric_end_is : (body : List ℕ) (at : ℕ) → numeric_end body at ≡ at + numeric_len (number_at 2 body at)

@@ -12,7 +12,7 @@ use Rattle.tpi_records.proofs.StreamLaws.{one_records, no_fault}
 use Rattle.checked_types.proofs.CycleLaws.{types_sound}
 use Rattle.closed_trees.specs.Types.{AreTypes}
 use Rattle.checked_types.specs.declared.fault.TypeFault.TheVariants as types
-use Rattle.file_types.specs.Read.{ListsTypes, IsAccepted, HasTypeRecords, ListsRecords, HasLongInfo, HasInfoFault, HasStreamFault, HasRecordsFault, HasPdbFault}
+use Rattle.file_types.specs.Read.{ListsTypes, IsAccepted, HasTypeRecords, ListsRecords, HasLongInfo, HasInfoFault, HasStreamFault, HasPdbFault}
 use Rattle.file_types.specs.declared.fault.PdbFault.{PdbFault}
 use Rattle.file_types.specs.declared.fault.PdbFault.TheVariants as fault
 use Rattle.msf_blocks.proofs.OneLayoutLaws.{one_layout}
@@ -65,17 +65,6 @@ stream_unrefused file layout records (fault.Tpi inner) lists (stream, there, fir
     let same : lists.stream ≡ stream = cc in
     no_fault stream records inner (rw same at lists.has_records) first
 stream_unrefused file layout records inner lists refused = absurd refused
-
--- a file that has type records has no fault on the way to them
-pub records_unrefused : {A : Type 0} (file : List ℕ) (records : List (List ℕ)) (inner : PdbFault A) → AreBytes file → HasTypeRecords file records → HasRecordsFault file inner → ⊥
-records_unrefused file records (fault.Msf inner) bytes is refused = let none = layout_holds file is.layout bytes is.has_layout in absurd cc
-records_unrefused {A = A} file records (fault.Stream inner) bytes is (layout, has, refused) =
-    stream_unrefused {A = A} file layout records (fault.Stream inner) (rw (one_layout file is.layout layout bytes is.has_layout has) at is.lists) refused
-records_unrefused {A = A} file records (fault.Tpi inner) bytes is (layout, has, refused) =
-    stream_unrefused {A = A} file layout records (fault.Tpi inner) (rw (one_layout file is.layout layout bytes is.has_layout has) at is.lists) refused
-records_unrefused file records (fault.Info inner) bytes is (layout, has, refused) = absurd refused
-records_unrefused file records (fault.Type inner) bytes is (layout, has, refused) = absurd refused
-records_unrefused file records fault.Memory bytes is (layout, has, refused) = absurd refused
 
 -- no stream of an accepted file has a fault
 streams_unrefused : {A : Type 0} (file : List ℕ) (records : List (List ℕ)) (inner : PdbFault A) → IsAccepted file records

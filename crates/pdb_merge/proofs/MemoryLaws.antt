@@ -1,10 +1,8 @@
 -- Out of memory comes only where the container has no fault.
-use Rattle.std.proofs.Common.{◌≡◌, ◌<◌, ◌∙◌, ℕ, List, None, get_or, refl, sym}
-use Rattle.std.specs.Prelude.{Result, Ok, Err, IfErr}
+use Rattle.std.proofs.Common.{◌≡◌, ◌∙◌, None, refl, sym}
 use Rattle.byte_io.specs.At.{Bytes, IfKnown}
 use Rattle.byte_fields.specs.Check.{first_failing}
-use Rattle.msf_blocks.specs.Layout.{LayoutView, HasLayout, layout_checks}
-use Rattle.msf_blocks.proofs.FoundLaws.{layout_holds}
+use Rattle.msf_blocks.specs.Layout.{layout_checks}
 use Rattle.pdb_merge.specs.Fault.{add_from_pdb, add_from_join, AddNamesFault}
 use Rattle.type_table.specs.declared.fault.JoinFault.{JoinFault}
 use Rattle.type_table.specs.declared.fault.JoinFault.TheVariants as join
@@ -19,19 +17,10 @@ of_pdb_want : {A : Type 0} (inner : PdbFault A) → ◌≡◌ {A = AddFault A} (
 of_pdb_want pdb.Memory is = refl
 of_pdb_want inner is = absurd cc
 
--- a file that was not listed when out of memory has no fault of its container
-pub pdb_want : {A : Type 0} (file : List ℕ) (inner : PdbFault A) (outer : AddFault A) → outer ≡ add_from_pdb inner → (inner ≡ Memory → first_failing (layout_checks file) ≡ None) → outer ≡ add.Memory → first_failing (layout_checks file) ≡ None
-pdb_want file inner outer made want is = want (of_pdb_want inner (sym made ∙ is))
-
 -- so where it is read by position
 pub pdb_want_at : {A : Type 0} (bytes : Bytes) (inner : PdbFault A) (outer : AddFault A) → outer ≡ add_from_pdb inner → (inner ≡ Memory → IfKnown bytes (λ file. first_failing (layout_checks file) ≡ None))
     → outer ≡ add.Memory → IfKnown bytes (λ file. first_failing (layout_checks file) ≡ None)
 pdb_want_at bytes inner outer made want is = want (of_pdb_want inner (sym made ∙ is))
-
--- a container that was read has no fault
-pub added_sound : {T A : Type 0} (file : List ℕ) (layout : LayoutView) (result : Result T (AddFault A)) → ((i : ℕ) → get_or file i 0 < 256) → HasLayout file layout → IfErr result (λ fault. fault ≡ add.Memory → first_failing (layout_checks file) ≡ None)
-added_sound file layout (Ok value) bytes has = tt
-added_sound file layout (Err fault) bytes has = λ is. layout_holds file layout bytes has
 
 -- ---- out of memory is never inside another fault
 

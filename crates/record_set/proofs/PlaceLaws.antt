@@ -1,8 +1,8 @@
 -- The places of records, as the records come and go.
-use Rattle.std.proofs.Common.{◌≡◌, ◌≤◌, ◌<◌, ◌*◌, ℕ, suc, List, [], ◌∷◌, ◌++◌, length, map, take, get_or, refl, sym, ap, ◌∙◌, arith, inl, inr, length-append}
+use Rattle.std.proofs.Common.{◌≡◌, ◌≤◌, ◌<◌, ◌*◌, ℕ, suc, List, [], ◌∷◌, ◌++◌, length, map, take, get_or, refl, sym, ap, arith, inl, inr, length-append}
 use Rattle.std.specs.List.{concat}
 use Rattle.std.proofs.lemmas.Bool.{cases_lt}
-use Rattle.std.proofs.lemmas.List.{length-map, get_or-map, map-append, take-map, get_or-take, get_or_append_left, get_or_default, length-take-le}
+use Rattle.std.proofs.lemmas.List.{length-map, get_or-map, map-append, take-map, get_or-take, get_or_append_left, length-take-le}
 use Rattle.std.proofs.Math.Seq.{get_or-append_seam}
 use Rattle.text_set.specs.TextSet.{Holds}
 use Rattle.cv_leaves.specs.Named.{named_places}
@@ -55,12 +55,3 @@ places_few records places has = rw has.listed (sum_of records has.fit)
 -- a record behind the others is new
 pub placed_last : (before after : List (List ℕ)) (r : List ℕ) (k : ℕ) → Holds before after r → k < length after → k ≡ length before → after ≡ before ++ r ∷ []
 placed_last before after r k holds inside last = elim holds [ inl same ↦ absurd (omega (arith, ap length same, inside, last)) | inr more ↦ more.0 ]
-
--- a record at another position was there
-pub placed_before : (before after : List (List ℕ)) (r : List ℕ) (k : ℕ) → Holds before after r → k < length after → get_or after k [] ≡ r → (k ≡ length before → ⊥) → after ≡ before
-placed_before before after r k holds inside at other = elim holds [
-  | inl same ↦ same
-  | inr more ↦
-      let old : k < length before = omega (arith, other, inside, ap length more.0, length-append before (r ∷ [])) in
-      absurd (more.1 (k, old, get_or_default before k r [] old ∙ sym (get_or_append_left before (r ∷ []) [] k old) ∙ ap (λ (xs : List (List ℕ)). get_or xs k []) (sym more.0) ∙ at))
-]

@@ -144,10 +144,6 @@ free_still keys after end hash key same f = record {
   taken = λ i below. let t = f.taken i below in (t.0, t.1, same t.0 t.1 ∙ t.2);
 }
 
-pub no_keys : (h : List ℕ → ℕ) → HaveKeys h [] []
-unfolding IsDistinct
-no_keys h = record { each = refl; few = omega arith; distinct = tt; first_free = λ k inside. absurd (omega (arith, inside)) }
-
 pub keys_pushed : (h : List ℕ → ℕ) (texts : List (List ℕ)) (text : List ℕ) (hash : ℕ) (keys after : List ℕ) → HaveKeys h texts keys → AddsKey texts text hash keys after → hash ≡ h text → length texts + 1 < 2 ^ 31 → HaveKeys h (texts ++ text ∷ []) after
 keys_pushed h texts text hash keys after have adds is few =
     let long : length after ≡ length keys + 1 = ap length adds.last ∙ length-append keys (adds.key ∷ []) in

@@ -6,7 +6,7 @@ use Rattle.std.proofs.lemmas.List.{get_or_default, get_or-take, get_or_append_le
 use Rattle.std.proofs.Math.Seq.{get_or-append_seam}
 use Rattle.std.proofs.lemmas.List.Quantifiers.{all_pairs_push}
 use Rattle.text_set.specs.TextKeys.{HaveKeys}
-use Rattle.text_set.specs.TextSet.{AreDistinct, Holds, Placed}
+use Rattle.text_set.specs.TextSet.{AreDistinct, Placed}
 use Rattle.text_set.proofs.TextKeyLaws.{keys_pushed}
 
 -- a text of at least four bytes that isn't there is appended
@@ -54,7 +54,3 @@ placed_few texts after keys keys_after text hash placed few = elim placed [
   | inl same ↦ rw same.0 (omega (arith, few))
   | inr more ↦ rw more.0 (omega (arith, few, length-append texts (text ∷ [])))
 ]
-
--- the set holds the text that was placed
-pub placed_holds : (texts after : List (List ℕ)) (keys keys_after : List ℕ) (text : List ℕ) (hash : ℕ) → Placed texts after keys keys_after text hash → Holds texts after text
-placed_holds texts after keys keys_after text hash placed = elim placed [ inl same ↦ inl same.0 | inr more ↦ inr (more.0, more.1.absent) ]

@@ -6,7 +6,7 @@ use Rattle.std.proofs.lemmas.List.{length-append, length-set, length-replicate, 
 use Rattle.std.proofs.lemmas.List.Elements.{All-push, All-weaker, All-contains, Contains-get_or, Contains-push, Contains-push_cases, Contains-append_left}
 use Rattle.std.proofs.lemmas.List.Quantifiers.{all_pairs_push}
 use Rattle.topological_order.specs.Graph.{Names, NamesNodes}
-use Rattle.topological_order.specs.Walk.{mark_at, IsPlaced, IsPassed, NamesCaught, IsWalk, AreCaught, StayMarked, new_one, new_count}
+use Rattle.topological_order.specs.Walk.{mark_at, IsPlaced, IsPassed, NamesCaught, IsWalk, AreCaught, new_one, new_count}
 use Rattle.topological_order.specs.declared.walk.Mark.{Mark}
 use Rattle.topological_order.specs.declared.walk.Mark.TheVariants.{New, Met, Placed}
 
@@ -356,13 +356,6 @@ count_top graph passed marks path order top w = count_places marks top (top_met 
 
 -- ---- marks that stay
 
--- setting a mark takes no mark away
-pub set_stays : (marks : List Mark) (i : ℕ) (m : Mark) → i < length marks → (m ≡ New → ⊥) → StayMarked marks (set marks i m)
-set_stays marks i m inside isnt j marked new = elim (cases_eq j i) [
-  | inl same ↦ isnt (sym (mark_same marks i m inside) ∙ ap (mark_at (set marks i m)) (sym same) ∙ new)
-  | inr other ↦ marked (sym (mark_other marks i j m other) ∙ new)
-]
-
 -- a walk that begins at a new node
 pub walk_from_root : (graph : List (List ℕ)) (passed : List ℕ) (marks : List Mark) (order : List ℕ) (root : ℕ) → IsWalk graph passed marks [] order → mark_at marks root ≡ New → root < length marks → IsWalk graph passed (set marks root Met) ([] ++ root ∷ []) order
 walk_from_root graph passed marks order root w new inside = walk_meets graph passed marks [] order root w new (omega (arith, inside, w.marks_many)) (λ k last. absurd (omega (arith, last)))
@@ -382,14 +375,6 @@ mark_push marks m i met = elim (cases_lt i (length marks)) [
 -- a node that was met stays met
 met_push : (marks : List Mark) (m : Mark) (i : ℕ) → mark_at marks i ≡ Met → mark_at (marks ++ m ∷ []) i ≡ Met
 met_push marks m i met = get_or_append_left marks (m ∷ []) New i (marked_inside marks i (λ new. new_met (sym new ∙ met))) ∙ met
-
--- at first no node is caught
-pub none_caught : AreCaught [] []
-none_caught = record {
-  rising = λ i j d lt below. absurd (omega (arith, below));
-  met = λ k d lt. absurd (omega (arith, lt));
-  whole = λ i met. absurd (new_met met);
-}
 
 -- one more node, which was met
 pub caught_more : (marks : List Mark) (nodes : List ℕ) (m : Mark) (node : ℕ) → AreCaught marks nodes → m ≡ Met → node ≡ length marks → AreCaught (marks ++ m ∷ []) (nodes ++ node ∷ [])

@@ -146,14 +146,6 @@ pub all_left : (r places : List ℕ) (P : ℕ → Type 0) → places ≡ places_
 unfolding references
 all_left r places P own = rw own ((λ h. h), (λ h. h))
 
--- one reference less is left, if P holds of it
-pub one_fewer : (r : List ℕ) (P : ℕ → Type 0) (place : ℕ) (left others : List ℕ) (All : Type 0) → left ≡ place ∷ others → P (reference_at r place) → AllByRecursion P (map (reference_at r) left) ↔ All → AllByRecursion P (map (reference_at r) others) ↔ All
-one_fewer r P place left others All split here so_far = ((λ rest. so_far.0 (rw split (here, rest))), (λ all. (rw split at (so_far.1 all)).1))
-
--- P doesn't hold of all, if it doesn't of the next one
-pub not_all : (r : List ℕ) (P : ℕ → Type 0) (place : ℕ) (left others : List ℕ) (All : Type 0) → left ≡ place ∷ others → (P (reference_at r place) → ⊥) → AllByRecursion P (map (reference_at r) left) ↔ All → All → ⊥
-not_all r P place left others All split fails so_far all = fails (rw split at (so_far.1 all)).0
-
 -- P holds of all, if none is left
 pub none_left : (r : List ℕ) (P : ℕ → Type 0) (left : List ℕ) (All : Type 0) → left ≡ [] → AllByRecursion P (map (reference_at r) left) ↔ All → All
 none_left r P left All none so_far = so_far.0 (rw none tt)
