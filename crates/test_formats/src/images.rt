@@ -6,7 +6,6 @@ use pdb_info::{Settings, info_bytes};
 use std::alloc::{Allocator, Global};
 use std::test::Fail;
 use test_samples::{LIMIT, Narrow, refusals, settings};
-use tpi_records::tpi_header_bytes;
 
 // Each call under test is in a function of its own. It has no contract, since a test compares when
 // it runs: so what calls it is quickly checked.
@@ -15,16 +14,6 @@ use tpi_records::tpi_header_bytes;
 fn len_of(block_size: u32, sizes: &[u32; 5]) -> Result<Option<u32>, Fail> {
     let settings = settings(LIMIT, block_size)?;
     Ok(image_len(sizes, settings.block_size()))
-}
-
-/// The info stream of the file without types.
-fn info_stream(settings: &Settings) -> [u8; 52] {
-    info_bytes(settings)
-}
-
-/// The stream 2 of the file without types.
-fn no_types() -> [u8; 56] {
-    tpi_header_bytes(0, 0)
 }
 
 /// Writes the image with these streams 1 and 2 and three empty ones.
@@ -79,7 +68,7 @@ fn written_of(
     types: &[u8],
 ) -> Result<(Result<(), WriteFault>, Vec<u8>), Fail> {
     let settings = settings(LIMIT, block_size)?;
-    let info = info_stream(&settings);
+    let info = info_bytes(&settings);
     let mut file = Vec::new(alloc);
     let answer = write_two(alloc, &settings, &info, types, &mut Out::new(&mut file));
     Ok((answer, file))
@@ -138,51 +127,28 @@ fn numbered(alloc: Global, len: usize) -> Result<Vec<u8>, Fail> {
     Ok(bytes)
 }
 
-/// Writes the image with a stream 1 in two parts, and a stream 2 in three.
-fn write_five<'a, A: Allocator + Copy>(
+/// Writes the image with this info stream in two parts, and a stream 2 in three, into a sink that
+/// has room for it.
+fn write_cut<'a, A: Allocator + Copy>(
     alloc: A,
-    head: &'a [u8],
-    tail: &'a [u8],
+    global: Global,
+    info: &'a [u8],
     first: &'a [u8],
     second: &'a [u8],
     third: &'a [u8],
-    out: &mut Narrow,
-) -> Result<Option<WriteFault>, Fail> {
-    let settings = settings(LIMIT, 4096)?;
-    let answer = write_parts(
-        alloc,
-        settings.block_size(),
-        &[&[], &[head, tail], &[first, second, third], &[], &[]],
-        out,
-    );
-    Ok(answer.err())
-}
-
-/// The info stream of the file without types.
-fn info_of_none() -> Result<[u8; 52], Fail> {
-    let settings = settings(LIMIT, 4096)?;
-    Ok(info_stream(&settings))
-}
-
-/// Writes the image with a stream 2 in three parts, and an info stream in two, into a sink that has
-/// room for it.
-fn write_cut<A: Allocator + Copy>(
-    alloc: A,
-    global: Global,
-    first: &[u8],
-    second: &[u8],
-    third: &[u8],
 ) -> Result<(Narrow, Option<WriteFault>), Fail> {
-    let info = info_of_none()?;
+    let settings = settings(LIMIT, 4096)?;
     let (head, tail) = info.split_at_checked(26).ok_or("no such cut")?;
     let mut out = Narrow::new(global, usize::MAX, usize::MAX);
-    let fault = write_five(alloc, head, tail, first, second, third, &mut out)?;
+    let streams: [&[&[u8]]; 5] = [&[], &[head, tail], &[first, second, third], &[], &[]];
+    let fault = write_parts(alloc, settings.block_size(), &streams, &mut out).err();
     Ok((out, fault))
 }
 
 /// The image with a stream 2 in three parts.
 fn in_three(alloc: Global, first: &[u8], second: &[u8], third: &[u8]) -> Result<Vec<u8>, Fail> {
-    let (out, fault) = write_cut(alloc, alloc, first, second, third)?;
+    let info = info_bytes(&settings(LIMIT, 4096)?);
+    let (out, fault) = write_cut(alloc, alloc, &info, first, second, third)?;
     match fault {
         None => Ok(out.taken),
         Some(fault) => Err(fault.into()),
@@ -232,7 +198,7 @@ fn write_listed<'a>(
 fn parts_of_one_byte(rt: HostRuntime) -> Result<(), Fail> {
     let types = numbered(rt.alloc(), 8193)?;
     let parts = single_bytes(rt.alloc(), &types)?;
-    let info = info_of_none()?;
+    let info = info_bytes(&settings(LIMIT, 4096)?);
     let mut file = Vec::new(rt.alloc());
     let mut out = Out::new(&mut file);
     write_listed(rt.alloc(), 4096, &[], &[&info], &parts, &mut out)?;
@@ -246,35 +212,12 @@ fn growth_for_parts_is_refused_before_anything_is_written(rt: HostRuntime) -> Re
     let types = numbered(rt.alloc(), 8193)?;
     let whole = image_of(rt.alloc(), 4096, &types)?;
     let (head, tail) = types.split_at_checked(4000).ok_or("no such cut")?;
+    let info = info_bytes(&settings(LIMIT, 4096)?);
     refusals(rt.alloc(), 128, 40, |heap| {
-        let (out, fault) = write_cut(heap, rt.alloc(), head, &[], tail)?;
+        let (out, fault) = write_cut(heap, rt.alloc(), &info, head, &[], tail)?;
         assert!(rt; matches!(fault, None | Some(WriteFault::Memory)));
         let want: &[u8] = if fault.is_none() { &whole } else { &[] };
         assert!(rt; out.taken.as_slice() == want);
-        Ok(fault.is_some())
-    })?;
-    Ok(())
-}
-
-/// Writes the file without types into a sink that has room for it.
-fn write_none<A: Allocator + Copy>(
-    alloc: A,
-    global: Global,
-) -> Result<(Narrow, Option<WriteFault>), Fail> {
-    let settings = settings(LIMIT, 4096)?;
-    let mut out = Narrow::new(global, usize::MAX, usize::MAX);
-    let info = info_stream(&settings);
-    let fault = write_two(alloc, &settings, &info, &no_types(), &mut out).err();
-    Ok((out, fault))
-}
-
-#[test]
-fn growth_is_refused_before_anything_is_written(rt: HostRuntime) -> Result<(), Fail> {
-    refusals(rt.alloc(), 128, 40, |heap| {
-        let (out, fault) = write_none(heap, rt.alloc())?;
-        let len = if fault.is_none() { 28_672 } else { 0 };
-        assert!(rt; matches!(fault, None | Some(WriteFault::Memory)));
-        assert_eq!(rt; out.taken.len(), len);
         Ok(fault.is_some())
     })?;
     Ok(())

@@ -25,30 +25,6 @@ fn fault_of<A: Allocator + Copy>(alloc: A, file: &[u8]) -> Option<AtFault<MsfFau
     layout_of(alloc, &mut Positions::new(file, usize::MAX)).err()
 }
 
-/// The size of a stream and its first block.
-fn size_and_block<A: Allocator>(layout: &Layout<A>, s: u32) -> (Option<u32>, Option<u32>) {
-    (layout.size(s), layout.block(s, 0))
-}
-
-#[test]
-fn the_layout_of_the_sample(rt: HostRuntime) -> Result<(), Fail> {
-    let file = sample(rt.alloc())?;
-    let mut input = Positions::new(&file, usize::MAX);
-    let Ok(layout) = layout_of(rt.alloc(), &mut input) else {
-        return Err("the sample is refused".into());
-    };
-    assert_eq!(rt; layout.streams(), 5);
-    for (s, want) in [
-        (0, (Some(0), None)),
-        (1, (Some(52), Some(5))),
-        (2, (Some(80), Some(6))),
-        (5, (None, None)),
-    ] {
-        assert_eq!(rt; size_and_block(&layout, s), want, "stream {s}");
-    }
-    Ok(())
-}
-
 #[test]
 fn each_read_fails_in_turn(rt: HostRuntime) -> Result<(), Fail> {
     let file = sample(rt.alloc())?;

@@ -6,17 +6,9 @@ use test_samples::GUID;
 use uuid::Uuid;
 
 #[test]
-fn settings_have_a_highest_limit(rt: HostRuntime) -> Result<(), Fail> {
+fn settings_have_a_highest_limit_and_one_of_seven_block_sizes(rt: HostRuntime) -> Result<(), Fail> {
     let guid = Uuid::from_bytes(GUID);
     assert!(rt; Settings::new(guid, 1, 1_073_741_825, 4096).is_none());
-    let settings = Settings::new(guid, 7, 1_073_741_824, 4096).ok_or("no settings")?;
-    assert_eq!(rt; settings.limit(), 1_073_741_824);
-    Ok(())
-}
-
-#[test]
-fn settings_have_one_of_seven_block_sizes(rt: HostRuntime) -> Result<(), Fail> {
-    let guid = Uuid::from_bytes(GUID);
     for block_size in [0, 256, 4095, 65536] {
         assert!(rt; Settings::new(guid, 1, 0, block_size).is_none());
     }

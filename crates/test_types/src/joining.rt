@@ -229,18 +229,6 @@ fn add_twice<'t, S: BuildHasher>(
     listed_twice(trial.alloc, trial.heap, table, &types, LIMIT, said)
 }
 
-/// Adds the types of each of these streams to a table.
-fn add_each<S: BuildHasher, A: Allocator + Copy>(
-    table: &mut Table<S, A>,
-    alloc: A,
-    streams: &[&[u8]],
-) -> Result<(), Fail> {
-    for stream in streams {
-        add_stream(table, alloc, stream, LIMIT)?;
-    }
-    Ok(())
-}
-
 /// A table of the types of some streams, added one after the other.
 fn table_of_each<S: BuildHasher + Drop, A: Allocator + Copy>(
     alloc: A,
@@ -248,7 +236,9 @@ fn table_of_each<S: BuildHasher + Drop, A: Allocator + Copy>(
     streams: &[&[u8]],
 ) -> Result<Table<S, A>, Fail> {
     let mut table = empty_table(alloc, hasher);
-    add_each(&mut table, alloc, streams)?;
+    for stream in streams {
+        add_stream(&mut table, alloc, stream, LIMIT)?;
+    }
     Ok(table)
 }
 
