@@ -77,11 +77,8 @@ pub(crate) fn unchecked_of<'a, 'b: 'a, R: Lend<'b>, A: Allocator + Copy>(
     ensures refused { IfErr result (IfOf (λ fault.
         HasPdbFaultRead (R.bytes input.old) layout.now fault ⊎ (fault ≡ PdbFault.Memory))) }
 {
-    if let Err(fault) = check_info(layout) {
-        return Err(AtFault::Of(fault));
-    }
-    let records = buffer.lent_records_of(alloc, input, layout)?;
-    Ok(records)
+    check_info(layout)?;
+    buffer.lent_records_of(alloc, input, layout)
 }
 
 /// Reads the records of a file on the way to its types. [`check_types`] makes types of them: they
@@ -124,11 +121,8 @@ fn gathered_of<'a, R: ReadAt, A: Allocator + Copy>(
     ensures refused { IfErr result (IfOf (λ fault.
         HasPdbFaultRead (R.bytes input.old) layout.now fault ⊎ (fault ≡ PdbFault.Memory))) }
 {
-    if let Err(missing) = check_info(layout) {
-        return Err(AtFault::Of(missing));
-    }
-    let records = buffer.records_of(alloc, input, layout)?;
-    Ok(records)
+    check_info(layout)?;
+    buffer.records_of(alloc, input, layout)
 }
 
 /// Reads the types of a file with this layout: its type records, which are checked. Of the file only

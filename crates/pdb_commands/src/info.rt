@@ -96,11 +96,8 @@ impl<A: Allocator + Copy> Show<A> for ShowInfo {
 
     fn text_of<R: ReadAt>(&self, alloc: A, input: &mut R, layout: &Layout<A>) -> Text<A> {
         let mut buffer = Vec::new(alloc);
-        if let Err(fault) = stream_bytes_of(input, layout, &mut buffer) {
-            return Err(fault.widen());
-        }
-        let text = stream_text(alloc, &buffer, self.limit)?;
-        Ok(text)
+        stream_bytes_of(input, layout, &mut buffer).map_err(AtFault::widen)?;
+        Ok(stream_text(alloc, &buffer, self.limit)?)
     }
 
     ghost shows_known = { λ c. info_shown c.limit };
