@@ -45,5 +45,5 @@ pub use info::{push_features, push_info_header, push_names};
 pub use record::record_text;
 pub use records::record_lines;
 pub use streams::layout_text;
-pub use text::{push_index, push_kind, push_named, push_quoted};
+pub use text::{is_plain, push_index, push_kind, push_named, push_quoted};
 pub use types::push_type_line;

@@ -37,7 +37,7 @@ pub fn push_named<A: Allocator>(
 
 /// Whether a byte is printed as itself within quotes.
 #[tactic(auto, unfolding(crate::specs::Text::is_plain))]
-fn is_plain(byte: u8) -> bool
+pub fn is_plain(byte: u8) -> bool
     ensures { result ≡ is_plain byte }
 {
     (0x20..=0x7E).contains(&byte) && byte != b'"' && byte != b'\\'

@@ -32,6 +32,7 @@ use topological_order::{Graph, topological_order};
 use tpi_records::{Records, tpi_header_bytes};
 use type_difference::{Standing, compare};
 use type_table::{Canon, Table};
+use type_texts::push_type;
 use types_guid::guid_of_types;
 
 /// `byte_fields` reads little-endian numbers.
@@ -311,6 +312,18 @@ fn lines_of_a_text(rt: HostRuntime) -> Result<(), Fail> {
     push_named(&mut text, "records", 2)?;
     push_quoted(&mut text, b"a \"name\"")?;
     assert_eq!(rt; text.as_str(), "records 2\n\"a \\x22name\\x22\"");
+    Ok(())
+}
+
+/// `type_texts` tells what a type is.
+#[test]
+fn the_words_of_a_type(rt: HostRuntime) -> Result<(), Fail> {
+    let file = sample(rt.alloc())?;
+    let mut buffer = Buffer::new(rt.alloc());
+    let types = read_types(rt.alloc(), &file, &mut buffer)?;
+    let mut text = Vec::new(rt.alloc());
+    push_type(&mut text, &types, 0x1000)?;
+    assert_eq!(rt; text.as_slice(), b"pointer to int".as_slice());
     Ok(())
 }
 

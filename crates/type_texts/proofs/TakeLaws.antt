@@ -1,0 +1,115 @@
+-- Texts that are cut at an end, and grow.
+use Rattle.std.proofs.Common.{◌≡◌, ◌≤◌, ◌<◌, ◌+◌, ◌-◌, ◌∙◌, ℕ, zero, suc, List, [], ◌∷◌, ◌++◌, length, take, drop, refl, sym, ap, arith, codes}
+use Rattle.std.proofs.lemmas.Bool.{le-leb, lt-leb}
+use Rattle.std.proofs.Math.Seq.{take-append-add}
+use Rattle.type_texts.specs.Text.{cut}
+use Rattle.std.specs.Prelude.{Result, Ok, Err, OnOk}
+use Rattle.std.specs.List.{flat_map}
+use Rattle.std.proofs.lemmas.Grind.{flat_map-append}
+use Rattle.command_texts.specs.Text.{quoted, quoted_byte}
+use Rattle.std.proofs.lemmas.List.{take-append-drop, take-append-le, take_all, length-take, length-append, append_assoc}
+
+-- what is cut, and then grows and is cut again, may as well grow first
+pub take_again : (end : ℕ) (xs ys : List ℕ) → take end (take end xs ++ ys) ≡ take end (xs ++ ys)
+take_again zero xs ys = refl
+take_again (suc n) [] ys = refl
+take_again (suc n) (x ∷ xs) ys = ap (λ (zs : List ℕ). x ∷ zs) (take_again n xs ys)
+
+not_below : (n : ℕ) → suc n ≤ 0 → ⊥
+not_below n h = omega (arith, h)
+
+-- as many bytes as there is room for
+pub take_room : (end : ℕ) (xs ys : List ℕ) → length xs ≤ end → xs ++ take (end - length xs) ys ≡ take end (xs ++ ys)
+take_room end [] ys short = ap (λ (k : ℕ). take k ys) (all_room end)
+  where
+    all_room : (n : ℕ) → n - 0 ≡ n
+    all_room n = omega arith
+take_room zero (x ∷ xs) ys short = absurd (not_below (length xs) short)
+take_room (suc n) (x ∷ xs) ys short =
+    ap (λ (k : ℕ). x ∷ (xs ++ take k ys)) (one_less n (length xs)) ∙ ap (λ (zs : List ℕ). x ∷ zs) (take_room n xs ys (omega (arith, short)))
+  where
+    one_less : (a b : ℕ) → suc a - suc b ≡ a - b
+    one_less a b = omega arith
+
+-- two texts one after the other
+pub take_more : (end : ℕ) (old a b now new : List ℕ) → now ≡ take end (old ++ a) → new ≡ take end (now ++ b) → new ≡ take end (old ++ (a ++ b))
+take_more end old a b now new first second =
+    second ∙ ap (λ (xs : List ℕ). take end (xs ++ b)) first ∙ take_again end (old ++ a) b ∙ ap (λ (xs : List ℕ). take end xs) (append_assoc old a b)
+
+-- no text at all
+pub take_none : (end : ℕ) (old : List ℕ) → length old ≤ end → old ≡ take end (old ++ [])
+take_none end old short = sym (take_all end (old ++ []) (omega (arith, short, length-append old [])) ∙ nothing_more old)
+  where
+    nothing_more : (xs : List ℕ) → xs ++ [] ≡ xs
+    nothing_more [] = refl
+    nothing_more (x ∷ xs) = ap (λ (ys : List ℕ). x ∷ ys) (nothing_more xs)
+
+-- a text that has no more room stays as it is
+pub take_full : (end : ℕ) (old a b now : List ℕ) → now ≡ take end (old ++ a) → end ≤ length now → now ≡ take end (old ++ (a ++ b))
+take_full end old a b now is full =
+    is ∙ ap (λ (xs : List ℕ). xs) (sym (take-append-le end (old ++ a) b long)) ∙ ap (λ (xs : List ℕ). take end xs) (append_assoc old a b)
+  where
+    long : end ≤ length (old ++ a)
+    long = omega (arith, full, ap (λ (xs : List ℕ). length xs) is, length-take end (old ++ a))
+
+-- the name is cut in its quotes
+pub quoted_full : (end i : ℕ) (old name now : List ℕ) → now ≡ take end (old ++ (34 ∷ flat_map quoted_byte (take i name))) → end ≤ length now → now ≡ take end (old ++ quoted name)
+unfolding quoted
+quoted_full end i old name now is full =
+    take_full end old (34 ∷ flat_map quoted_byte (take i name)) (flat_map quoted_byte (drop i name) ++ 34 ∷ []) now is full
+    ∙ ap (λ (xs : List ℕ). take end (old ++ (34 ∷ xs)))
+    (sym (append_assoc (flat_map quoted_byte (take i name)) (flat_map quoted_byte (drop i name)) (34 ∷ []))
+    ∙ ap (λ (xs : List ℕ). xs ++ 34 ∷ []) (sym (flat_map-append quoted_byte (take i name) (drop i name)) ∙ ap (flat_map quoted_byte) (take-append-drop i name)))
+
+-- the name is whole
+pub quoted_whole : (end : ℕ) (old name now new : List ℕ) → now ≡ take end (old ++ (34 ∷ flat_map quoted_byte name)) → new ≡ take end (now ++ 34 ∷ []) → new ≡ take end (old ++ quoted name)
+unfolding quoted
+quoted_whole end old name now new is more = take_more end old (34 ∷ flat_map quoted_byte name) (34 ∷ []) now new is more
+
+-- four texts one after the other
+pub four_more : (end : ℕ) (old a b c d one two three four : List ℕ) → one ≡ take end (old ++ a) → two ≡ take end (one ++ b) → three ≡ take end (two ++ c) → four ≡ take end (three ++ d)
+    → four ≡ take end (old ++ (a ++ b ++ c ++ d))
+four_more end old a b c d one two three four p q r s =
+    take_more end old (a ++ b ++ c) d three four (take_more end old (a ++ b) c two three (take_more end old a b one two p q) r) s
+
+-- what holds after Ok has what follows from it
+pub on_ok : {A E : Type 0} (P Q : Type 0) (r : Result A E) → (P → Q) → OnOk r P → OnOk r Q
+on_ok P Q (Ok value) from holds = from holds
+on_ok P Q (Err e) from holds = tt
+
+-- the same with more texts
+pub five_more : (end : ℕ) (old a b c d e one two three four five : List ℕ) → one ≡ take end (old ++ a) → two ≡ take end (one ++ b) → three ≡ take end (two ++ c) → four ≡ take end (three ++ d) → five ≡ take end (four ++ e)
+    → five ≡ take end (old ++ (a ++ b ++ c ++ d ++ e))
+five_more end old a b c d e one two three four five p q r s u =
+    take_more end old (a ++ b ++ c ++ d) e four five (four_more end old a b c d one two three four p q r s) u
+
+pub six_more : (end : ℕ) (old a b c d e f one two three four five six : List ℕ) → one ≡ take end (old ++ a) → two ≡ take end (one ++ b) → three ≡ take end (two ++ c) → four ≡ take end (three ++ d) → five ≡ take end (four ++ e) → six ≡ take end (five ++ f)
+    → six ≡ take end (old ++ (a ++ b ++ c ++ d ++ e ++ f))
+six_more end old a b c d e f one two three four five six p q r s u v =
+    take_more end old (a ++ b ++ c ++ d ++ e) f five six (five_more end old a b c d e one two three four five p q r s u) v
+
+-- the words are these
+pub as_told : (end : ℕ) (old words told new : List ℕ) → words ≡ told → new ≡ take end (old ++ told) → new ≡ take end (old ++ words)
+as_told end old words told new same is = is ∙ ap (λ (xs : List ℕ). take end (old ++ xs)) (sym same)
+
+take_shorter : (i j : ℕ) (xs : List ℕ) → i ≤ j → take i (take j xs) ≡ take i xs
+take_shorter zero j xs le = refl
+take_shorter (suc i) zero xs le = absurd (not_below i le)
+take_shorter (suc i) (suc j) [] le = refl
+take_shorter (suc i) (suc j) (x ∷ xs) le = ap (λ (ys : List ℕ). x ∷ ys) (take_shorter i j xs (omega (arith, le)))
+
+-- a text of at most that many bytes is shown whole
+pub cut_whole : (old words now : List ℕ) (end : ℕ) → end ≡ length old + 400 → now ≡ take (end + 1) (old ++ words) → length now ≤ end → now ≡ old ++ cut 400 words
+unfolding cut
+cut_whole old words now end is told short =
+    let long : length words ≤ 400 = omega (arith, short, is, ap (λ (xs : List ℕ). length xs) told, length-take (end + 1) (old ++ words), length-append old words) in
+    told ∙ take_all (end + 1) (old ++ words) (omega (arith, long, is, length-append old words)) ∙ rw (le-leb (length words) 400 long) refl
+
+-- a longer one is cut
+pub cut_part : (old words now last : List ℕ) (end : ℕ) → end ≡ length old + 400 → now ≡ take (end + 1) (old ++ words) → end < length now → last ≡ take end now ++ codes ".." → last ≡ old ++ cut 400 words
+unfolding cut
+cut_part old words now last end is told long more =
+    let much : 400 < length words = omega (arith, long, is, ap (λ (xs : List ℕ). length xs) told, length-take (end + 1) (old ++ words), length-append old words) in
+    let shorter : take end now ≡ take end (old ++ words) = ap (λ (xs : List ℕ). take end xs) told ∙ take_shorter end (end + 1) (old ++ words) (omega arith) in
+    let parts : take end (old ++ words) ≡ old ++ take 400 words = ap (λ (n : ℕ). take n (old ++ words)) is ∙ take-append-add old words 400 in
+    more ∙ ap (λ (xs : List ℕ). xs ++ codes "..") (shorter ∙ parts) ∙ append_assoc old (take 400 words) (codes "..") ∙ rw (lt-leb (length words) 400 much) refl

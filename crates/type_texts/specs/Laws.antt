@@ -1,0 +1,20 @@
+-- Laws of the texts of types.
+use Rattle.std.specs.Prelude.{ℕ, ◌≡◌, ◌+◌, ◌<◌, List, length}
+use Rattle.tpi_records.specs.Header.{first_index}
+use Rattle.closed_trees.specs.Tree.{Tree, IsTreeAt}
+use Rattle.closed_trees.specs.Types.{AreTypes}
+use Rattle.type_texts.specs.Expression.{IsTold}
+
+-- the same type has the same words, in whatever records it stands, and at whatever position
+abbrev pub SameTypeSameWords : Type 0
+SameTypeSameWords =
+    (records others : List (List ℕ)) (i k deep : ℕ) (t : Tree) (words told : List ℕ)
+    → IsTreeAt records i t → IsTreeAt others k t
+    → IsTold records deep (first_index + i) words → IsTold others deep (first_index + k) told
+    → words ≡ told
+
+-- each reference of records that make types has words
+abbrev pub WordsExist : Type 0
+WordsExist =
+    (records : List (List ℕ)) (deep to : ℕ) → AreTypes records → to < first_index + length records
+    → (words : List ℕ) × IsTold records deep to words

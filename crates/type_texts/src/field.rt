@@ -1,0 +1,116 @@
+//! The fields of a body that a text shows.
+
+ghost use Rattle.std.specs.Prelude.{◌≡◌, ◌≤◌, ◌<◌, ◌+◌, ◌^◌, ◌++◌, OnOk, length, take};
+ghost use Rattle.type_texts.specs.Field.{number_in, numeric_text, signed};
+
+use crate::text::{push, push_number};
+use byte_fields::{fits, u16_at, u32_at};
+use byteorder::{ByteOrder, LittleEndian};
+use std::alloc::{AllocError, Allocator};
+
+/// The byte at an offset, or 0 where it does not fit.
+#[tactic(auto, unfolding(crate::specs::Field::number_in, byte_fields::specs::Number::number_at))]
+pub fn byte_in(body: &[u8], at: usize) -> u8
+    ensures { result ≡ number_in 1 body.now at }
+{
+    if fits(body, at, 1) {
+        return body[at];
+    }
+    0
+}
+
+/// The number of two bytes at an offset, or 0 where it does not fit.
+#[tactic(auto, unfolding(crate::specs::Field::number_in))]
+pub fn u16_in(body: &[u8], at: usize) -> u16
+    ensures { result ≡ number_in 2 body.now at }
+{
+    if fits(body, at, 2) {
+        return u16_at(body, at);
+    }
+    0
+}
+
+/// The number of four bytes at an offset, or 0 where it does not fit.
+#[tactic(auto, unfolding(crate::specs::Field::number_in))]
+pub fn u32_in(body: &[u8], at: usize) -> u32
+    ensures { result ≡ number_in 4 body.now at }
+{
+    if fits(body, at, 4) {
+        return u32_at(body, at);
+    }
+    0
+}
+
+/// The number of eight bytes at an offset, or 0 where it does not fit.
+#[tactic(auto, unfolding(crate::specs::Field::number_in, byte_fields::specs::Number::number_at))]
+pub fn u64_in(body: &[u8], at: usize) -> u64
+    ensures { result ≡ number_in 8 body.now at }
+{
+    if fits(body, at, 8) {
+        return LittleEndian::read_u64(&body[at..]);
+    }
+    0
+}
+
+/// Appends a number in two's complement. `half` is the lowest number that stands for a negative
+/// one.
+#[tactic(auto, using(crate::proofs::TakeLaws::take_more), unfolding(crate::specs::Field::signed))]
+fn push_signed<A: Allocator>(
+    text: &mut Vec<u8, A>,
+    end: usize,
+    half: u64,
+    number: u64,
+) -> Result<(), AllocError>
+    requires room { length text.old.items ≤ end }
+    requires small { number < half + half }
+    ensures value { OnOk result (text.new.items ≡ take end (text.old.items ++ signed half number)) }
+    ensures short { OnOk result (length text.new.items ≤ end) }
+{
+    if number < half {
+        return push_number(text, end, number);
+    }
+    push(text, end, b"-")?;
+    push_number(text, end, half - (number - half))
+}
+
+/// Appends the value of the numeric leaf at an offset of a body, or a question mark.
+#[tactic(auto, unfolding(crate::specs::Field::numeric_text, crate::specs::Field::numeric_value, crate::specs::Field::number_in, cv_leaves::specs::Numeric::has_numeric, cv_leaves::specs::Numeric::numeric_end))]
+pub fn push_numeric<A: Allocator>(
+    text: &mut Vec<u8, A>,
+    end: usize,
+    body: &[u8],
+    at: usize,
+) -> Result<(), AllocError>
+    requires room { length text.old.items ≤ end }
+    requires near { (at < 2 ^ 17) × (length body.now < 2 ^ 17) }
+    ensures value { OnOk result
+        (text.new.items ≡ take end (text.old.items ++ numeric_text body.now at)) }
+    ensures short { OnOk result (length text.new.items ≤ end) }
+{
+    if !fits(body, at, 2) {
+        return push(text, end, b"?");
+    }
+    let kind = u16_at(body, at);
+    if kind < 0x8000 {
+        return push_number(text, end, u64::from(kind));
+    }
+    let from = at + 2;
+    match kind {
+        0x8000 if fits(body, from, 1) => {
+            push_signed(text, end, 0x80, u64::from(byte_in(body, from)))
+        }
+        0x8001 if fits(body, from, 2) => {
+            push_signed(text, end, 0x8000, u64::from(u16_in(body, from)))
+        }
+        0x8002 if fits(body, from, 2) => push_number(text, end, u64::from(u16_in(body, from))),
+        0x8003 if fits(body, from, 4) => {
+            push_signed(text, end, 0x8000_0000, u64::from(u32_in(body, from)))
+        }
+        0x8004 if fits(body, from, 4) => push_number(text, end, u64::from(u32_in(body, from))),
+        0x8009 if fits(body, from, 8) => {
+            push_signed(text, end, 0x8000_0000_0000_0000, u64_in(body, from))
+        }
+        0x800A if fits(body, from, 8) => push_number(text, end, u64_in(body, from)),
+        _ => push(text, end, b"?"),
+    }
+}

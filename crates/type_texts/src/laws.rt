@@ -1,0 +1,15 @@
+//! Laws of the texts of types.
+//!
+//! Each function here does nothing: its contract is the law.
+
+ghost use Rattle.type_texts.specs.Laws.{SameTypeSameWords, WordsExist};
+
+/// The same type has the same words, in whatever records it stands, and at whatever position.
+pub fn same_type_same_words()
+    ensures { SameTypeSameWords }
+{}
+
+/// Each reference of records that make types has words.
+pub fn words_exist()
+    ensures { WordsExist }
+{}

@@ -1,0 +1,88 @@
+//! Texts of bounded length.
+
+ghost use Rattle.std.specs.Prelude.{◌≡◌, ◌≤◌, ◌<◌, ◌++◌, OnOk, length, take};
+ghost use Rattle.std.specs.Fmt.{decimal};
+ghost use Rattle.command_texts.specs.Text.{digit, quoted_byte, quoted};
+
+use command_texts::is_plain;
+use itoa::Buffer;
+use std::alloc::{AllocError, Allocator};
+
+/// Appends bytes, as far as the text stays within `end` bytes.
+pub fn push<A: Allocator>(text: &mut Vec<u8, A>, end: usize, bytes: &[u8]) -> Result<(), AllocError>
+    requires { length text.old.items ≤ end }
+    ensures value { OnOk result (text.new.items ≡ take end (text.old.items ++ bytes.now)) }
+    ensures short { OnOk result (length text.new.items ≤ end) }
+{
+    let room = (end - text.len()).min(bytes.len());
+    text.extend_from_slice(&bytes[..room])
+}
+
+/// Appends a number.
+pub fn push_number<A: Allocator>(
+    text: &mut Vec<u8, A>,
+    end: usize,
+    number: u64,
+) -> Result<(), AllocError>
+    requires { length text.old.items ≤ end }
+    ensures value { OnOk result (text.new.items ≡ take end (text.old.items ++ decimal number)) }
+    ensures short { OnOk result (length text.new.items ≤ end) }
+{
+    let mut buffer = Buffer::new();
+    push(text, end, buffer.format(number).as_bytes())
+}
+
+/// The lower case hexadecimal digit of a number below 16.
+pub fn digit(number: u8) -> u8
+    requires { number < 16 }
+    ensures { result ≡ digit number }
+{
+    if number < 10 {
+        b'0' + number
+    } else {
+        b'a' + (number - 10)
+    }
+}
+
+/// Appends a byte as it is printed within quotes.
+fn push_quoted_byte<A: Allocator>(
+    text: &mut Vec<u8, A>,
+    end: usize,
+    byte: u8,
+) -> Result<(), AllocError>
+    requires { length text.old.items ≤ end }
+    ensures value { OnOk result
+        (text.new.items ≡ take end (text.old.items ++ quoted_byte byte)) }
+    ensures short { OnOk result (length text.new.items ≤ end) }
+{
+    if is_plain(byte) {
+        push(text, end, &[byte])
+    } else {
+        push(
+            text,
+            end,
+            &[b'\\', b'x', digit(byte / 16), digit(byte % 16)],
+        )
+    }
+}
+
+/// Appends a text in quotes. It stops as soon as there is no more room.
+pub fn push_quoted<A: Allocator>(
+    text: &mut Vec<u8, A>,
+    end: usize,
+    name: &[u8],
+) -> Result<(), AllocError>
+    requires { length text.old.items ≤ end }
+    ensures value { OnOk result (text.new.items ≡ take end (text.old.items ++ quoted name.now)) }
+    ensures short { OnOk result (length text.new.items ≤ end) }
+{
+    push(text, end, b"\"")?;
+    for byte in name {
+        if text.len() >= end {
+            return Ok(());
+        }
+        push_quoted_byte(text, end, *byte)?;
+    }
+    push(text, end, b"\"")?;
+    Ok(())
+}

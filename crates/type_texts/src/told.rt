@@ -1,0 +1,98 @@
+//! The words of a record that name no other.
+
+ghost use Rattle.std.specs.Prelude.{◌≡◌, ◌≤◌, ◌<◌, ◌++◌, OnOk, length, take};
+ghost use Rattle.type_texts.specs.Told.{if_bit, pointer_mode_words, modifier_words, pointer_words, bit_words};
+
+use crate::field::{byte_in, u16_in, u32_in};
+use crate::text::{push, push_number};
+use std::alloc::{AllocError, Allocator};
+
+/// Appends words if the lowest bit is set.
+#[tactic(auto, using(crate::proofs::TakeLaws::take_none))]
+fn push_if<A: Allocator>(
+    text: &mut Vec<u8, A>,
+    end: usize,
+    bits: u32,
+    words: &[u8],
+) -> Result<(), AllocError>
+    requires { length text.old.items ≤ end }
+    ensures value { OnOk result
+        (text.new.items ≡ take end (text.old.items ++ if_bit bits words.now)) }
+    ensures short { OnOk result (length text.new.items ≤ end) }
+{
+    if bits % 2 == 1 {
+        push(text, end, words)?;
+    }
+    Ok(())
+}
+
+/// Appends the words of a modifier.
+#[tactic(auto, using(crate::proofs::TakeLaws::take_more), unfolding(crate::specs::Told::modifier_words))]
+pub fn push_modifier<A: Allocator>(
+    text: &mut Vec<u8, A>,
+    end: usize,
+    body: &[u8],
+) -> Result<(), AllocError>
+    requires { length text.old.items ≤ end }
+    ensures value { OnOk result
+        (text.new.items ≡ take end (text.old.items ++ modifier_words body.now)) }
+    ensures short { OnOk result (length text.new.items ≤ end) }
+{
+    let flags = u32::from(u16_in(body, 4));
+    push_if(text, end, flags, b"const ")?;
+    push_if(text, end, flags / 2, b"volatile ")?;
+    push_if(text, end, flags / 4, b"unaligned ")
+}
+
+/// The words of a mode of pointers.
+#[tactic(auto, unfolding(crate::specs::Told::pointer_mode_words))]
+fn pointer_mode_words(mode: u32) -> &'static str
+    ensures { result.now ≡ pointer_mode_words mode }
+{
+    match mode {
+        1 => "reference to ",
+        2 => "pointer to member of ",
+        3 => "pointer to method of ",
+        4 => "rvalue reference to ",
+        _ => "pointer to ",
+    }
+}
+
+/// Appends the words of a pointer.
+#[tactic(auto, using(crate::proofs::TakeLaws::take_more), unfolding(crate::specs::Told::pointer_words))]
+pub fn push_pointer<A: Allocator>(
+    text: &mut Vec<u8, A>,
+    end: usize,
+    body: &[u8],
+) -> Result<(), AllocError>
+    requires { length text.old.items ≤ end }
+    ensures value { OnOk result
+        (text.new.items ≡ take end (text.old.items ++ pointer_words body.now)) }
+    ensures short { OnOk result (length text.new.items ≤ end) }
+{
+    let flags = u32_in(body, 4);
+    push_if(text, end, flags / 1024, b"const ")?;
+    push_if(text, end, flags / 512, b"volatile ")?;
+    push(text, end, pointer_mode_words(flags / 32 % 8).as_bytes())
+}
+
+/// Appends the words of a bit field.
+#[tactic(auto, using(crate::proofs::TakeLaws::take_more), unfolding(crate::specs::Told::bit_words))]
+pub fn push_bits<A: Allocator>(
+    text: &mut Vec<u8, A>,
+    end: usize,
+    body: &[u8],
+) -> Result<(), AllocError>
+    requires { length text.old.items ≤ end }
+    ensures value { OnOk result
+        (text.new.items ≡ take end (text.old.items ++ bit_words body.now)) }
+    ensures short { OnOk result (length text.new.items ≤ end) }
+{
+    let first = u64::from(byte_in(body, 5));
+    let many = u64::from(byte_in(body, 4));
+    push(text, end, b", bits ")?;
+    push_number(text, end, first)?;
+    push(text, end, b" to ")?;
+    push_number(text, end, (first + many).saturating_sub(1))?;
+    Ok(())
+}
