@@ -1,4 +1,4 @@
-//! Tests of `type_table`: tables, and canonical lists that are joined.
+//! Tests of `type_table` and `type_texts`: tables, canonical lists that are joined, words of types.
 //!
 //! They say what no clause says, at public calls. What a run of the program shows is in `tests/rows`.
 #![tactic(auto)]
@@ -11,3 +11,5 @@ mod joining;
 mod places;
 #[cfg(test)]
 mod prefixes;
+#[cfg(test)]
+mod words;
