@@ -8,12 +8,12 @@ use Rattle.cv_leaves.specs.Checks.{body_of}
 use Rattle.cv_leaves.specs.Blank.{put_four, fill, blank}
 use Rattle.cv_leaves.specs.Place.{HasPlaces, Apart}
 use Rattle.cv_leaves.specs.References.{reference_at}
-use Rattle.cv_leaves.proofs.PutLaws.{number_in_body, put_len, two_before, read_before, put_read, put_own, put_twice, put_swap, put_bytes}
+use Rattle.cv_leaves.proofs.PutLaws.{number_in_body, put_len, two_before, kind_before, read_before, put_read, put_own, put_twice, put_swap, put_bytes}
 use Rattle.cv_leaves.proofs.PlaceLaws.{Among, ends_behind, places_apart}
 use Rattle.cv_leaves.proofs.KeepLaws.{among_kept}
 
 -- each of the first places is one of the others
-abbrev Within : List ℕ → List ℕ → Type 0
+abbrev pub Within : List ℕ → List ℕ → Type 0
 Within ps qs = AllByRecursion (λ p. Among p qs) ps
 
 -- more places to be among change nothing
@@ -22,7 +22,7 @@ within_longer [] qs q each = tt
 within_longer (p ∷ ps) qs q each = (inr each.0, within_longer ps qs q each.1)
 
 -- places are among themselves
-within_itself : (ps : List ℕ) → Within ps ps
+pub within_itself : (ps : List ℕ) → Within ps ps
 within_itself [] = tt
 within_itself (p ∷ ps) = (inl refl, within_longer ps ps p (within_itself ps))
 
@@ -89,6 +89,13 @@ fill_front y from [] ns f = refl
 fill_front y from (p ∷ ps) [] f = refl
 fill_front y from (p ∷ ps) (n ∷ ns) f =
     fill_front (put_four y (4 + p) n) (p + 4) ps ns (next_fits y from p n ps f) ∙ two_before y (4 + p) n (omega arith) (omega (arith, first_fits from p ps (length y) f))
+
+-- and so does its kind
+pub fill_kind : (y : List ℕ) (from : ℕ) (ps ns : List ℕ) → Fits from ps (length y) → number_at 2 (fill y ps ns) 2 ≡ number_at 2 y 2
+fill_kind y from [] ns f = refl
+fill_kind y from (p ∷ ps) [] f = refl
+fill_kind y from (p ∷ ps) (n ∷ ns) f =
+    fill_kind (put_four y (4 + p) n) (p + 4) ps ns (next_fits y from p n ps f) ∙ kind_before y (4 + p) n (omega arith) (omega (arith, first_fits from p ps (length y) f))
 
 -- a number that ends before all places stays
 fill_before : (y : List ℕ) (q from : ℕ) (ps ns : List ℕ) → q + 4 ≤ 4 + from → Fits from ps (length y) → number_at 4 (fill y ps ns) q ≡ number_at 4 y q

@@ -4,13 +4,13 @@ use Rattle.std.proofs.lemmas.List.{length-map}
 use Rattle.byte_fields.specs.Bytes.{AreBytes}
 use Rattle.byte_fields.specs.Number.{number_at}
 use Rattle.tpi_records.specs.Records.{IsRecord}
-use Rattle.cv_leaves.specs.Checks.{places_of}
+use Rattle.cv_leaves.specs.Checks.{kind_of, places_of}
 use Rattle.cv_leaves.specs.Blank.{fill, blank}
 use Rattle.cv_leaves.specs.Place.{HasPlaces, IsChecked}
 use Rattle.cv_leaves.specs.Laws.{FilledIsRead, FillKeepsBlank, OwnFill, FillKeepsFrame, BlankKeepsFrame, FillKeepsBytes, BlankKeepsBytes}
 use Rattle.cv_leaves.specs.References.{reference_at, references, blanked, filled}
 use Rattle.cv_leaves.proofs.HoldLaws.{places_met}
-use Rattle.cv_leaves.proofs.FillLaws.{zeros, blank_is_fill, blank_fill, fill_kept, fill_len, fill_front, fill_read, fill_twice, fill_own, fill_bytes, fits}
+use Rattle.cv_leaves.proofs.FillLaws.{zeros, blank_is_fill, blank_fill, fill_kept, fill_len, fill_front, fill_kind, fill_read, fill_twice, fill_own, fill_bytes, fits}
 
 -- ---- its places
 
@@ -59,6 +59,16 @@ filled_len r ns checked = fill_len r 0 (places_of r) ns (fits r (places_of r) (o
 -- a blank has the length of the record
 pub blanked_len : (r : List ℕ) → IsChecked r → length (blanked r) ≡ length r
 blanked_len r checked = ap length (blanked_is_filled r) ∙ filled_len r (zeros (places_of r)) checked
+
+-- a filled record has the kind of the record
+filled_kind : (r ns : List ℕ) → IsChecked r → number_at 2 (filled r ns) 2 ≡ number_at 2 r 2
+unfolding filled
+filled_kind r ns checked = fill_kind r 0 (places_of r) ns (fits r (places_of r) (own_places r checked))
+
+-- a blank has the kind of the record
+pub blanked_kind : (r : List ℕ) → IsChecked r → kind_of (blanked r) ≡ kind_of r
+unfolding kind_of
+blanked_kind r checked = rw (blanked_is_filled r) (filled_kind r (zeros (places_of r)) checked)
 
 -- ---- its numbers
 

@@ -108,7 +108,7 @@ stop_reaches Indices body = tt
 stop_reaches Methods body = tt
 
 -- after a member comes the next one, or nothing
-member_follows : (body : List ℕ) (stop at : ℕ) (t : List ℕ) (ts : List (List ℕ)) (back others : List ℕ) → drop at body ≡ t ++ (concat ts ++ back) → length body ≤ stop → AreParts Members stop (at + length t) ts others → Unpadded (concat ts ++ back)
+pub member_follows : (body : List ℕ) (stop at : ℕ) (t : List ℕ) (ts : List (List ℕ)) (back others : List ℕ) → drop at body ≡ t ++ (concat ts ++ back) → length body ≤ stop → AreParts Members stop (at + length t) ts others → Unpadded (concat ts ++ back)
 member_follows body stop at t [] back others is reaches parts =
     let none : length back ≤ 0 = omega (arith, reaches, parts.0, length-drop at body, ap length is, length-append t back) in
     rw (no_bytes back none) (inl (omega arith))

@@ -25,7 +25,7 @@ only p q (inl e) = e
 only p q (inr never) = absurd never
 
 -- a number written at a place of a part leaves a part with the same places
-abbrev PartKeeps : Rest → Type 0
+abbrev pub PartKeeps : Rest → Type 0
 PartKeeps rest = (t here : List ℕ) (p n : ℕ) → IsPart rest t here → Among p here → (p + 4 ≤ length t) × IsPart rest (put_four t p n) here
 
 -- the attributes of a pointer, by whether it points to a member
@@ -74,7 +74,7 @@ index_place (suc (suc i)) p (inr (inl e)) = (omega (arith, e), omega (arith, e))
 index_place (suc (suc i)) p (inr (inr in_here)) = absurd (nowhere i p in_here)
 
 -- a member of a field list: what its indices are doesn't matter
-member_keeps : PartKeeps Members
+pub member_keeps : PartKeeps Members
 member_keeps t here p n part in_here =
     let tail = part.virtual ++ (part.numerics ++ (part.name ++ part.padding)) in
     let place = index_place part.member.indices p (rw part.places_are at in_here) in
@@ -183,7 +183,7 @@ put_after x s q n inside =
     ap (λ (y : List ℕ). drop s y) all ∙ drop_at front (put_four (drop s x) q n) s long
 
 -- a number that is written before an offset
-put_before : (x : List ℕ) (s p n : ℕ) → p + 4 ≤ s → s ≤ length x → drop s (put_four x p n) ≡ drop s x
+pub put_before : (x : List ℕ) (s p n : ℕ) → p + 4 ≤ s → s ≤ length x → drop s (put_four x p n) ≡ drop s x
 put_before x s p n before inside =
     let front = take s x in
     let long : length front ≡ s = omega (arith, length-take s x) in

@@ -16,3 +16,4 @@ pub mod KeepLaws
 pub mod FillLaws
 pub mod FilledLaws
 pub mod ListLaws
+pub mod FieldListLaws

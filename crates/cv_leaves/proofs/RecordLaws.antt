@@ -43,7 +43,7 @@ unfolding rest_checks
 parts_held r l checked is = (first_failing-parts (extent_checks l.rest (body_of r)) (checks_from l.rest (body_of r) (stop_of l.rest (body_of r)) (rest_start l.rest)) (rest_held r l checked is)).1
 
 -- offsets from 0 on are the numbers themselves
-plus_zero : (ns : List ℕ) → map (λ k. 0 + k) ns ≡ ns
+pub plus_zero : (ns : List ℕ) → map (λ k. 0 + k) ns ≡ ns
 plus_zero [] = refl
 plus_zero (n ∷ ns) = let e : 0 + n ≡ n = omega arith in rw e (ap (λ (xs : List ℕ). n ∷ xs) (plus_zero ns))
 

@@ -1,13 +1,14 @@
 -- What holds of the places of every record, and of the numbers that are written there.
 use Rattle.std.specs.Prelude.{ℕ, ◌≡◌, ◌+◌, ◌^◌, ◌<◌, List, length}
-use Rattle.std.specs.List.{concat, AllByRecursion}
+use Rattle.std.specs.List.{concat, flat_map, AllByRecursion}
 use Rattle.byte_fields.specs.Bytes.{AreBytes}
 use Rattle.byte_fields.specs.Number.{number_at}
 use Rattle.tpi_records.specs.Records.{IsRecord}
-use Rattle.cv_leaves.specs.Checks.{body_of, places_of}
+use Rattle.cv_leaves.specs.Checks.{kind_of, body_of, places_of}
 use Rattle.cv_leaves.specs.Blank.{put_four, fill, blank}
 use Rattle.cv_leaves.specs.Place.{AreParts, HasParts, HasPlaces, IsChecked, IsPlace, Apart}
 use Rattle.cv_leaves.specs.References.{references, blanked, filled}
+use Rattle.cv_leaves.specs.FieldList.{members_of, indices_of, AllDifferInIndices}
 use Rattle.cv_leaves.specs.declared.leaf.Rest.TheVariants.{Methods, Members}
 
 -- a record has one list of places
@@ -92,3 +93,16 @@ MembersFill =
     → HasParts Members body places
     → (members : List (List ℕ)) × (body ≡ concat members)
     × AreParts Members (length body) 0 members places
+
+-- the members of a field list and those of its blank differ in nothing but their type indices
+abbrev pub MembersDiffer : Type 0
+MembersDiffer =
+    (r : List ℕ) → IsChecked r → AllDifferInIndices (members_of r) (members_of (blanked r))
+
+-- the references of a field list are the type indices of its members
+abbrev pub MembersName : Type 0
+MembersName =
+    (r : List ℕ)
+    → IsChecked r
+    → kind_of r ≡ 0x1203
+    → flat_map indices_of (members_of r) ≡ references r

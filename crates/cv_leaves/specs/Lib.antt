@@ -15,3 +15,4 @@ pub mod Blank
 pub mod Laws
 pub mod References
 pub mod Named
+pub mod FieldList

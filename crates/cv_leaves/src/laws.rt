@@ -2,7 +2,7 @@
 //!
 //! Each function here does nothing: its contract is the law.
 
-ghost use Rattle.cv_leaves.specs.Laws.{OnePlaces, PlacesApart, FillKeeps, BlankKeeps, BlankStays, WrittenIsRead, PlacesMet, FilledIsRead, FillKeepsBlank, OwnFill, FillKeepsFrame, BlankKeepsFrame, FillKeepsBytes, BlankKeepsBytes, MethodsFill, MembersFill};
+ghost use Rattle.cv_leaves.specs.Laws.{OnePlaces, PlacesApart, FillKeeps, BlankKeeps, BlankStays, WrittenIsRead, PlacesMet, FilledIsRead, FillKeepsBlank, OwnFill, FillKeepsFrame, BlankKeepsFrame, FillKeepsBytes, BlankKeepsBytes, MethodsFill, MembersDiffer, MembersFill, MembersName};
 
 /// A record has one list of places.
 pub fn one_list_of_places()
@@ -86,4 +86,14 @@ pub fn methods_fill_the_body()
 /// The members of a field list, each with its padding, lie one after the other and fill its body.
 pub fn members_fill_the_body()
     ensures { MembersFill }
+{}
+
+/// The members of a field list and those of its blank differ in nothing but their type indices.
+pub fn blanking_keeps_the_members()
+    ensures { MembersDiffer }
+{}
+
+/// The references of a field list are the type indices of its members, in order.
+pub fn members_name_the_references()
+    ensures { MembersName }
 {}

@@ -1,9 +1,9 @@
 //! The leaves of type records: where a record names other types, and the name of its type.
 //!
 //! A type record has its length, its kind, and a *body*: the bytes after these four. The kind,
-//! which is also called the record's *leaf*, says what is in the body. This crate reads only two
-//! things there: the type indices, by which a record names other types, and the name of the type
-//! that it describes.
+//! which is also called the record's *leaf*, says what is in the body. This crate reads three
+//! things there: the type indices, by which a record names other types, the name of the type that
+//! it describes, and where the members of a field list begin and end.
 //!
 //! - [`check`] makes sure that the leaf of a record is in the table and that each field that is
 //!   read fits the body. [`LeafFault`] is the first check that fails.
@@ -14,7 +14,10 @@
 //!   record, and not a simple type, in one walk.
 //! - [`type_name`] returns the name of the type, where it has one that can be read. A name that
 //!   can't be read is not a fault.
-//! - [`kind_of`] returns the kind, and [`leaf_text`] returns the name of its leaf.
+//! - [`members`] returns the members of a field list, each with its padding.
+//! - [`kind_of`] returns the kind, [`body_of`] the body, and [`leaf_text`] the name of its leaf.
+//! - [`after_numeric`] returns where a numeric leaf ends. [`introduces`] and [`points_to_member`]
+//!   say what the attributes of a method and of a pointer say.
 //!
 //! A leaf is one row of the table in `leaf`. The row has the places at fixed offsets, and it says
 //! what follows them: the indices of an argument list, for example, the entries of a method list
@@ -56,6 +59,7 @@
 
 mod checks;
 mod fault;
+mod field_list;
 pub mod laws;
 mod leaf;
 mod member;
@@ -67,10 +71,13 @@ mod part;
 mod place;
 mod reference;
 
-pub use checks::{check, kind_of};
+pub use checks::{body_of, check, kind_of};
 pub use fault::LeafFault;
+pub use field_list::{FieldMembers, members};
 pub use leaf::leaf_text;
 pub use name::type_name;
 pub use named::list_places;
+pub use numeric::after_numeric;
+pub use part::{introduces, points_to_member};
 pub use place::{RecordPlaces as Places, places};
 pub use reference::{ref_at, set_ref};

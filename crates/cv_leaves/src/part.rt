@@ -37,7 +37,7 @@ pub fn introduces(attributes: u16) -> bool
 }
 
 /// Whether the attributes of a pointer say that it points to a member of a class.
-fn points_to_member(attributes: u32) -> bool
+pub fn points_to_member(attributes: u32) -> bool
     ensures { result ≡ points_to_member attributes }
 {
     matches!(attributes >> 5 & 7, 2 | 3)
