@@ -8,6 +8,8 @@ mod calls;
 #[cfg(test)]
 mod joining;
 #[cfg(test)]
+mod members;
+#[cfg(test)]
 mod places;
 #[cfg(test)]
 mod prefixes;

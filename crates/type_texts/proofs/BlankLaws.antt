@@ -33,9 +33,9 @@ use Rattle.cv_leaves.specs.References.{blanked}
 use Rattle.cv_leaves.proofs.PutLaws.{put_len}
 use Rattle.cv_leaves.proofs.FillLaws.{Fits, fits}
 use Rattle.cv_leaves.proofs.PlaceLaws.{ends_behind}
-use Rattle.cv_leaves.proofs.FilledLaws.{blanked_places, blanked_len, own_places}
+use Rattle.cv_leaves.proofs.FilledLaws.{blanked_places, blanked_len, blanked_kind, own_places}
 use Rattle.type_texts.specs.Field.{number_in, numeric_text, own_name}
-use Rattle.type_texts.specs.Told.{told, modifier_words, pointer_words, bit_words}
+use Rattle.type_texts.specs.Told.{plain_words, told, modifier_words, pointer_words, bit_words}
 
 -- ---- bytes
 
@@ -86,7 +86,7 @@ same_byte : (r : List ℕ) (i : ℕ) → IsChecked r → Outside i (places_of r)
 unfolding blanked
 same_byte r i checked outside = byte_kept r 0 i (places_of r) (fits r (places_of r) (own_places r checked)) outside
 
-same_rest : (r : List ℕ) (k : ℕ) → IsChecked r → AllByRecursion (λ p. 4 + p + 4 ≤ 4 + k) (places_of r) → drop k (body_of (blanked r)) ≡ drop k (body_of r)
+pub same_rest : (r : List ℕ) (k : ℕ) → IsChecked r → AllByRecursion (λ p. 4 + p + 4 ≤ 4 + k) (places_of r) → drop k (body_of (blanked r)) ≡ drop k (body_of r)
 unfolding blanked body_of
 same_rest r k checked after =
     let x = blank r (places_of r) in
@@ -97,10 +97,10 @@ shifted : (x : List ℕ) (j k : ℕ) → get_or (drop j (body_of x)) k 0 ≡ get
 unfolding body_of
 shifted x j k = get_or-drop j (drop 4 x) k 0 ∙ get_or-drop 4 x (j + k) 0
 
-same_in_body : (r : List ℕ) (j k : ℕ) → IsChecked r → Outside (4 + (j + k)) (places_of r) → get_or (drop j (body_of (blanked r))) k 0 ≡ get_or (drop j (body_of r)) k 0
+pub same_in_body : (r : List ℕ) (j k : ℕ) → IsChecked r → Outside (4 + (j + k)) (places_of r) → get_or (drop j (body_of (blanked r))) k 0 ≡ get_or (drop j (body_of r)) k 0
 same_in_body r j k checked outside = shifted (blanked r) j k ∙ same_byte r (4 + (j + k)) checked outside ∙ sym (shifted r j k)
 
-body_len : (x y : List ℕ) → length x ≡ length y → length (body_of x) ≡ length (body_of y)
+pub body_len : (x y : List ℕ) → length x ≡ length y → length (body_of x) ≡ length (body_of y)
 unfolding body_of
 body_len x y same = omega (arith, same, length-drop 4 x, length-drop 4 y)
 
@@ -108,24 +108,13 @@ one_same : (x y : List ℕ) (j : ℕ) → length x ≡ length y → get_or (drop
 unfolding number_in number_at
 one_same x y j len a = rw (len, a) refl
 
-two_same : (x y : List ℕ) (j : ℕ) → length x ≡ length y → ((k : ℕ) → k < 2 → get_or (drop j x) k 0 ≡ get_or (drop j y) k 0) → number_in 2 x j ≡ number_in 2 y j
+pub two_same : (x y : List ℕ) (j : ℕ) → length x ≡ length y → ((k : ℕ) → k < 2 → get_or (drop j x) k 0 ≡ get_or (drop j y) k 0) → number_in 2 x j ≡ number_in 2 y j
 unfolding number_in number_at
 two_same x y j len each = rw (len, each 0 (omega arith), each 1 (omega arith)) refl
 
-four_same : (x y : List ℕ) (j : ℕ) → length x ≡ length y → ((k : ℕ) → k < 4 → get_or (drop j x) k 0 ≡ get_or (drop j y) k 0) → number_in 4 x j ≡ number_in 4 y j
+pub four_same : (x y : List ℕ) (j : ℕ) → length x ≡ length y → ((k : ℕ) → k < 4 → get_or (drop j x) k 0 ≡ get_or (drop j y) k 0) → number_in 4 x j ≡ number_in 4 y j
 unfolding number_in number_at
 four_same x y j len each = rw (len, each 0 (omega arith), each 1 (omega arith), each 2 (omega arith), each 3 (omega arith)) refl
-
-low : (i : ℕ) (ps : List ℕ) → i < 4 → Outside i ps
-low i [] below = tt
-low i (p ∷ ps) below = (inl (omega (arith, below)), low i ps below)
-
-pub same_kind : (r : List ℕ) → IsChecked r → kind_of (blanked r) ≡ kind_of r
-unfolding kind_of number_at
-same_kind r checked =
-    let a : get_or (drop 2 (blanked r)) 0 0 ≡ get_or (drop 2 r) 0 0 = get_or-drop 2 (blanked r) 0 0 ∙ same_byte r 2 checked (low 2 (places_of r) (omega arith)) ∙ sym (get_or-drop 2 r 0 0) in
-    let b : get_or (drop 2 (blanked r)) 1 0 ≡ get_or (drop 2 r) 1 0 = get_or-drop 2 (blanked r) 1 0 ∙ same_byte r 3 checked (low 3 (places_of r) (omega arith)) ∙ sym (get_or-drop 2 r 1 0) in
-    rw (a, b) refl
 
 -- ---- by kind
 
@@ -162,7 +151,7 @@ nothing_is Methods e = absurd cc
 nothing_is Members e = absurd cc
 
 -- the numeric leaf and the name there depend on the bytes from there on
-numeric_same : (x y : List ℕ) (k : ℕ) → length x ≡ length y → drop k x ≡ drop k y → numeric_text x k ≡ numeric_text y k
+pub numeric_same : (x y : List ℕ) (k : ℕ) → length x ≡ length y → drop k x ≡ drop k y → numeric_text x k ≡ numeric_text y k
 unfolding numeric_text numeric_value has_numeric numeric_end number_at
 numeric_same x y k len d =
     let two : drop (k + 2) x ≡ drop (k + 2) y = further x ∙ ap (λ (xs : List ℕ). drop 2 xs) d ∙ sym (further y) in
@@ -171,11 +160,11 @@ numeric_same x y k len d =
     further : (z : List ℕ) → drop (k + 2) z ≡ drop 2 (drop k z)
     further z = ap (λ (n : ℕ). drop n z) (omega arith) ∙ sym (drop-drop 2 k z)
 
-name_same : (x y : List ℕ) (k : ℕ) → drop k x ≡ drop k y → name_at x k ≡ name_at y k
+pub name_same : (x y : List ℕ) (k : ℕ) → drop k x ≡ drop k y → name_at x k ≡ name_at y k
 unfolding name_at has_name
 name_same x y k d = rw d refl
 
-named_same : (naming : NamePlace) (x y : List ℕ) (k : ℕ) → length x ≡ length y → drop k x ≡ drop k y → name_in (AfterNumeric k) x ≡ name_in (AfterNumeric k) y
+pub named_same : (naming : NamePlace) (x y : List ℕ) (k : ℕ) → length x ≡ length y → drop k x ≡ drop k y → name_in (AfterNumeric k) x ≡ name_in (AfterNumeric k) y
 unfolding name_in has_numeric numeric_end number_at
 named_same naming x y k len d =
     let n = numeric_len (little_number 2 (drop k y)) in
@@ -205,13 +194,13 @@ behind_told : (kind : ℕ) (l : Leaf) → leaf_of kind ≡ Some l → names_behi
 unfolding leaf_of
 behind_told kind l is = found_passes (λ k l. names_behind l.naming l.rest l.places) leaves kind l refl is
 
-same_name : (r : List ℕ) → IsChecked r → own_name (blanked r) ≡ own_name r
+pub same_name : (r : List ℕ) → IsChecked r → own_name (blanked r) ≡ own_name r
 unfolding own_name
 same_name r checked =
     let has = own_places r checked in
     let l = has.leaf in
     let is : Some l ≡ leaf_of (kind_of r) = sym has.kind in
-    let blank_is : Some l ≡ leaf_of (kind_of (blanked r)) = is ∙ ap leaf_of (sym (same_kind r checked)) in
+    let blank_is : Some l ≡ leaf_of (kind_of (blanked r)) = is ∙ ap leaf_of (sym (blanked_kind r checked)) in
     ap name_text (name_is (blanked r) l blank_is ∙ same_name_by r l l.naming checked is (behind_told (kind_of r) l has.kind) ∙ sym (name_is r l is))
 
 one_place : (r : List ℕ) → (kind_of r ≡ 0x1001) ⊎ (kind_of r ≡ 0x1205) → places_of r ≡ 0 ∷ []
@@ -260,21 +249,29 @@ bits_same : (x y : List ℕ) → number_in 1 x 4 ≡ number_in 1 y 4 → number_
 unfolding bit_words
 bits_same x y a b = rw (a, b) refl
 
-choose : (k n : ℕ) (a b c d : List ℕ) → (k ≡ n → a ≡ c) → b ≡ d → cond (k == n) a b ≡ cond (k == n) c d
+pub choose : {X : Type 0} (k n : ℕ) (a b c d : X) → (k ≡ n → a ≡ c) → b ≡ d → cond (k == n) a b ≡ cond (k == n) c d
 choose k n a b c d here other = elim (cases_eq k n) [
   | inl same ↦ rw (eq-eqb k n same) (here same)
   | inr differ ↦ rw (ne_eqb k n differ) other
 ]
+
+plain_same : (x y : List ℕ) → kind_of x ≡ kind_of y → (kind_of y ≡ 0x000A → number_in 2 (body_of x) 0 ≡ number_in 2 (body_of y) 0) → own_name x ≡ own_name y → plain_words x ≡ plain_words y
+unfolding plain_words
+plain_same x y kinds shape name =
+    rw kinds
+    (choose (kind_of y) 0x000A _ _ _ _ (λ kind. ap (λ (n : ℕ). codes "virtual table of " ++ decimal n) (shape kind))
+    (choose (kind_of y) 0x000E _ _ _ _ (λ kind. refl)
+    (choose (kind_of y) 0x1203 _ _ _ _ (λ kind. refl)
+    (choose (kind_of y) 0x151D _ _ _ _ (λ kind. refl) name))))
 
 told_same : (x y : List ℕ) (at : ℕ → List ℕ) → kind_of x ≡ kind_of y → places_of x ≡ places_of y
     → (kind_of y ≡ 0x1001 → modifier_words (body_of x) ≡ modifier_words (body_of y))
     → (kind_of y ≡ 0x1002 → number_in 4 (body_of x) 4 ≡ number_in 4 (body_of y) 4)
     → (kind_of y ≡ 0x1205 → bit_words (body_of x) ≡ bit_words (body_of y))
     → (kind_of y ≡ 0x1503 → numeric_text (body_of x) 8 ≡ numeric_text (body_of y) 8)
-    → (kind_of y ≡ 0x000A → number_in 2 (body_of x) 0 ≡ number_in 2 (body_of y) 0)
-    → own_name x ≡ own_name y → told x at ≡ told y at
+    → plain_words x ≡ plain_words y → told x at ≡ told y at
 unfolding told
-told_same x y at kinds places modifier pointer bits array shape name =
+told_same x y at kinds places modifier pointer bits array plain =
     rw (kinds, places)
     (choose (kind_of y) 0x1001 _ _ _ _ (λ kind. ap (λ (xs : List ℕ). xs ++ at 0) (modifier kind))
     (choose (kind_of y) 0x1002 _ _ _ _ (λ kind. rw (pointer kind, pointer_same (body_of x) (body_of y) (pointer kind)) refl)
@@ -283,23 +280,20 @@ told_same x y at kinds places modifier pointer bits array shape name =
     (choose (kind_of y) 0x1201 _ _ _ _ (λ kind. refl)
     (choose (kind_of y) 0x1206 _ _ _ _ (λ kind. refl)
     (choose (kind_of y) 0x1205 _ _ _ _ (λ kind. ap (λ (xs : List ℕ). at 0 ++ xs) (bits kind))
-    (choose (kind_of y) 0x1503 _ _ _ _ (λ kind. ap (λ (xs : List ℕ). codes "array of " ++ xs ++ codes " bytes of " ++ at 0) (array kind))
-    (choose (kind_of y) 0x000A _ _ _ _ (λ kind. ap (λ (n : ℕ). codes "virtual table of " ++ decimal n) (shape kind))
-    (choose (kind_of y) 0x000E _ _ _ _ (λ kind. refl)
-    (choose (kind_of y) 0x1203 _ _ _ _ (λ kind. refl)
-    (choose (kind_of y) 0x151D _ _ _ _ (λ kind. refl) name))))))))))))
+    (choose (kind_of y) 0x1503 _ _ _ _ (λ kind. ap (λ (xs : List ℕ). codes "array of " ++ xs ++ codes " bytes of " ++ at 0) (array kind)) plain))))))))
 
 -- a record and its blank are told in the same words
 pub told_blank : (r : List ℕ) (at : ℕ → List ℕ) → IsChecked r → told (blanked r) at ≡ told r at
 told_blank r at checked =
     let x = blanked r in
     let len = body_len x r (blanked_len r checked) in
-    told_same x r at (same_kind r checked) (blanked_places r checked)
+    told_same x r at (blanked_kind r checked) (blanked_places r checked)
     (λ kind. modifier_same (body_of x) (body_of r) (two_same (body_of x) (body_of r) 4 len (λ k below. same_in_body r 4 k checked (rw (one_place r (inl kind)) (inr (omega arith), tt)))))
     (λ kind. four_same (body_of x) (body_of r) 4 len (λ k below. same_in_body r 4 k checked (pointer_outside r k kind below)))
     (λ kind. bits_same (body_of x) (body_of r)
     (one_same (body_of x) (body_of r) 4 len (same_in_body r 4 0 checked (rw (one_place r (inr kind)) (inr (omega arith), tt))))
     (one_same (body_of x) (body_of r) 5 len (same_in_body r 5 0 checked (rw (one_place r (inr kind)) (inr (omega arith), tt)))))
     (λ kind. numeric_same (body_of x) (body_of r) 8 len (same_rest r 8 checked (rw (array_places r kind) (omega arith, (omega arith, tt)))))
+    (plain_same x r (blanked_kind r checked)
     (λ kind. two_same (body_of x) (body_of r) 0 len (λ k below. same_in_body r 0 k checked (rw (no_place r kind) tt)))
-    (same_name r checked)
+    (same_name r checked))

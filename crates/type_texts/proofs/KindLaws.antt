@@ -4,12 +4,8 @@ use Rattle.std.specs.Fmt.{decimal}
 use Rattle.cv_leaves.specs.Attributes.{points_to_member}
 use Rattle.cv_leaves.specs.Checks.{kind_of, body_of, places_of, rest_places, places_from}
 use Rattle.cv_leaves.specs.Leaf.{leaf_of}
-use Rattle.type_texts.specs.Field.{number_in, numeric_text, own_name}
-use Rattle.std.specs.Prelude.{Some, None}
-use Rattle.cv_leaves.specs.Name.{name_of}
-use Rattle.command_texts.specs.Text.{quoted}
-use Rattle.type_texts.specs.Field.{name_text}
-use Rattle.type_texts.specs.Told.{told, strung, modifier_words, pointer_words, bit_words}
+use Rattle.type_texts.specs.Field.{number_in, numeric_text}
+use Rattle.type_texts.specs.Told.{plain_words, told, strung, modifier_words, pointer_words, bit_words}
 use Rattle.cv_leaves.specs.Part.{part_places, part_end}
 use Rattle.cv_leaves.specs.declared.leaf.Rest.TheVariants.{Containing}
 use Rattle.cv_leaves.proofs.PartLaws.{places_here}
@@ -65,22 +61,6 @@ pub told-methods : (r : List ℕ) (at : ℕ → List ℕ) → kind_of r ≡ 0x12
 unfolding told
 told-methods r at kind = rw kind refl
 
-pub told-shape : (r : List ℕ) (at : ℕ → List ℕ) → kind_of r ≡ 0x000A → told r at ≡ codes "virtual table of " ++ decimal (number_in 2 (body_of r) 0)
-unfolding told
-told-shape r at kind = rw kind refl
-
-pub told-label : (r : List ℕ) (at : ℕ → List ℕ) → kind_of r ≡ 0x000E → told r at ≡ codes "label"
-unfolding told
-told-label r at kind = rw kind refl
-
-pub told-fields : (r : List ℕ) (at : ℕ → List ℕ) → kind_of r ≡ 0x1203 → told r at ≡ codes "fields"
-unfolding told
-told-fields r at kind = rw kind refl
-
-pub told-table : (r : List ℕ) (at : ℕ → List ℕ) → kind_of r ≡ 0x151D → told r at ≡ codes "virtual table"
-unfolding told
-told-table r at kind = rw kind refl
-
 pub told-member_pointer : (r : List ℕ) (at : ℕ → List ℕ) → kind_of r ≡ 0x1002 → points_to_member (number_in 4 (body_of r) 4) ≡ true → told r at ≡ pointer_words (body_of r) ++ at 8 ++ codes ", " ++ at 0
 unfolding told
 told-member_pointer r at kind mode = rw (kind, mode) refl
@@ -112,11 +92,11 @@ second_place body mode = rw mode refl
 pub has-member : (r : List ℕ) → kind_of r ≡ 0x1002 → points_to_member (number_in 4 (body_of r) 4) ≡ true → Has 0 (places_of r) × Has 8 (places_of r)
 has-member r kind mode = rw (pointer_places r kind, second_place (body_of r) (there (body_of r) mode)) (inl refl, inr (inl refl))
 
--- any other record that is told is told by its name
-pub told-named : (r : List ℕ) (at : ℕ → List ℕ) → (kind_of r ≡ 0x1001 → ⊥) → (kind_of r ≡ 0x1002 → ⊥) → (kind_of r ≡ 0x1008 → ⊥) → (kind_of r ≡ 0x1009 → ⊥) → (kind_of r ≡ 0x1201 → ⊥) → (kind_of r ≡ 0x1206 → ⊥)
-    → (kind_of r ≡ 0x1205 → ⊥) → (kind_of r ≡ 0x1503 → ⊥) → (kind_of r ≡ 0x000A → ⊥) → (kind_of r ≡ 0x000E → ⊥) → (kind_of r ≡ 0x1203 → ⊥) → (kind_of r ≡ 0x151D → ⊥) → told r at ≡ own_name r
+-- any other record has plain words
+pub told-plain : (r : List ℕ) (at : ℕ → List ℕ) → (kind_of r ≡ 0x1001 → ⊥) → (kind_of r ≡ 0x1002 → ⊥) → (kind_of r ≡ 0x1008 → ⊥) → (kind_of r ≡ 0x1009 → ⊥) → (kind_of r ≡ 0x1201 → ⊥) → (kind_of r ≡ 0x1206 → ⊥)
+    → (kind_of r ≡ 0x1205 → ⊥) → (kind_of r ≡ 0x1503 → ⊥) → told r at ≡ plain_words r
 unfolding told
-told-named r at a b c d e f g h i j k l =
+told-plain r at a b c d e f g h =
     rw (
       ne_eqb (kind_of r) 0x1001 a,
       ne_eqb (kind_of r) 0x1002 b,
@@ -126,16 +106,17 @@ told-named r at a b c d e f g h i j k l =
       ne_eqb (kind_of r) 0x1206 f,
       ne_eqb (kind_of r) 0x1205 g,
       ne_eqb (kind_of r) 0x1503 h,
-      ne_eqb (kind_of r) 0x000A i,
-      ne_eqb (kind_of r) 0x000E j,
-      ne_eqb (kind_of r) 0x1203 k,
-      ne_eqb (kind_of r) 0x151D l,
     ) refl
 
-pub own-some : (r name : List ℕ) → name_of r ≡ Some name → own_name r ≡ quoted name
-unfolding own_name name_text
-own-some r name is = rw is refl
+-- the plain words by kind
+pub plain-shape : (r : List ℕ) → kind_of r ≡ 0x000A → plain_words r ≡ codes "virtual table of " ++ decimal (number_in 2 (body_of r) 0)
+unfolding plain_words
+plain-shape r kind = rw kind refl
 
-pub own-none : (r : List ℕ) → name_of r ≡ None → own_name r ≡ codes "?"
-unfolding own_name name_text
-own-none r is = rw is refl
+pub plain-label : (r : List ℕ) → kind_of r ≡ 0x000E → plain_words r ≡ codes "label"
+unfolding plain_words
+plain-label r kind = rw kind refl
+
+pub plain-table : (r : List ℕ) → kind_of r ≡ 0x151D → plain_words r ≡ codes "virtual table"
+unfolding plain_words
+plain-table r kind = rw kind refl

@@ -3,4 +3,7 @@ pub mod BranchLaws
 pub mod BlankLaws
 pub mod KindLaws
 pub mod ListLaws
+pub mod MemberLaws
+pub mod LinesLaws
+pub mod DefinitionLaws
 pub mod TellLaws

@@ -1,5 +1,5 @@
 -- Texts that are cut at an end, and grow.
-use Rattle.std.proofs.Common.{◌≡◌, ◌≤◌, ◌<◌, ◌+◌, ◌-◌, ◌∙◌, ℕ, zero, suc, List, [], ◌∷◌, ◌++◌, length, take, drop, refl, sym, ap, arith, codes}
+use Rattle.std.proofs.Common.{◌≡◌, ◌≤◌, ◌<◌, ◌+◌, ◌-◌, ◌^◌, ◌∙◌, ℕ, zero, suc, List, [], ◌∷◌, ◌++◌, length, take, drop, refl, sym, ap, arith, codes}
 use Rattle.std.proofs.lemmas.Bool.{le-leb, lt-leb}
 use Rattle.std.proofs.Math.Seq.{take-append-add}
 use Rattle.type_texts.specs.Text.{cut}
@@ -66,6 +66,10 @@ pub quoted_whole : (end : ℕ) (old name now new : List ℕ) → now ≡ take en
 unfolding quoted
 quoted_whole end old name now new is more = take_more end old (34 ∷ flat_map quoted_byte name) (34 ∷ []) now new is more
 
+-- three texts one after the other
+pub three_more : (end : ℕ) (old a b c one two three : List ℕ) → one ≡ take end (old ++ a) → two ≡ take end (one ++ b) → three ≡ take end (two ++ c) → three ≡ take end (old ++ (a ++ b ++ c))
+three_more end old a b c one two three p q r = take_more end old (a ++ b) c two three (take_more end old a b one two p q) r
+
 -- four texts one after the other
 pub four_more : (end : ℕ) (old a b c d one two three four : List ℕ) → one ≡ take end (old ++ a) → two ≡ take end (one ++ b) → three ≡ take end (two ++ c) → four ≡ take end (three ++ d)
     → four ≡ take end (old ++ (a ++ b ++ c ++ d))
@@ -88,10 +92,6 @@ pub six_more : (end : ℕ) (old a b c d e f one two three four five six : List �
 six_more end old a b c d e f one two three four five six p q r s u v =
     take_more end old (a ++ b ++ c ++ d ++ e) f five six (five_more end old a b c d e one two three four five p q r s u) v
 
--- the words are these
-pub as_told : (end : ℕ) (old words told new : List ℕ) → words ≡ told → new ≡ take end (old ++ told) → new ≡ take end (old ++ words)
-as_told end old words told new same is = is ∙ ap (λ (xs : List ℕ). take end (old ++ xs)) (sym same)
-
 take_shorter : (i j : ℕ) (xs : List ℕ) → i ≤ j → take i (take j xs) ≡ take i xs
 take_shorter zero j xs le = refl
 take_shorter (suc i) zero xs le = absurd (not_below i le)
@@ -113,3 +113,7 @@ cut_part old words now last end is told long more =
     let shorter : take end now ≡ take end (old ++ words) = ap (λ (xs : List ℕ). take end xs) told ∙ take_shorter end (end + 1) (old ++ words) (omega arith) in
     let parts : take end (old ++ words) ≡ old ++ take 400 words = ap (λ (n : ℕ). take n (old ++ words)) is ∙ take-append-add old words 400 in
     more ∙ ap (λ (xs : List ℕ). xs ++ codes "..") (shorter ∙ parts) ∙ append_assoc old (take 400 words) (codes "..") ∙ rw (lt-leb (length words) 400 much) refl
+
+-- no text has as many bytes as this end
+pub free : (now x : List ℕ) → length now < 2 ^ 64 - 1 → now ≡ take (2 ^ 64 - 1) x → now ≡ x
+free now x short is = is ∙ take_all (2 ^ 64 - 1) x (omega (arith, short, ap (λ (xs : List ℕ). length xs) is, length-take (2 ^ 64 - 1) x))

@@ -1,8 +1,10 @@
 -- The expression of a type: one line of text that depends on nothing but the type.
 use Rattle.std.specs.Prelude.{ℕ, zero, suc, ◌≡◌, ◌-◌, ◌<◌, ◌≤◌, ◌==◌, ◌⊎◌, if◌then◌else◌, List, [], ◌∷◌, codes}
-use Rattle.cv_leaves.specs.Checks.{places_of}
+use Rattle.std.specs.List.{AllByRecursion}
+use Rattle.cv_leaves.specs.Checks.{body_of, places_of}
 use Rattle.closed_trees.specs.Tree.{Tree, Branches, tree, no_branch, simple, branch, IsTreeAt}
 use Rattle.tpi_records.specs.Header.{first_index}
+use Rattle.type_texts.specs.Field.{number_in}
 use Rattle.type_texts.specs.Simple.{simple_words}
 use Rattle.type_texts.specs.Told.{told, nothing_words}
 
@@ -38,3 +40,10 @@ IsNamed nothing records deep to words =
 -- these are the words of what a reference names
 abbrev pub IsTold : List (List ℕ) → ℕ → ℕ → List ℕ → Type 0
 IsTold = IsNamed (codes "no type")
+
+-- these are the words of what the record names at each of its places
+abbrev pub AreToldAt : List (List ℕ) → ℕ → List ℕ → (ℕ → List ℕ) → Type 0
+AreToldAt records deep r at =
+    AllByRecursion
+    (λ p. IsNamed (nothing_words r) records deep (number_in 4 (body_of r) p) (at p))
+    (places_of r)

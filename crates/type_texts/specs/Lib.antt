@@ -2,5 +2,8 @@ pub mod Text
 pub mod Field
 pub mod Simple
 pub mod Told
+pub mod Member
 pub mod Expression
+pub mod Lines
+pub mod Definition
 pub mod Laws

@@ -48,6 +48,16 @@ bit_words body =
 unfoldable pub nothing_words : List ℕ → List ℕ
 nothing_words b = if kind_of b == 0x1201 then codes "..." else codes "no type"
 
+-- the words of a record that are none of those that it names: by its kind, or else its own name
+unfoldable pub plain_words : List ℕ → List ℕ
+plain_words b =
+    let kind = kind_of b in
+    if kind == 0x000A then codes "virtual table of " ++ decimal (number_in 2 (body_of b) 0)
+    else if kind == 0x000E then codes "label"
+    else if kind == 0x1203 then codes "fields"
+    else if kind == 0x151D then codes "virtual table"
+    else own_name b
+
 -- the words of a record, where `at` gives the text at each of its places
 unfoldable pub told : List ℕ → (ℕ → List ℕ) → List ℕ
 told b at =
@@ -66,8 +76,4 @@ told b at =
     else if kind == 0x1205 then at 0 ++ bit_words body
     else if kind == 0x1503 then
     codes "array of " ++ numeric_text body 8 ++ codes " bytes of " ++ at 0
-    else if kind == 0x000A then codes "virtual table of " ++ decimal (number_in 2 body 0)
-    else if kind == 0x000E then codes "label"
-    else if kind == 0x1203 then codes "fields"
-    else if kind == 0x151D then codes "virtual table"
-    else own_name b
+    else plain_words b

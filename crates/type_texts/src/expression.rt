@@ -1,37 +1,22 @@
 //! The expression of a type, in one line.
 
-ghost use Rattle.std.specs.Prelude.{◌≡◌, ◌≤◌, ◌<◌, ◌++◌, ℕ, List, OnOk, length, take};
-ghost use Rattle.cv_leaves.specs.Attributes.{points_to_member};
-ghost use Rattle.cv_leaves.specs.Checks.{body_of};
+ghost use Rattle.std.specs.Prelude.{◌≡◌, ◌≤◌, ◌++◌, [], ℕ, List, OnOk, length, map, take};
+ghost use Rattle.tpi_records.specs.Records.{IsRecord};
+ghost use Rattle.cv_leaves.specs.Checks.{body_of, places_of};
+ghost use Rattle.cv_leaves.specs.Place.{IsChecked};
 ghost use Rattle.type_texts.specs.Field.{number_in};
 ghost use Rattle.type_texts.specs.Text.{cut};
-ghost use Rattle.type_texts.specs.Expression.{IsNamed, IsTold};
+ghost use Rattle.type_texts.specs.Told.{nothing_words, strung, told};
+ghost use Rattle.type_texts.specs.Expression.{AreToldAt, IsNamed, IsTold};
 
-use crate::field::{push_numeric, u16_in, u32_in};
+use crate::field::{push_numeric, u32_in};
 use crate::simple::push_simple;
-use crate::text::{push, push_number, push_quoted};
-use crate::told::{push_bits, push_modifier, push_pointer};
+use crate::text::push;
+use crate::told::{push_bits, push_modifier, push_plain, push_pointer};
 use checked_types::Types;
-use cv_leaves::{kind_of, places, type_name};
+use cv_leaves::{body_of, kind_of, places, points_to_member};
 use std::alloc::{AllocError, Allocator};
 use tpi_records::FIRST_INDEX;
-
-/// The body of a record: the bytes after its length and its kind.
-#[tactic(auto, unfolding(cv_leaves::specs::Checks::body_of))]
-fn body_of(record: &[u8]) -> &[u8]
-    requires { 4 ≤ length «record».now }
-    ensures bytes { result.now ≡ body_of «record».now }
-    ensures few { length result.now ≤ length «record».now }
-{
-    &record[4..]
-}
-
-/// Whether the attributes of a pointer say that it points to a member of a class.
-fn points_to_member(body: &[u8]) -> bool
-    ensures { result ≡ points_to_member (number_in 4 body.now 4) }
-{
-    matches!(u32_in(body, 4) >> 5 & 7, 2 | 3)
-}
 
 /// How deep an expression goes.
 const DEPTH: u8 = 8;
@@ -39,7 +24,143 @@ const DEPTH: u8 = 8;
 /// What stands for no type, but in a list of arguments.
 const NO_TYPE: &[u8] = b"no type";
 
+/// The leaf of a list of arguments.
+const LF_ARGLIST: u16 = 0x1201;
+
+/// What stands for no type where this record names it.
+#[tactic(auto, unfolding(crate::specs::Told::nothing_words))]
+fn nothing_words(record: &[u8]) -> &'static [u8]
+    requires { 4 ≤ length «record».now }
+    ensures { result.now ≡ nothing_words «record».now }
+{
+    if kind_of(record) == LF_ARGLIST {
+        b"..."
+    } else {
+        NO_TYPE
+    }
+}
+
+/// Appends the words of what a record names at a place.
+#[cycle(words)]
+fn push_at<A: Allocator, T: Allocator>(
+    text: &mut Vec<u8, A>,
+    end: usize,
+    types: &Types<'_, T>,
+    record: &[u8],
+    place: usize,
+    deep: u8,
+) -> Result<(), AllocError>
+    requires room { length text.old.items ≤ end }
+    requires framed { IsRecord «record».now }
+    ensures value { (words : List ℕ)
+        → IsNamed (nothing_words «record».now) types.now deep
+        (number_in 4 (body_of «record».now) place) words
+        → OnOk result (text.new.items ≡ take end (text.old.items ++ words)) }
+    ensures short { OnOk result (length text.new.items ≤ end) }
+{
+    let to = u32_in(body_of(record), place);
+    push_words(text, end, types, to, deep, nothing_words(record))
+}
+
+/// Appends the words of all that a record names, with a separator between them. It stops as soon as
+/// there is no more room.
+#[cycle(words)]
+fn push_each<A: Allocator, T: Allocator>(
+    text: &mut Vec<u8, A>,
+    end: usize,
+    types: &Types<'_, T>,
+    record: &[u8],
+    deep: u8,
+    separator: &'static [u8],
+) -> Result<(), AllocError>
+    requires room { length text.old.items ≤ end }
+    requires framed { IsRecord «record».now }
+    requires checked { IsChecked «record».now }
+    ensures value { (at : ℕ → List ℕ) → AreToldAt types.now deep «record».now at →
+        OnOk result (text.new.items ≡ take end
+        (text.old.items ++ strung [] separator.now (map at (places_of «record».now)))) }
+    ensures short { OnOk result (length text.new.items ≤ end) }
+{
+    let mut before: &'static [u8] = b"";
+    for place in places(record) {
+        if text.len() >= end {
+            return Ok(());
+        }
+        push(text, end, before)?;
+        push_at(text, end, types, record, place, deep)?;
+        before = separator;
+    }
+    Ok(())
+}
+
+/// Appends the words of a record, around those of what it names, which are told to the depth `deep`.
+#[cycle(words)]
+fn push_record<A: Allocator, T: Allocator>(
+    text: &mut Vec<u8, A>,
+    end: usize,
+    types: &Types<'_, T>,
+    record: &[u8],
+    deep: u8,
+) -> Result<(), AllocError>
+    requires room { length text.old.items ≤ end }
+    requires framed { IsRecord «record».now }
+    requires checked { IsChecked «record».now }
+    ensures value { (at : ℕ → List ℕ) → AreToldAt types.now deep «record».now at →
+        OnOk result (text.new.items ≡ take end (text.old.items ++ told «record».now at)) }
+    ensures short { OnOk result (length text.new.items ≤ end) }
+{
+    let body = body_of(record);
+    match kind_of(record) {
+        0x1001 => {
+            push_modifier(text, end, body)?;
+            push_at(text, end, types, record, 0, deep)
+        }
+        0x1002 if points_to_member(u32_in(body, 4)) => {
+            push_pointer(text, end, body)?;
+            push_at(text, end, types, record, 8, deep)?;
+            push(text, end, b", ")?;
+            push_at(text, end, types, record, 0, deep)
+        }
+        0x1002 => {
+            push_pointer(text, end, body)?;
+            push_at(text, end, types, record, 0, deep)
+        }
+        0x1008 => {
+            push(text, end, b"function ")?;
+            push_at(text, end, types, record, 8, deep)?;
+            push(text, end, b" giving ")?;
+            push_at(text, end, types, record, 0, deep)
+        }
+        0x1009 => {
+            push(text, end, b"method ")?;
+            push_at(text, end, types, record, 16, deep)?;
+            push(text, end, b" of ")?;
+            push_at(text, end, types, record, 4, deep)?;
+            push(text, end, b" giving ")?;
+            push_at(text, end, types, record, 0, deep)
+        }
+        LF_ARGLIST => {
+            push(text, end, b"(")?;
+            push_each(text, end, types, record, deep, b", ")?;
+            push(text, end, b")")
+        }
+        0x1206 => push_each(text, end, types, record, deep, b" or "),
+        0x1205 => {
+            push_at(text, end, types, record, 0, deep)?;
+            push_bits(text, end, body)
+        }
+        0x1503 => {
+            push(text, end, b"array of ")?;
+            push_numeric(text, end, body, 8)?;
+            push(text, end, b" bytes of ")?;
+            push_at(text, end, types, record, 0, deep)
+        }
+        _ => push_plain(text, end, record),
+    }
+}
+
 /// Appends the words of what a reference names, to the depth `deep`. `nothing` stands for no type.
+#[cycle(words)]
 pub fn push_words<A: Allocator, T: Allocator>(
     text: &mut Vec<u8, A>,
     end: usize,
@@ -56,89 +177,13 @@ pub fn push_words<A: Allocator, T: Allocator>(
     let Some(position) = to.checked_sub(FIRST_INDEX) else {
         return push_simple(text, end, to, nothing);
     };
-    let Some(bytes) = types.get(position as usize) else {
+    let Some(record) = types.get(position as usize) else {
         return Ok(());
     };
     if deep == 0 {
         return push(text, end, b"..");
     }
-    let body = body_of(bytes);
-    match kind_of(bytes) {
-        0x1001 => {
-            push_modifier(text, end, body)?;
-            push_words(text, end, types, u32_in(body, 0), deep - 1, NO_TYPE)
-        }
-        0x1002 if points_to_member(body) => {
-            push_pointer(text, end, body)?;
-            push_words(text, end, types, u32_in(body, 8), deep - 1, NO_TYPE)?;
-            push(text, end, b", ")?;
-            push_words(text, end, types, u32_in(body, 0), deep - 1, NO_TYPE)
-        }
-        0x1002 => {
-            push_pointer(text, end, body)?;
-            push_words(text, end, types, u32_in(body, 0), deep - 1, NO_TYPE)
-        }
-        0x1008 => {
-            push(text, end, b"function ")?;
-            push_words(text, end, types, u32_in(body, 8), deep - 1, NO_TYPE)?;
-            push(text, end, b" giving ")?;
-            push_words(text, end, types, u32_in(body, 0), deep - 1, NO_TYPE)
-        }
-        0x1009 => {
-            push(text, end, b"method ")?;
-            push_words(text, end, types, u32_in(body, 16), deep - 1, NO_TYPE)?;
-            push(text, end, b" of ")?;
-            push_words(text, end, types, u32_in(body, 4), deep - 1, NO_TYPE)?;
-            push(text, end, b" giving ")?;
-            push_words(text, end, types, u32_in(body, 0), deep - 1, NO_TYPE)
-        }
-        0x1201 => {
-            push(text, end, b"(")?;
-            let mut before: &'static [u8] = b"";
-            for place in places(bytes) {
-                if text.len() >= end {
-                    return Ok(());
-                }
-                push(text, end, before)?;
-                push_words(text, end, types, u32_in(body, place), deep - 1, b"...")?;
-                before = b", ";
-            }
-            push(text, end, b")")
-        }
-        0x1206 => {
-            let mut before: &'static [u8] = b"";
-            for place in places(bytes) {
-                if text.len() >= end {
-                    return Ok(());
-                }
-                push(text, end, before)?;
-                push_words(text, end, types, u32_in(body, place), deep - 1, NO_TYPE)?;
-                before = b" or ";
-            }
-            Ok(())
-        }
-        0x1205 => {
-            push_words(text, end, types, u32_in(body, 0), deep - 1, NO_TYPE)?;
-            push_bits(text, end, body)
-        }
-        0x1503 => {
-            push(text, end, b"array of ")?;
-            push_numeric(text, end, body, 8)?;
-            push(text, end, b" bytes of ")?;
-            push_words(text, end, types, u32_in(body, 0), deep - 1, NO_TYPE)
-        }
-        0x000A => {
-            push(text, end, b"virtual table of ")?;
-            push_number(text, end, u64::from(u16_in(body, 0)))
-        }
-        0x000E => push(text, end, b"label"),
-        0x1203 => push(text, end, b"fields"),
-        0x151D => push(text, end, b"virtual table"),
-        _ => match type_name(bytes) {
-            Some(name) => push_quoted(text, end, name),
-            None => push(text, end, b"?"),
-        },
-    }
+    push_record(text, end, types, record, deep - 1)
 }
 
 /// How many bytes of an expression are shown.

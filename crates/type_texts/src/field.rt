@@ -1,11 +1,13 @@
 //! The fields of a body that a text shows.
 
 ghost use Rattle.std.specs.Prelude.{◌≡◌, ◌≤◌, ◌<◌, ◌+◌, ◌^◌, ◌++◌, OnOk, length, take};
-ghost use Rattle.type_texts.specs.Field.{number_in, numeric_text, signed};
+ghost use Rattle.tpi_records.specs.Records.{IsRecord};
+ghost use Rattle.type_texts.specs.Field.{number_in, numeric_text, own_name, signed};
 
-use crate::text::{push, push_number};
+use crate::text::{FREE, push, push_number, push_quoted};
 use byte_fields::{fits, u16_at, u32_at};
 use byteorder::{ByteOrder, LittleEndian};
+use cv_leaves::type_name;
 use std::alloc::{AllocError, Allocator};
 
 /// The byte at an offset, or 0 where it does not fit.
@@ -113,4 +115,45 @@ pub fn push_numeric<A: Allocator>(
         0x800A if fits(body, from, 8) => push_number(text, end, u64_in(body, from)),
         _ => push(text, end, b"?"),
     }
+}
+
+/// Appends the name of the type that a record describes, in quotes, or a question mark.
+#[tactic(auto, unfolding(crate::specs::Field::own_name, crate::specs::Field::name_text))]
+pub fn push_own_name<A: Allocator>(
+    text: &mut Vec<u8, A>,
+    end: usize,
+    record: &[u8],
+) -> Result<(), AllocError>
+    requires room { length text.old.items ≤ end }
+    requires framed { IsRecord «record».now }
+    ensures value { OnOk result
+        (text.new.items ≡ take end (text.old.items ++ own_name «record».now)) }
+    ensures short { OnOk result (length text.new.items ≤ end) }
+{
+    match type_name(record) {
+        Some(name) => push_quoted(text, end, name),
+        None => push(text, end, b"?"),
+    }
+}
+
+/// Appends the whole value of the numeric leaf at an offset of a body, or a question mark.
+pub fn add_numeric<A: Allocator>(
+    text: &mut Vec<u8, A>,
+    body: &[u8],
+    at: usize,
+) -> Result<(), AllocError>
+    requires { (at < 2 ^ 17) × (length body.now < 2 ^ 17) }
+    ensures { OnOk result (text.new.items ≡ text.old.items ++ numeric_text body.now at) }
+{
+    push_numeric(text, FREE, body, at)?;
+    Ok(())
+}
+
+/// Appends the whole name of the type that a record describes, in quotes, or a question mark.
+pub fn add_own_name<A: Allocator>(text: &mut Vec<u8, A>, record: &[u8]) -> Result<(), AllocError>
+    requires { IsRecord «record».now }
+    ensures { OnOk result (text.new.items ≡ text.old.items ++ own_name «record».now) }
+{
+    push_own_name(text, FREE, record)?;
+    Ok(())
 }

@@ -1,17 +1,23 @@
-//! The words of a type, in one line of text.
+//! The words of a type in one line of text, and the text of a definition.
 //!
 //! [`push_type`] appends the expression of what a reference names: a simple type by its name, such as
 //! `unsigned int`; a class, a structure, a union, an interface or an enumeration by its name in
 //! quotes; every other type in words, around the words of the types that it names, such as
-//! `pointer to const char`, `array of 768 bytes of int` and `unsigned int, bits 4 to 15`. It is told to a depth of 8,
-//! and cut at 400 bytes. What is left out is two points, so no file makes it longer. In a list of
-//! arguments no type is three points: more arguments may follow. The words are our own. They are no
-//! declaration of any language.
+//! `pointer to const char`, `array of 768 bytes of int` and `unsigned int, bits 4 to 15`. It is told
+//! to a depth of 8, and cut at 400 bytes. What is left out is two points, so no file makes it
+//! longer. In a list of arguments no type is three points: more arguments may follow. The words are
+//! our own. They are no declaration of any language.
+//!
+//! [`push_definition`] appends the text of a class, a structure, a union, an interface or an
+//! enumeration: its head, and a line for each of its members, such as `8 member "next" int`.
+//! [`push_members`] appends the lines of a field list, and of those in which it goes on.
+//! [`only_declares`] says whether a record declares a type without its members.
 //!
 //! What is proved: the words depend on nothing but the type. They are those of its tree, so no type
 //! index, no position and no file can be seen in them, and the same type has the same words in
-//! every file. Each reference of checked types has words. [`laws`] has both. Types that differ may
-//! have the same words: no calling convention is told, and nothing that lies deeper.
+//! every file. Each reference of checked types has words. [`laws`] has both. The text of a
+//! definition is a function of its tree too. Types that differ may have the same words: no calling
+//! convention is told, and nothing that lies deeper.
 //!
 //! # Example
 //!
@@ -30,11 +36,16 @@
 //! ```
 #![tactic(auto)]
 
+mod definition;
 mod expression;
 mod field;
 pub mod laws;
+mod lines;
+mod member;
 mod simple;
 mod text;
 mod told;
 
+pub use definition::{only_declares, push_definition};
 pub use expression::push_type;
+pub use lines::push_members;

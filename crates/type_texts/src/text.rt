@@ -86,3 +86,29 @@ pub fn push_quoted<A: Allocator>(
     push(text, end, b"\"")?;
     Ok(())
 }
+
+/// Appends bytes.
+pub fn add<A: Allocator>(text: &mut Vec<u8, A>, bytes: &[u8]) -> Result<(), AllocError>
+    ensures { OnOk result (text.new.items ≡ text.old.items ++ bytes.now) }
+{
+    text.extend_from_slice(bytes)
+}
+
+/// No end: no text is as long.
+pub const FREE: usize = usize::MAX;
+
+/// Appends a whole number.
+pub fn add_number<A: Allocator>(text: &mut Vec<u8, A>, number: u64) -> Result<(), AllocError>
+    ensures { OnOk result (text.new.items ≡ text.old.items ++ decimal number) }
+{
+    push_number(text, FREE, number)?;
+    Ok(())
+}
+
+/// Appends a whole text in quotes.
+pub fn add_quoted<A: Allocator>(text: &mut Vec<u8, A>, name: &[u8]) -> Result<(), AllocError>
+    ensures { OnOk result (text.new.items ≡ text.old.items ++ quoted name.now) }
+{
+    push_quoted(text, FREE, name)?;
+    Ok(())
+}

@@ -1,10 +1,12 @@
 //! The words of a record that name no other.
 
 ghost use Rattle.std.specs.Prelude.{◌≡◌, ◌≤◌, ◌<◌, ◌++◌, OnOk, length, take};
-ghost use Rattle.type_texts.specs.Told.{if_bit, pointer_mode_words, modifier_words, pointer_words, bit_words};
+ghost use Rattle.tpi_records.specs.Records.{IsRecord};
+ghost use Rattle.type_texts.specs.Told.{plain_words, if_bit, pointer_mode_words, modifier_words, pointer_words, bit_words};
 
-use crate::field::{byte_in, u16_in, u32_in};
+use crate::field::{byte_in, push_own_name, u16_in, u32_in};
 use crate::text::{push, push_number};
+use cv_leaves::{body_of, kind_of};
 use std::alloc::{AllocError, Allocator};
 
 /// Appends words if the lowest bit is set.
@@ -95,4 +97,29 @@ pub fn push_bits<A: Allocator>(
     push(text, end, b" to ")?;
     push_number(text, end, (first + many).saturating_sub(1))?;
     Ok(())
+}
+
+/// Appends the words of a record that names no other, or that is told by its name.
+#[tactic(auto, unfolding(crate::specs::Told::plain_words))]
+pub fn push_plain<A: Allocator>(
+    text: &mut Vec<u8, A>,
+    end: usize,
+    record: &[u8],
+) -> Result<(), AllocError>
+    requires room { length text.old.items ≤ end }
+    requires framed { IsRecord «record».now }
+    ensures value { OnOk result
+        (text.new.items ≡ take end (text.old.items ++ plain_words «record».now)) }
+    ensures short { OnOk result (length text.new.items ≤ end) }
+{
+    match kind_of(record) {
+        0x000A => {
+            push(text, end, b"virtual table of ")?;
+            push_number(text, end, u64::from(u16_in(body_of(record), 0)))
+        }
+        0x000E => push(text, end, b"label"),
+        0x1203 => push(text, end, b"fields"),
+        0x151D => push(text, end, b"virtual table"),
+        _ => push_own_name(text, end, record),
+    }
 }

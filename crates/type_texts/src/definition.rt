@@ -1,0 +1,136 @@
+//! The text of a definition.
+
+ghost use Rattle.std.specs.Prelude.{◌≡◌, ◌≤◌, ◌++◌, ℕ, List, OnOk, option_map, length};
+ghost use Rattle.tpi_records.specs.Records.{IsRecord};
+ghost use Rattle.cv_leaves.specs.Checks.{body_of};
+ghost use Rattle.closed_trees.specs.Tree.{Tree, IsTreeAt};
+ghost use Rattle.type_texts.specs.Definition.{defined_words, only_declares, size_words, head_line, list_place, definition_text};
+ghost use Rattle.type_texts.specs.Expression.{IsTold};
+ghost use Rattle.type_texts.specs.Field.{number_in};
+ghost use Rattle.type_texts.specs.Text.{cut};
+
+use crate::expression::push_type;
+use crate::field::{add_numeric, add_own_name, u16_in, u32_in};
+use crate::lines::push_members;
+use crate::text::add;
+use checked_types::Types;
+use cv_leaves::{body_of, kind_of};
+use std::alloc::{AllocError, Allocator};
+
+/// The leaf of an enumeration.
+const LF_ENUM: u16 = 0x1507;
+
+/// What a record defines, by its kind.
+#[tactic(auto, unfolding(crate::specs::Definition::defined_words))]
+fn defined_words(kind: u16) -> Option<&'static str>
+    ensures { option_map (λ words. words.now) result ≡ defined_words kind }
+{
+    Some(match kind {
+        0x1504 => "class",
+        0x1505 => "structure",
+        0x1506 => "union",
+        0x1507 => "enumeration",
+        0x1519 => "interface",
+        _ => return None,
+    })
+}
+
+/// Whether a record only declares a type, and has no members.
+#[tactic(auto, unfolding(crate::specs::Definition::only_declares))]
+pub fn only_declares(record: &[u8]) -> bool
+    requires { 4 ≤ length «record».now }
+    ensures { result ≡ only_declares «record».now }
+{
+    u16_in(body_of(record), 2) / 128 % 2 == 1
+}
+
+/// Appends the size of a type, or the type of its values where it is an enumeration.
+#[tactic(auto, unfolding(crate::specs::Definition::size_words))]
+fn push_size<A: Allocator, T: Allocator>(
+    text: &mut Vec<u8, A>,
+    types: &Types<'_, T>,
+    record: &[u8],
+) -> Result<(), AllocError>
+    requires { IsRecord «record».now }
+    ensures value { (words : List ℕ)
+        → IsTold types.now 8 (number_in 4 (body_of «record».now) 4) words
+        → OnOk result (text.new.items
+        ≡ text.old.items ++ size_words «record».now (λ place. cut 400 words)) }
+{
+    let body = body_of(record);
+    match kind_of(record) {
+        LF_ENUM => {
+            add(text, b" of ")?;
+            push_type(text, types, u32_in(body, 4))
+        }
+        0x1506 => {
+            add(text, b" size ")?;
+            add_numeric(text, body, 8)
+        }
+        _ => {
+            add(text, b" size ")?;
+            add_numeric(text, body, 16)
+        }
+    }
+}
+
+/// Appends the head of a definition: what it defines, its name and its size.
+#[tactic(auto, unfolding(crate::specs::Definition::head_line))]
+fn push_head<A: Allocator, T: Allocator>(
+    text: &mut Vec<u8, A>,
+    types: &Types<'_, T>,
+    record: &[u8],
+    words: &str,
+) -> Result<(), AllocError>
+    requires { IsRecord «record».now }
+    ensures value { (shown : List ℕ)
+        → IsTold types.now 8 (number_in 4 (body_of «record».now) 4) shown
+        → OnOk result (text.new.items
+        ≡ text.old.items ++ head_line words.now «record».now (λ place. cut 400 shown)) }
+{
+    add(text, words.as_bytes())?;
+    add(text, b" ")?;
+    add_own_name(text, record)?;
+    push_size(text, types, record)?;
+    if only_declares(record) {
+        add(text, b" declared only")?;
+    }
+    Ok(())
+}
+
+/// Where the field list of a definition is named.
+fn list_place(kind: u16) -> usize
+    ensures { result ≡ list_place kind }
+{
+    if kind == LF_ENUM { 8 } else { 4 }
+}
+
+/// Appends the text of the definition at a position: its head, and a line for each member. Nothing
+/// where the record there defines no type.
+///
+/// The head is what it defines, its name in quotes, and its size; the type of its values where it
+/// is an enumeration. A declaration has the words `declared only`, and no members. The line of a
+/// member is its offset or its value, what it is, its name, and its type. The only fault is out of
+/// memory. ("CodeView Type Records", `LF_CLASS` to `LF_ENUM`.)
+pub fn push_definition<A: Allocator, T: Allocator>(
+    text: &mut Vec<u8, A>,
+    types: &Types<'_, T>,
+    position: usize,
+) -> Result<(), AllocError>
+    ensures { (t : Tree) → IsTreeAt types.now position t →
+        OnOk result (text.new.items ≡ text.old.items ++ definition_text t) }
+{
+    let Some(record) = types.get(position) else {
+        return Ok(());
+    };
+    let Some(words) = defined_words(kind_of(record)) else {
+        return Ok(());
+    };
+    push_head(text, types, record, words)?;
+    add(text, b"\n")?;
+    push_members(
+        text,
+        types,
+        u32_in(body_of(record), list_place(kind_of(record))),
+    )
+}
