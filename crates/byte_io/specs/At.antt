@@ -1,7 +1,9 @@
 -- Bytes that are read by position, of a file that may be known.
-use Rattle.std.specs.Prelude.{ℕ, ◌≡◌, ◌+◌, ◌<◌, ◌≤◌, ◌==◌, Bool, true, List, ◌++◌, length, take, drop, get_or, Option, Some, None, Result, IfErr}
+use Rattle.std.specs.Prelude.{ℕ, ◌≡◌, ◌⊎◌, ◌+◌, ◌<◌, ◌≤◌, ◌==◌, Bool, true, List, ◌++◌, length, take, drop, get_or, Option, Some, None, Result, IfErr, IfNone}
 use Rattle.byte_io.specs.declared.at.AtFault.{AtFault}
 use Rattle.byte_io.specs.declared.at.AtFault.TheVariants as at
+use Rattle.byte_io.specs.declared.input.ReadFault.{ReadFault}
+use Rattle.byte_io.specs.declared.input.ReadFault.TheVariants as reads
 
 -- what is known of bytes that are read by position
 pub record Bytes : Type 0 where
@@ -50,6 +52,19 @@ pub record Reads {R T F : Type 0} (bytes : R → Bytes) (is_broken : R → Bool)
     (result : Result T (AtFault F)) : Type 0 where
   pub keeps : bytes after ≡ bytes before
   pub read : IfErr result (λ fault. fault ≡ at.Read → is_broken after ≡ true)
+
+-- the same of a call that answers nothing after a read that failed
+pub record ReadsOrNone {R T : Type 0} (bytes : R → Bytes) (is_broken : R → Bool)
+    (before after : R) (result : Option T) : Type 0 where
+  pub keeps : bytes after ≡ bytes before
+  pub read : IfNone result (is_broken after ≡ true)
+
+-- the same of a call that reads into a buffer, for which it may be out of memory
+pub record ReadsInto {R T : Type 0} (bytes : R → Bytes) (is_broken : R → Bool)
+    (before after : R) (result : Result T ReadFault) : Type 0 where
+  pub keeps : bytes after ≡ bytes before
+  pub read : IfErr result
+      (λ fault. ((fault ≡ reads.Read) × (is_broken after ≡ true)) ⊎ (fault ≡ reads.Memory))
 
 -- if the fault is one of what was read, P holds of it
 abbrev pub IfOf : {F : Type 0} → (F → Type 0) → AtFault F → Type 0

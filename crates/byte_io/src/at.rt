@@ -1,7 +1,7 @@
 //! Bytes that are read by position.
 
-ghost use Rattle.std.specs.Prelude.{◌≡◌, ◌⊎◌, ◌+◌, ◌<◌, ◌≤◌, ◌++◌, ◌↔◌, ℕ, Option, Some, None, Bool, true, false, IsTrue, length, take, drop, get_or, OnOk, IfErr, IfSome, IfNone};
-ghost use Rattle.byte_io.specs.At.{AreGiven, Bytes, GivesBehind, IfKnown, StandsAt, WidensTo, stable, unknown};
+ghost use Rattle.std.specs.Prelude.{◌≡◌, ◌+◌, ◌<◌, ◌≤◌, ◌++◌, ◌↔◌, ℕ, Option, Some, None, Bool, true, false, IsTrue, length, take, drop, get_or, OnOk, IfSome};
+ghost use Rattle.byte_io.specs.At.{AreGiven, Bytes, GivesBehind, IfKnown, ReadsInto, ReadsOrNone, StandsAt, WidensTo, stable, unknown};
 ghost use Rattle.byte_io.specs.declared.at.AtFault.TheVariants as at;
 
 use crate::input::ReadFault;
@@ -67,13 +67,12 @@ pub trait ReadAt {
     fn read_at(&mut self, offset: u64, into: &mut [u8]) -> Option<()>
         requires inside { IfKnown (bytes self.old) (λ file.
             offset + length into.old ≤ length file) }
-        ensures keeps { bytes self.new ≡ bytes self.old }
+        ensures reads { ReadsOrNone bytes is_broken self.old self.new result }
         ensures same { length into.new ≡ length into.old }
         ensures value { IfSome result (λ _.
             IfKnown (bytes self.old) (λ file. StandsAt file offset into.new)) }
         ensures given { IfSome result (λ _. AreGiven (bytes self.old) offset into.new) }
         ensures whole { IfSome result (λ _. is_broken self.new ≡ is_broken self.old) }
-        ensures refuses { IfNone result (is_broken self.new ≡ true) }
         ensures stays { is_broken self.old ≡ true → is_broken self.new ≡ true };
 }
 
@@ -92,30 +91,26 @@ pub trait Lend<'a>: ReadAt {
 /// Reads `count` bytes from an offset on, and puts them in place of those that a buffer has from
 /// `at` on.
 ///
-/// The fault is `Read`, where the read fails.
+/// `None` where the read fails.
 pub fn read_over<R: ReadAt>(
     input: &mut R,
     offset: u64,
     count: u32,
     buffer: &mut [u8],
     at: usize,
-) -> Result<(), ReadFault>
+) -> Option<()>
     requires inside { IfKnown (R.bytes input.old) (λ file. offset + count ≤ length file) }
     requires room { at + count ≤ length buffer.old }
-    ensures keeps { R.bytes input.new ≡ R.bytes input.old }
+    ensures reads { ReadsOrNone R.bytes R.is_broken input.old input.new result }
     ensures same { length buffer.new ≡ length buffer.old }
-    ensures value { OnOk result (IfKnown (R.bytes input.old) (λ file.
+    ensures value { IfSome result (λ _. IfKnown (R.bytes input.old) (λ file.
         take (at + count) buffer.new ≡ take at buffer.old ++ take count (drop offset file))) }
-    ensures given { OnOk result
-        (GivesBehind (R.bytes input.old) offset
+    ensures given { IfSome result (λ _.
+        GivesBehind (R.bytes input.old) offset
         (take at buffer.old) (take (at + count) buffer.new)) }
-    ensures first { IfErr result (λ fault.
-        (fault ≡ ReadFault.Read) × (R.is_broken input.new ≡ true)) }
 {
-    match input.read_at(offset, &mut buffer[at..at + count as usize]) {
-        Some(()) => Ok(()),
-        None => Err(ReadFault::Read),
-    }
+    input.read_at(offset, &mut buffer[at..at + count as usize])?;
+    Some(())
 }
 
 /// Reads `count` bytes from an offset on, and appends them to a buffer, straight into its room.
@@ -129,15 +124,12 @@ pub fn read_more<R: ReadAt, A: Allocator>(
     buffer: &mut Vec<u8, A>,
 ) -> Result<(), ReadFault>
     requires inside { IfKnown (R.bytes input.old) (λ file. offset + count ≤ length file) }
-    ensures keeps { R.bytes input.new ≡ R.bytes input.old }
+    ensures reads { ReadsInto R.bytes R.is_broken input.old input.new result }
     ensures value { OnOk result (IfKnown (R.bytes input.old) (λ file.
         buffer.new.items ≡ buffer.old.items ++ take count (drop offset file))) }
     ensures len { OnOk result (length buffer.new.items ≡ length buffer.old.items + count) }
     ensures given { OnOk result
         (GivesBehind (R.bytes input.old) offset buffer.old.items buffer.new.items) }
-    ensures first { IfErr result (λ fault.
-        ((fault ≡ ReadFault.Read) × (R.is_broken input.new ≡ true))
-        ⊎ (fault ≡ ReadFault.Memory)) }
 {
     let length = buffer.len();
     buffer.resize(length + count as usize, 0)?;

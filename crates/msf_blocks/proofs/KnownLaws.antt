@@ -4,7 +4,6 @@ use Rattle.std.proofs.lemmas.Bool.{eqb-true, eq-eqb}
 use Rattle.std.proofs.lemmas.Grind.{get_or_default_zero, same_number_lists}
 use Rattle.std.proofs.lemmas.List.{get_or-take, get_or-drop, length-take, length-drop, take_all, take-append-drop}
 use Rattle.std.proofs.lemmas.List.FromFn.{get_or-map-range_with_len, length-map-range_with_len}
-use Rattle.std.specs.Prelude.{Result, Ok, Err, OnOk}
 use Rattle.std.specs.List.{range_with_len}
 use Rattle.std.proofs.lemmas.Nat.{div_below, mul-le, mod_below}
 use Rattle.byte_fields.specs.Number.{number_at}
@@ -179,11 +178,10 @@ blocks_given file b blocks size some inside fits = λ k lt.
     let byte : get_or (map f (range_with_len 0 size)) k 0 ≡ f k = get_or-map-range_with_len f 0 size k k 0 below (omega arith) in
     rw byte (gives_own file (get_or blocks (k / b) 0 * b + k % b) (omega (arith, row, mod_below k b some)))
 
--- of a result
-pub result_blocks_known : {T E : Type 0} (bytes : Bytes) (b : ℕ) (blocks text : List ℕ) (size : ℕ) (result : Result T E) → IsBlockSize b → IfKnown bytes (λ file. AreInside file b blocks) → length blocks ≡ blocks_for b size
-    → length text ≡ size → OnOk result (AreGivenIn bytes b blocks text) → OnOk result (IfKnown bytes (λ file. text ≡ in_blocks file b blocks size))
-result_blocks_known bytes b blocks text size (Err fault) is inside count long given = tt
-result_blocks_known bytes b blocks text size (Ok value) is inside count long given = λ file known.
+-- of all bytes
+pub all_blocks_known : (bytes : Bytes) (b : ℕ) (blocks text : List ℕ) (size : ℕ) → IsBlockSize b → IfKnown bytes (λ file. AreInside file b blocks) → length blocks ≡ blocks_for b size
+    → length text ≡ size → AreGivenIn bytes b blocks text → IfKnown bytes (λ file. text ≡ in_blocks file b blocks size)
+all_blocks_known bytes b blocks text size is inside count long given = λ file known.
     let some = some_bytes b is in
     let room : size ≤ length blocks * b = rw count (ceil_ge b size some) in
     rw long at (blocks_known file b blocks text some (inside file known) (omega (arith, long, room)) (rw known at given))

@@ -1,7 +1,7 @@
 //! The bytes in a list of blocks, read by position.
 
-ghost use Rattle.std.specs.Prelude.{true, ℕ, ◌≡◌, ◌⊎◌, ◌<◌, ◌≤◌, ◌+◌, length, get_or, OnOk, IfErr};
-ghost use Rattle.byte_io.specs.At.{IfKnown};
+ghost use Rattle.std.specs.Prelude.{ℕ, ◌≡◌, ◌<◌, ◌≤◌, ◌+◌, length, get_or, OnOk, IfSome};
+ghost use Rattle.byte_io.specs.At.{IfKnown, ReadsInto, ReadsOrNone};
 ghost use Rattle.msf_superblock.specs.BlockNumber.{IsBlockSize, blocks_for};
 ghost use Rattle.msf_blocks.specs.Blocks.{AreGivenIn, AreInside, in_blocks};
 
@@ -39,16 +39,15 @@ fn read_runs<R: ReadAt>(
     blocks: &[u32],
     size: u32,
     buffer: &mut [u8],
-) -> Result<(), ReadFault>
+) -> Option<()>
     requires size { IsBlockSize block_size }
     requires count { length blocks.now ≡ blocks_for block_size size }
     requires inside { IfKnown (R.bytes input.old) (λ file. AreInside file block_size blocks.now) }
     requires room { length buffer.old ≡ size }
-    ensures keeps { R.bytes input.new ≡ R.bytes input.old }
+    ensures reads { ReadsOrNone R.bytes R.is_broken input.old input.new result }
     ensures same { length buffer.new ≡ size }
-    ensures given { OnOk result (AreGivenIn (R.bytes input.old) block_size blocks.now buffer.new) }
-    ensures first { IfErr result (λ fault.
-        (fault ≡ ReadFault.Read) × (R.is_broken input.new ≡ true)) }
+    ensures given { IfSome result (λ _.
+        AreGivenIn (R.bytes input.old) block_size blocks.now buffer.new) }
 {
     let mut position = 0;
     while (position as usize) < blocks.len() {
@@ -59,7 +58,7 @@ fn read_runs<R: ReadAt>(
         read_over(input, start, count, buffer, done as usize)?;
         position += run;
     }
-    Ok(())
+    Some(())
 }
 
 /// Gives a buffer this length: drops its last bytes if it has more, and appends zeros if it has
@@ -88,17 +87,17 @@ pub fn read_blocks<R: ReadAt, A: Allocator>(
     requires size { IsBlockSize block_size }
     requires count { length blocks.now ≡ blocks_for block_size size }
     requires inside { IfKnown (R.bytes input.old) (λ file. AreInside file block_size blocks.now) }
-    ensures keeps { R.bytes input.new ≡ R.bytes input.old }
+    ensures reads { ReadsInto R.bytes R.is_broken input.old input.new result }
     ensures len { OnOk result (length buffer.new.items ≡ size) }
     ensures value { OnOk result (IfKnown (R.bytes input.old) (λ file.
         buffer.new.items ≡ in_blocks file block_size blocks.now size)) }
     ensures given { OnOk result
         (AreGivenIn (R.bytes input.old) block_size blocks.now buffer.new.items) }
-    ensures first { IfErr result (λ fault.
-        ((fault ≡ ReadFault.Read) × (R.is_broken input.new ≡ true))
-        ⊎ (fault ≡ ReadFault.Memory)) }
 {
     // The old bytes are read over. So zeros are written only where the buffer grows.
     give_length(buffer, size as usize)?;
-    read_runs(input, block_size, blocks, size, buffer)
+    match read_runs(input, block_size, blocks, size, buffer) {
+        Some(()) => Ok(()),
+        None => Err(ReadFault::Read),
+    }
 }

@@ -1,10 +1,10 @@
 //! A stream directory that is read by position.
 
-ghost use Rattle.std.specs.Prelude.{true, ◌≡◌, ◌⊎◌, ◌+◌, ◌*◌, ◌<◌, ◌≤◌, length, map, IfOk, IfErr};
+ghost use Rattle.std.specs.Prelude.{◌≡◌, ◌+◌, ◌*◌, ◌<◌, ◌≤◌, length, map, IfOk, IfErr};
 ghost use Rattle.std.specs.List.{range_with_len};
 ghost use Rattle.byte_fields.specs.Number.{nth_u32};
 ghost use Rattle.byte_fields.specs.Check.{Makes};
-ghost use Rattle.byte_io.specs.At.{IfKnown, IfOf, Reads};
+ghost use Rattle.byte_io.specs.At.{IfKnown, IfOf, Reads, ReadsInto};
 ghost use Rattle.msf_blocks.specs.Directory.{AreMapNumbers, HasContents, IsBlockMap, DirectoryRefuses, number_checks, directory_blocks};
 ghost use Rattle.msf_superblock.specs.Superblock.{HoldsBlocks, IsFit};
 
@@ -36,12 +36,9 @@ fn read_map<R: ReadAt, A: Allocator + Copy>(
     superblock: &Superblock,
 ) -> Result<Vec<u32, A>, ReadFault>
     requires { IfKnown (R.bytes input.old) (λ file. HoldsBlocks file superblock.now) }
-    ensures keeps { R.bytes input.new ≡ R.bytes input.old }
+    ensures reads { ReadsInto R.bytes R.is_broken input.old input.new result }
     ensures len { IfOk result (λ v. length v.items ≡ directory_blocks superblock.now) }
     ensures given { IfOk result (λ v. AreMapNumbers (R.bytes input.old) superblock.now v.items) }
-    ensures first { IfErr result (λ fault.
-        ((fault ≡ ReadFault.Read) × (R.is_broken input.new ≡ true))
-        ⊎ (fault ≡ ReadFault.Memory)) }
 {
     let block_size = superblock.block_size();
     let count = blocks_for(block_size, superblock.directory_bytes());

@@ -1,8 +1,8 @@
 //! The free block maps: reads the one in force, and writes those of a file whose blocks are all in
 //! use.
 
-ghost use Rattle.std.specs.Prelude.{true, ◌≡◌, ◌⊎◌, ◌<◌, ◌≤◌, ◌/◌, length, IfSome, IfNone};
-ghost use Rattle.byte_io.specs.At.{IfKnown};
+ghost use Rattle.std.specs.Prelude.{◌≡◌, ◌⊎◌, ◌<◌, ◌≤◌, ◌/◌, length, IfSome, IfNone};
+ghost use Rattle.byte_io.specs.At.{IfKnown, ReadsOrNone};
 ghost use Rattle.msf_superblock.specs.BlockNumber.{IsBlockSize};
 ghost use Rattle.msf_blocks.specs.FreeMap.{IsFreeCount, IsMapGiven, IsMapHeld, IsMark, bit_of, free_blocks, is_free, is_free_by, map_block_of, map_byte, map_block as full_map_block};
 ghost use Rattle.msf_superblock.specs.Superblock.{HoldsBlocks};
@@ -90,11 +90,10 @@ fn read_map<R: ReadAt>(
 ) -> Option<()>
     requires whole { IfKnown (R.bytes input.old) (λ file. HoldsBlocks file superblock.now) }
     requires room { length map_block.old ≡ superblock.now.block_size }
-    ensures keeps { R.bytes input.new ≡ R.bytes input.old }
+    ensures reads { ReadsOrNone R.bytes R.is_broken input.old input.new result }
     ensures room { length map_block.new ≡ superblock.now.block_size }
     ensures given { IfSome result (λ _.
         IsMapGiven (R.bytes input.old) superblock.now block map_block.new) }
-    ensures read { IfNone result (R.is_broken input.new ≡ true) }
 {
     let number = map_block_of(superblock, block);
     if number < u64::from(superblock.num_blocks()) {
@@ -115,11 +114,10 @@ fn turn_to<R: ReadAt>(
     requires whole { IfKnown (R.bytes input.old) (λ file. HoldsBlocks file superblock.now) }
     requires room { length map_block.old ≡ superblock.now.block_size }
     requires held { IsMapHeld (R.bytes input.old) superblock.now block map_block.old }
-    ensures keeps { R.bytes input.new ≡ R.bytes input.old }
+    ensures reads { ReadsOrNone R.bytes R.is_broken input.old input.new result }
     ensures room { length map_block.new ≡ superblock.now.block_size }
     ensures given { IfSome result (λ _.
         IsMapGiven (R.bytes input.old) superblock.now block map_block.new) }
-    ensures read { IfNone result (R.is_broken input.new ≡ true) }
 {
     if block % (8 * superblock.block_size()) == 0 {
         read_map(input, superblock, block, map_block)?;
@@ -137,13 +135,12 @@ fn is_free_at<R: ReadAt>(
     requires whole { IfKnown (R.bytes input.old) (λ file. HoldsBlocks file superblock.now) }
     requires room { length map_block.old ≡ superblock.now.block_size }
     requires held { IsMapHeld (R.bytes input.old) superblock.now block map_block.old }
-    ensures keeps { R.bytes input.new ≡ R.bytes input.old }
+    ensures reads { ReadsOrNone R.bytes R.is_broken input.old input.new result }
     ensures room { length map_block.new ≡ superblock.now.block_size }
     ensures mark { IfSome result (IsMark (R.bytes input.old) superblock.now block) }
     ensures listed { IfSome result (λ _. IsBlockSize superblock.now.block_size) }
     ensures given { IfSome result (λ _.
         IsMapGiven (R.bytes input.old) superblock.now block map_block.new) }
-    ensures read { IfNone result (R.is_broken input.new ≡ true) }
 {
     turn_to(input, superblock, block, map_block)?;
     Some(is_free_by(map_block, superblock, block))
@@ -162,13 +159,12 @@ pub fn free_blocks_at<R: ReadAt>(
 ) -> Option<u32>
     requires whole { IfKnown (R.bytes input.old) (λ file. HoldsBlocks file superblock.now) }
     requires room { length map_block.old ≡ superblock.now.block_size }
-    ensures keeps { R.bytes input.new ≡ R.bytes input.old }
+    ensures reads { ReadsOrNone R.bytes R.is_broken input.old input.new result }
     ensures value { IfSome result (λ free.
         IfKnown (R.bytes input.old) (λ file. free ≡ free_blocks file superblock.now)) }
     // Even if the file's bytes are not known, these are the marks of map blocks that reads gave.
     ensures marks { IfSome result
         (IsFreeCount (R.bytes input.old) superblock.now superblock.now.num_blocks) }
-    ensures read { IfNone result (R.is_broken input.new ≡ true) }
 {
     let mut free = 0;
     for block in 0..superblock.num_blocks() {

@@ -1,8 +1,8 @@
 //! The numbers of a directory that is not in memory, through windows on the stack.
 
-ghost use Rattle.std.specs.Prelude.{◌≡◌, ◌+◌, ◌-◌, ◌*◌, ◌<◌, ◌≤◌, true, length, take, drop, IfSome, IfNone};
+ghost use Rattle.std.specs.Prelude.{◌≡◌, ◌+◌, ◌-◌, ◌*◌, ◌<◌, ◌≤◌, true, length, take, drop, IfSome};
 ghost use Rattle.byte_fields.specs.Number.{number_at, four_bytes};
-ghost use Rattle.byte_io.specs.At.{IfKnown};
+ghost use Rattle.byte_io.specs.At.{IfKnown, ReadsOrNone};
 ghost use Rattle.msf_blocks.specs.Directory.{IsDirectoryNumber, IsNumberGiven, IsReadable, directory_blocks, map_number, map_start};
 ghost use Rattle.msf_superblock.specs.Superblock.{HoldsBlocks};
 ghost use Rattle.msf_blocks.specs.Window.{IsWindow, Shows, shown};
@@ -17,11 +17,10 @@ const WINDOW: usize = 510;
 /// Reads a number of four bytes. `None` where the read fails.
 fn read_number<R: ReadAt>(input: &mut R, offset: u64) -> Option<u32>
     requires inside { IfKnown (R.bytes input.old) (λ file. offset + 4 ≤ length file) }
-    ensures keeps { R.bytes input.new ≡ R.bytes input.old }
+    ensures reads { ReadsOrNone R.bytes R.is_broken input.old input.new result }
     ensures value { IfSome result (λ n.
         IfKnown (R.bytes input.old) (λ file. n ≡ number_at 4 file offset)) }
     ensures given { IfSome result (IsNumberGiven (R.bytes input.old) offset) }
-    ensures refuses { IfNone result (R.is_broken input.new ≡ true) }
 {
     let mut bytes = [0u8; 4];
     input.read_at(offset, &mut bytes)?;
@@ -37,12 +36,11 @@ pub fn read_map_number<R: ReadAt>(
 ) -> Option<u32>
     requires whole { IfKnown (R.bytes input.old) (λ file. HoldsBlocks file superblock.now) }
     requires below { position < directory_blocks superblock.now }
-    ensures keeps { R.bytes input.new ≡ R.bytes input.old }
+    ensures reads { ReadsOrNone R.bytes R.is_broken input.old input.new result }
     ensures value { IfSome result (λ n.
         IfKnown (R.bytes input.old) (λ file. n ≡ map_number file superblock.now position)) }
     ensures given { IfSome result
         (IsNumberGiven (R.bytes input.old) (map_start superblock.now + 4 * position)) }
-    ensures refuses { IfNone result (R.is_broken input.new ≡ true) }
 {
     let start = u64::from(superblock.block_map_addr()) * u64::from(superblock.block_size());
     read_number(input, start + 4 * u64::from(position))
@@ -109,10 +107,9 @@ impl Window {
     ) -> Option<()>
         requires readable { IfKnown (R.bytes input.old) (λ file. IsReadable file superblock.now) }
         requires there { 4 * position + 4 ≤ superblock.now.directory_bytes }
-        ensures keeps { R.bytes input.new ≡ R.bytes input.old }
+        ensures reads { ReadsOrNone R.bytes R.is_broken input.old input.new result }
         ensures window { IsWindow (R.bytes input.old) superblock.now self.new }
         ensures shows { IfSome result (λ _. Shows self.new position) }
-        ensures refuses { IfNone result (R.is_broken input.new ≡ true) }
     {
         self.count = 0;
         let block_size = superblock.block_size();
@@ -138,10 +135,9 @@ pub fn read_directory_number<R: ReadAt>(
     requires readable { IfKnown (R.bytes input.old) (λ file. IsReadable file superblock.now) }
     requires window { IsWindow (R.bytes input.old) superblock.now window.old }
     requires there { 4 * position + 4 ≤ superblock.now.directory_bytes }
-    ensures keeps { R.bytes input.new ≡ R.bytes input.old }
+    ensures reads { ReadsOrNone R.bytes R.is_broken input.old input.new result }
     ensures window { IsWindow (R.bytes input.old) superblock.now window.new }
     ensures given { IfSome result (IsDirectoryNumber (R.bytes input.old) superblock.now position) }
-    ensures refuses { IfNone result (R.is_broken input.new ≡ true) }
 {
     if !window.shows(position) {
         window.open(input, superblock, position)?;

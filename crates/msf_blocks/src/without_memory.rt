@@ -1,8 +1,8 @@
 //! The checks of a directory for which memory was refused. They are made all the same, through two
 //! windows on the stack: one on the sizes of the streams, one on their lists of blocks.
 
-ghost use Rattle.std.specs.Prelude.{true, Some, ◌≡◌, ◌+◌, ◌*◌, ◌<◌, ◌≤◌, ◌^◌, map, OnOk, IfOk, IfErr, IfSome, IfNone};
-ghost use Rattle.byte_io.specs.At.{IfKnown, IfOf, Reads};
+ghost use Rattle.std.specs.Prelude.{Err, Some, ◌+◌, ◌*◌, ◌<◌, ◌≤◌, ◌^◌, map, OnOk, IfOk, IfErr, IfSome};
+ghost use Rattle.byte_io.specs.At.{IfKnown, IfOf, Reads, ReadsOrNone};
 ghost use Rattle.msf_blocks.specs.Directory.{IsDirectoryNumber, IsReadable, HasSize, HasSizes, HasRoom, LacksRoom, HasBlocks, HasLists, HasBlockMap, BlockMapRefuses, ListRefuses, ContentsRefuse, DirectoryRefuses};
 ghost use Rattle.msf_superblock.specs.Superblock.{HoldsBlocks, IsFit};
 ghost use Rattle.msf_blocks.specs.Window.{IsWindow};
@@ -40,11 +40,10 @@ fn read_stream_blocks<R: ReadAt>(
     requires readable { IfKnown (R.bytes input.old) (λ file. IsReadable file superblock.now) }
     requires there { 4 * (1 + stream) + 4 ≤ superblock.now.directory_bytes }
     requires window { IsWindow (R.bytes input.old) superblock.now sizes.old }
-    ensures keeps { R.bytes input.new ≡ R.bytes input.old }
+    ensures reads { ReadsOrNone R.bytes R.is_broken input.old input.new result }
     ensures window { IsWindow (R.bytes input.old) superblock.now sizes.new }
     ensures few { IfSome result (λ n. n ≤ 2 ^ 23) }
     ensures size { IfSome result (HasSize (R.bytes input.old) superblock.now stream) }
-    ensures refuses { IfNone result (R.is_broken input.new ≡ true) }
 {
     let block_size = superblock.block_size();
     let size = read_directory_number(input, superblock, sizes, 1 + stream)?;
@@ -66,11 +65,10 @@ fn read_lists_end<R: ReadAt>(
     requires upto { from ≤ streams }
     requires short { start ≤ 2 ^ 33 }
     requires window { IsWindow (R.bytes input.old) superblock.now sizes.old }
-    ensures keeps { R.bytes input.new ≡ R.bytes input.old }
+    ensures reads { ReadsOrNone R.bytes R.is_broken input.old input.new result }
     ensures window { IsWindow (R.bytes input.old) superblock.now sizes.new }
     ensures few { IfSome result (λ n. n < 2 ^ 60) }
     ensures sizes { IfSome result (HasSizes (R.bytes input.old) superblock.now from streams start) }
-    ensures refuses { IfNone result (R.is_broken input.new ≡ true) }
 {
     let mut end = start;
     for stream in from..streams {
@@ -274,9 +272,8 @@ fn check_directory<R: ReadAt>(
 pub fn fault_without_memory<R: ReadAt>(input: &mut R, superblock: &Superblock) -> AtFault<MsfFault>
     requires fit { IsFit superblock.now }
     requires whole { IfKnown (R.bytes input.old) (λ file. HoldsBlocks file superblock.now) }
-    ensures keeps { R.bytes input.new ≡ R.bytes input.old }
+    ensures reads { Reads {T = Unit {0}} R.bytes R.is_broken input.old input.new (Err result) }
     ensures refused { IfOf (DirectoryRefuses (R.bytes input.old) superblock.now) result }
-    ensures read { result ≡ AtFault.Read → R.is_broken input.new ≡ true }
 {
     if let Err(fault) = check_map(input, superblock) {
         return fault;

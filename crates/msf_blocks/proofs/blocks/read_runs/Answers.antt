@@ -66,7 +66,7 @@ loop-position-preserved g c =
     let long_before : length before ≡ min (position * b) size = omega (arith, length-take (position * b) c.loop-position.buffer, i.len, front) in
     let long_after : length after ≡ position * b + count = omega (arith, length-take (position * b + count) c.read_over.new.buffer, more.same, i.len, n, facts.low) in
     record {
-      keeps = more.keeps ∙ i.keeps;
+      keeps = more.reads.keeps ∙ i.keeps;
       upto = c.run_len-run.ensures.inside;
       len = more.same ∙ i.len;
       given = rw back (given_run bytes b size blocks position run before after (some_bytes b c.requires.size) facts c.run_len-run.ensures.side long_before (omega (arith, long_before, long_after, front, n)) (rw front at i.given) (rw (c.from.ensures, c.from-in-loop-position.ensures, i.keeps) at more.given));

@@ -10,7 +10,7 @@ loop-block-preserved g c =
     let superblock = c.args.superblock.now in
     let block = c.loop-block.block in
     record {
-      keeps = free.keeps ∙ so_far.keeps;
+      keeps = free.reads.keeps ∙ so_far.keeps;
       room = free.room;
       listed = λ _. free.listed;
       held = next_held (g.R.ReadAt.bytes c.args.input.now) c.is_free_at.new.map_block superblock block free.listed (rw so_far.keeps at free.given);

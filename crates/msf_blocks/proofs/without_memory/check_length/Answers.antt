@@ -20,4 +20,4 @@ returns-in_err-check_end-clause-refused g c =
     let e = c.in-Some.ensures in
     let have : c.from-have.result ≡ c.args.superblock.now.directory_bytes = c.from-have.ensures ∙ c.directory_bytes.ensures.value in
     rw (p.1, p.2) (of_more _ _ c.in_err-check_end.field-0.0 (λ fault lacks.
-    lists_refused (g.R.ReadAt.bytes c.args.input.now) c.args.superblock.now c.in-Some.streams fault e.given (rw (e.keeps, c.from-2.ensures) at lacks) (omega (arith, have, c.from.ensures, c.if-have-need.false))) c.in_err-check_end.ensures.refused)
+    lists_refused (g.R.ReadAt.bytes c.args.input.now) c.args.superblock.now c.in-Some.streams fault e.given (rw (e.reads.keeps, c.from-2.ensures) at lacks) (omega (arith, have, c.from.ensures, c.if-have-need.false))) c.in_err-check_end.ensures.refused)

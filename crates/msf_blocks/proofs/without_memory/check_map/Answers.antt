@@ -8,7 +8,7 @@ pub loop-at-preserved : goal.loop-at-preserved
 loop-at-preserved g c =
     let i = c.loop-at.invariant in
     record {
-      keeps = c.in-Some.ensures.keeps ∙ i.keeps;
+      keeps = c.in-Some.ensures.reads.keeps ∙ i.keeps;
       map = more_map (g.R.ReadAt.bytes c.args.input.now) c.args.superblock.now c.loop-at.at c.in-Some.n i.map (rw i.keeps at c.in-Some.ensures.given) (grind arith);
     }
 

@@ -6,7 +6,7 @@ pub loop-at-preserved : goal.loop-at-preserved
 loop-at-preserved g c =
     let i = c.loop-at.invariant in
     record {
-      keeps = c.in-Some.ensures.keeps ∙ i.keeps;
+      keeps = c.in-Some.ensures.reads.keeps ∙ i.keeps;
       window = rw i.keeps at c.in-Some.ensures.window;
       blocks =
           let next : c.args.start + c.loop-at.at + 1 ≡ c.args.start + (c.loop-at.at + 1) = omega arith in

@@ -15,7 +15,7 @@ loop-stream-preserved g c =
     let i = c.loop-stream.invariant in
     let e = c.in_ok-read_stream_blocks.ensures in
     record {
-      keeps = e.keeps ∙ i.keeps;
+      keeps = e.reads.keeps ∙ i.keeps;
       window = rw i.keeps at e.window;
       few = omega (arith, i.few, e.few, c.from.ensures);
       sizes = rw c.from.ensures (more_sizes (g.R.ReadAt.bytes c.args.input.now) c.args.superblock.now c.args.from c.loop-stream.stream c.args.start c.loop-stream.end _ i.sizes (rw i.keeps at e.size));

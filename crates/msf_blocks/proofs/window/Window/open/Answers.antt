@@ -32,7 +32,7 @@ read_at-requires g c = record {
   inside = λ file known.
       let fields = c.args.superblock.now in
       let b = c.block_size-block_size in
-      let old = sym c.in_ok-block.ensures.keeps ∙ known in
+      let old = sym c.in_ok-block.ensures.reads.keeps ∙ known in
       let size : IsBlockSize fields.block_size = rw b.ensures.value at b.ensures.fits in
       let text = take (4 * c.min-count.result) c.args.self.now.bytes in
       let is = count_is b.result (4 * c.args.position % b.result) c.min-count.result (number_ends b.result c.args.position b.ensures.fits) c.min-count.ensures in
@@ -60,7 +60,7 @@ returns-clause-window g c =
       inside = room;
       block = c.in_ok-block.block;
       listed = rw b.ensures.value at c.in_ok-block.ensures.given;
-      given = rw (start, c.in_ok-block.ensures.keeps) at came.given;
+      given = rw (start, c.in_ok-block.ensures.reads.keeps) at came.given;
     })
 
 pub returns-clause-shows : goal.returns-clause-shows
