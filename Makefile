@@ -63,6 +63,7 @@ test:
 	tests/inputs
 	tests/guid
 	tests/difference
+	tests/members
 	tests/failures
 	tests/position
 	tests/surroundings

@@ -19,7 +19,7 @@ _pdbmerge_words() { # WORD WORDS
 }
 
 _pdbmerge() {
-    local commands='merge diff records record types check streams info explain help'
+    local commands='merge diff members records record types check streams info explain help'
     local sizes='512 1024 2048 4096 8192 16384 32768'
     local word=${COMP_WORDS[COMP_CWORD]}
     local before=${COMP_WORDS[COMP_CWORD - 1]}
@@ -37,7 +37,7 @@ _pdbmerge() {
     case $command in
         merge) options='--guid --age --limit --block-size --max-bytes --files-from -0 --null --progress -v --verbose -h --help' ;;
         diff) options='--origins --max-bytes -v --verbose -h --help' ;;
-        records | record | types | check | streams | info) options='--max-bytes -v --verbose -h --help' ;;
+        members | records | record | types | check | streams | info) options='--max-bytes -v --verbose -h --help' ;;
         explain) options='-v --verbose -h --help' ;;
         help) options='-v --verbose' ;;
         *) return ;;

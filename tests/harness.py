@@ -13,8 +13,8 @@ GUID_TEXT, AGE = '00112233-4455-6677-8899-aabbccddeeff', '1'
 SETTINGS = ['--guid', GUID_TEXT, '--age', AGE]
 MERGE = ['merge', *SETTINGS]
 GUID = bytes.fromhex('33221100 5544 7766 8899aabbccddeeff')
-# The status of `diff` where two files differ.
-DIFFERENT = 3
+# The status of `diff` where two files differ, and that of `members` where no type has a name.
+DIFFERENT, MISSING = 3, 3
 # How much of a value is printed that is not as wanted.
 SHOWN_LENGTH = 2000
 THE_PROGRAM = 'The program is build/pdbmerge, or the one that the variable PDBMERGE names.'
@@ -94,6 +94,8 @@ INPUTS = ('FILE', 'A', 'B', 'IN')
 VALUES = {'OUT': 'out.pdb', 'INDEX': '0x1000', 'N': '2', '--guid': GUID_TEXT, '--age': AGE}
 # The commands that do not read one file and show something of it.
 OTHERS = ('merge', 'diff', 'explain')
+# The commands that show a file and that campaign_driver does not run.
+UNDRIVEN = ('members',)
 
 
 def help_part(text, head):
@@ -141,6 +143,9 @@ def words_of(command, *files):
             words.append(left.pop(0) if len(left) > 1 else left[0])
         elif argument in VALUES:
             words += [argument] * argument.startswith('--') + [VALUES[argument]]
+        elif argument == 'NAME':
+            # Where no name is asked for, all definitions are shown.
+            continue
         else:
             refuse(f'the command {command} takes {argument}, for which VALUES has no word')
     return words

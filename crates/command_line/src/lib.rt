@@ -36,5 +36,6 @@ mod list;
 mod words;
 
 pub use fault::{LineFault, WrongWord};
+pub use index::query_of;
 pub use line::{GuidChoice, Line, Merging, PathList, Task, USAGE, read_line};
 pub use list::{ListFault, push_paths};

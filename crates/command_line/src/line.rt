@@ -79,6 +79,12 @@ pub enum Task {
         files: Vec<String>,
         max_bytes: u32,
     },
+    /// `members [--max-bytes N] FILE [NAME...]`: the file, and what is asked for.
+    Members {
+        file: Vec<String>,
+        names: Vec<String>,
+        max_bytes: u32,
+    },
     /// `merge`, with its arguments.
     Merge(Merging),
     /// `explain N`
@@ -209,15 +215,19 @@ fn settings_of(arguments: &ArgMatches<'_>, guid: Uuid) -> Result<Settings, LineF
     }
 }
 
-/// The files that are merged.
-fn inputs_of(alloc: Global, arguments: &ArgMatches<'_>) -> Result<Vec<String>, LineFault> {
-    let mut inputs = Vec::new(alloc);
-    if let Some(given) = arguments.get_strs("IN") {
-        for input in given {
-            inputs.push(String::from_str(alloc, input)?)?;
+/// Copies of all arguments that have a name.
+fn all_of(
+    alloc: Global,
+    arguments: &ArgMatches<'_>,
+    name: &'static str,
+) -> Result<Vec<String>, LineFault> {
+    let mut all = Vec::new(alloc);
+    if let Some(given) = arguments.get_strs(name) {
+        for argument in given {
+            all.push(String::from_str(alloc, argument)?)?;
         }
     }
-    Ok(inputs)
+    Ok(all)
 }
 
 /// The list of the paths of more files, where there is one.
@@ -237,18 +247,23 @@ fn merging_of(alloc: Global, arguments: &ArgMatches<'_>) -> Result<Merging, Line
         settings: settings_of(arguments, guid)?,
         naming,
         out: argument_of(alloc, arguments, "OUT")?,
-        inputs: inputs_of(alloc, arguments)?,
+        inputs: all_of(alloc, arguments, "IN")?,
         list: list_of(alloc, arguments)?,
         shows_progress: arguments.get_flag("progress"),
         max_bytes: max_bytes_of(arguments)?,
     })
 }
 
-/// The two files that are compared.
-fn compared_of(alloc: Global, arguments: &ArgMatches<'_>) -> Result<Vec<String>, LineFault> {
+/// The files that these arguments name.
+fn files_of(
+    alloc: Global,
+    arguments: &ArgMatches<'_>,
+    names: &[&'static str],
+) -> Result<Vec<String>, LineFault> {
     let mut files = Vec::new(alloc);
-    files.push(argument_of(alloc, arguments, "A")?)?;
-    files.push(argument_of(alloc, arguments, "B")?)?;
+    for name in names {
+        files.push(argument_of(alloc, arguments, name)?)?;
+    }
     Ok(files)
 }
 
@@ -280,7 +295,12 @@ fn task_of(alloc: Global, name: &str, arguments: &ArgMatches<'_>) -> Result<Task
             } else {
                 Scope::All
             },
-            files: compared_of(alloc, arguments)?,
+            files: files_of(alloc, arguments, &["A", "B"])?,
+            max_bytes: max_bytes_of(arguments)?,
+        }),
+        Some(Kind::Members) => Ok(Task::Members {
+            file: files_of(alloc, arguments, &["FILE"])?,
+            names: all_of(alloc, arguments, "NAME")?,
             max_bytes: max_bytes_of(arguments)?,
         }),
         Some(Kind::Show(command)) => Ok(Task::Show {

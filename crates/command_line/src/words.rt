@@ -25,6 +25,13 @@ const MERGE: &str = "Merges the types of files into one: the same types give the
 const DIFF: &str =
     "Shows the types that only one of two files has: A's own after '- ', B's own after '+ '";
 
+/// The name of the command that shows definitions.
+const MEMBERS_NAME: &str = "members";
+
+/// What `members` does.
+const MEMBERS: &str =
+    "Shows each class, structure, union and enumeration: its size, and a line for each member";
+
 /// What `explain` does.
 const EXPLAIN: &str = "Shows what a fault means, what makes it, and what to do";
 
@@ -51,6 +58,7 @@ pub struct ShownCommand {
 pub enum Kind {
     Merge,
     Diff,
+    Members,
     Show(ShownCommand),
     Explain,
 }
@@ -61,6 +69,7 @@ impl Kind {
         match self {
             Kind::Merge => MERGE_NAME,
             Kind::Diff => DIFF_NAME,
+            Kind::Members => MEMBERS_NAME,
             Kind::Show(shown) => shown.name,
             Kind::Explain => EXPLAIN_NAME,
         }
@@ -68,9 +77,10 @@ impl Kind {
 }
 
 /// The commands, in the order of the help.
-static SUBCOMMANDS: [Kind; 9] = [
+static SUBCOMMANDS: [Kind; 10] = [
     Kind::Merge,
     Kind::Diff,
+    Kind::Members,
     Kind::Show(ShownCommand {
         name: "records",
         about: "Shows each type record: its type index, its kind, its size in bytes",
@@ -232,6 +242,13 @@ const DIFF_STATUSES: &str =
     standard\nerror that begins with 'pdbmerge: ' and the fault's number and name; 2 the arguments \
     are wrong.";
 
+/// More on the arguments of `members`, and the exit statuses, at the end of its help text.
+const MEMBERS_STATUSES: &str =
+    "A declaration is shown only where a NAME asks for it, and no definition has that name.\n\n\
+    Exit status: 0 done; 3 no type has a NAME, as standard error says; 1 refused, with one line on \
+    standard\nerror that begins with 'pdbmerge: ' and the fault's number and name; 2 the arguments \
+    are wrong.";
+
 // Commands and arguments are large values. Each is made by a function of its own, one at a time, so
 // that the stack has few of them.
 
@@ -351,6 +368,23 @@ fn differing<'a>(alloc: Global) -> Result<Command<'a>, AllocError> {
     with_files(alloc, command)
 }
 
+/// The names of the types that are shown.
+#[inline(never)]
+fn names<'a>(alloc: Global) -> Arg<'a> {
+    Arg::new(alloc, "NAME")
+        .help("The name of a type that is shown, or its type index, as 0x1000; else all are")
+        .num_args(1..)
+        .action(ArgAction::Append)
+}
+
+/// The command that shows definitions.
+#[inline(never)]
+fn telling<'a>(alloc: Global) -> Result<Command<'a>, AllocError> {
+    let command = command(alloc, MEMBERS_NAME, MEMBERS, &OF_SHOWN, MEMBERS_STATUSES)?;
+    let command = command.arg(path(alloc, "FILE", "The PDB file to read"))?;
+    command.arg(names(alloc))
+}
+
 /// The command that says what a fault means.
 #[inline(never)]
 fn explaining<'a>(alloc: Global) -> Result<Command<'a>, AllocError> {
@@ -364,6 +398,7 @@ fn subcommand<'a>(alloc: Global, which: &'a Kind) -> Result<Command<'a>, AllocEr
     match which {
         Kind::Merge => merging(alloc),
         Kind::Diff => differing(alloc),
+        Kind::Members => telling(alloc),
         Kind::Show(shown) => showing(alloc, shown),
         Kind::Explain => explaining(alloc),
     }

@@ -1,5 +1,6 @@
 pub mod DifferenceLaws
 pub mod InfoLaws
+pub mod MembersLaws
 pub mod MergeLaws
 pub mod ShowLaws
 pub mod TypesLaws

@@ -2,6 +2,7 @@ pub mod Check
 pub mod Difference
 pub mod Fault
 pub mod Info
+pub mod Members
 pub mod Merge
 pub mod Record
 pub mod Records

@@ -17,15 +17,16 @@ mod report;
 
 use arguments::arguments;
 use byte_io::{In, Out, put_all};
-use command_line::{GuidChoice, Line, LineFault, Merging, Task, USAGE, read_line};
+use command_line::{GuidChoice, Line, LineFault, Merging, Task, USAGE, query_of, read_line};
 use fault_pages::Page;
 use hold::hold;
 use lists::read_list;
 use pdb_commands::{
-    Scope, Shown, run_diff, run_merge, run_merge_by_types, run_shown, run_shown_file,
+    Asked, Found, Scope, Shown, run_diff, run_members, run_merge, run_merge_by_types, run_shown,
+    run_shown_file,
 };
 use program_files::{InputFiles, NewFile, ProgramFault, Progress, Reading, WholeFile, open_within};
-use refusal::{Refusal, refuse, refuse_line};
+use refusal::{Refusal, quoted, refuse, refuse_line};
 use report::{REPORT_LENGTH, TakenStreams, print};
 use std::hash::{BuildHasher, BuildHasherDefault, DefaultHasher, RandomState};
 use std::io::writer;
@@ -34,8 +35,11 @@ use std::process::ExitCode;
 /// The exit status of `diff` where the files differ in their types.
 const DIFFERENT: u8 = 3;
 
-/// The files that are compared.
-fn compared<'a>(
+/// The exit status of `members` where no type has a name that it is asked for.
+const MISSING: u8 = 3;
+
+/// The files whose types are compared or shown.
+fn inputs_in<'a>(
     rt: &'a HostRuntime,
     files: &'a [String],
     max_bytes: u32,
@@ -146,6 +150,50 @@ fn compare(
     }
 }
 
+/// What each of these names asks for.
+fn asked_of<'a>(rt: &HostRuntime, names: &'a [String]) -> Result<Vec<Asked<'a>>, ProgramFault> {
+    let mut asked = Vec::with_capacity(rt.alloc(), names.len())?;
+    for name in names {
+        asked.push(Asked::new(query_of(name.as_str())))?;
+    }
+    Ok(asked)
+}
+
+/// Prints which names no type has. Returns whether there are any.
+fn tell_missing(
+    rt: &HostRuntime,
+    names: &[String],
+    asked: &[Asked<'_>],
+) -> Result<bool, ProgramFault> {
+    let mut is_any = false;
+    for (name, one) in names.iter().zip(asked) {
+        if one.found == Found::Nothing {
+            // Where the line cannot be printed, only the exit status is left.
+            let _ = eprintln!(rt; "pdbmerge: no type {}", quoted(rt, name.as_str())?);
+            is_any = true;
+        }
+    }
+    Ok(is_any)
+}
+
+/// Prints the definitions of the types of a file, or those that are asked for. Returns the exit
+/// status.
+fn tell(
+    rt: &HostRuntime,
+    file: &InputFiles<'_, HostRuntime>,
+    names: &[String],
+) -> Result<ExitCode, ProgramFault> {
+    let mut asked = asked_of(rt, names)?;
+    let mut out = Out::new(writer(rt));
+    let told = run_members(rt.alloc(), file, &mut asked, &mut out);
+    told.map_err(|fault| ProgramFault::from(fault).uncounted())?;
+    if tell_missing(rt, names, &asked)? {
+        Ok(ExitCode::from(MISSING))
+    } else {
+        Ok(ExitCode::SUCCESS)
+    }
+}
+
 /// Runs a command that shows a file. What it prints goes to standard output. A regular file is read
 /// only as far as the command needs it.
 fn show(rt: &HostRuntime, command: Shown, file: &str, max_bytes: u32) -> Result<(), ProgramFault> {
@@ -201,7 +249,12 @@ fn run(rt: &HostRuntime, task: &Task) -> Result<ExitCode, ProgramFault> {
             scope,
             files,
             max_bytes,
-        } => return compare(rt, &compared(rt, files, *max_bytes), *scope),
+        } => return compare(rt, &inputs_in(rt, files, *max_bytes), *scope),
+        Task::Members {
+            file,
+            names,
+            max_bytes,
+        } => return tell(rt, &inputs_in(rt, file, *max_bytes), names),
         Task::Merge(task) => return merge(rt, task),
     }
     Ok(ExitCode::SUCCESS)

@@ -65,8 +65,8 @@ fn inputs_of(task: &Task) -> &[String] {
     }
 }
 
-/// A path in quotes, as names are printed: a path may hold what a terminal would act upon.
-fn quoted<R: AllocGlobal>(rt: &R, path: &str) -> Result<String, AllocError> {
+/// A path or a name in quotes, as names are printed: it may hold what a terminal would act upon.
+pub fn quoted<R: AllocGlobal>(rt: &R, path: &str) -> Result<String, AllocError> {
     let mut text = String::new(rt.alloc());
     push_quoted(&mut text, path.as_bytes())?;
     Ok(text)

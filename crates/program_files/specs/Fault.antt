@@ -3,8 +3,9 @@ use Rattle.std.specs.Prelude.{ℕ, Option, None}
 use Rattle.byte_io.specs.declared.inputs.InputFault.{InputFault}
 use Rattle.byte_io.specs.declared.inputs.InputFault.TheVariants as inputs
 use Rattle.pdb_merge.specs.Fault.{faulty_file}
+use Rattle.pdb_merge.specs.declared.fault.MergeFault.TheVariants.{Input, Refused}
 use Rattle.pdb_commands.specs.declared.fault.RunFault.TheVariants.{Merge}
-use Rattle.pdb_commands.specs.Fault.{run_from_read, run_number}
+use Rattle.pdb_commands.specs.Fault.{run_from_pdb, run_from_read, run_number}
 use Rattle.program_files.specs.declared.fault.ProgramFault.{ProgramFault}
 use Rattle.program_files.specs.declared.fault.ProgramFault.TheVariants.{Run, Open, Create}
 
@@ -23,3 +24,9 @@ abbrev pub program_number : ProgramFault → ℕ
 program_number (Run fault) = run_number fault
 program_number Open = 40
 program_number Create = 41
+
+-- the same fault of a command with one input, which is not counted
+abbrev pub uncounted : ProgramFault → ProgramFault
+uncounted (Run (Merge (Input file fault))) = program_from_input fault
+uncounted (Run (Merge (Refused file fault))) = Run (run_from_pdb fault)
+uncounted fault = fault

@@ -1,12 +1,13 @@
 //! Why the program did not do what its arguments ask for.
 
 ghost use Rattle.std.specs.Prelude.{◌≡◌};
-ghost use Rattle.program_files.specs.Fault.{program_from_input, program_number, faulty_input};
+ghost use Rattle.program_files.specs.Fault.{program_from_input, program_number, faulty_input, uncounted};
 ghost use Rattle.program_files.specs.declared.fault.ProgramFault.TheVariants.{Run};
 ghost use Rattle.pdb_commands.specs.declared.fault.RunFault.TheVariants.{Memory, Write};
 
 use byte_io::{InputFault, NotTaken};
 use pdb_commands::RunFault;
+use pdb_merge::MergeFault;
 use std::alloc::{AllocError, AllocFailed};
 use thiserror::Error;
 
@@ -43,6 +44,21 @@ impl ProgramFault {
         match self {
             ProgramFault::Run(RunFault::Merge(fault)) => fault.file(),
             _ => None,
+        }
+    }
+
+    /// The same fault of a command with one input: its text does not count the input.
+    pub fn uncounted(self) -> ProgramFault
+        ensures { result ≡ uncounted self }
+    {
+        match self {
+            ProgramFault::Run(RunFault::Merge(MergeFault::Input { fault, .. })) => {
+                ProgramFault::from(fault)
+            }
+            ProgramFault::Run(RunFault::Merge(MergeFault::Refused { fault, .. })) => {
+                ProgramFault::Run(RunFault::from(fault))
+            }
+            fault => fault,
         }
     }
 }

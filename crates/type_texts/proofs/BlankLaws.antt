@@ -194,14 +194,17 @@ behind_told : (kind : ℕ) (l : Leaf) → leaf_of kind ≡ Some l → names_behi
 unfolding leaf_of
 behind_told kind l is = found_passes (λ k l. names_behind l.naming l.rest l.places) leaves kind l refl is
 
-pub same_name : (r : List ℕ) → IsChecked r → own_name (blanked r) ≡ own_name r
-unfolding own_name
-same_name r checked =
+pub same_named : (r : List ℕ) → IsChecked r → name_of (blanked r) ≡ name_of r
+same_named r checked =
     let has = own_places r checked in
     let l = has.leaf in
     let is : Some l ≡ leaf_of (kind_of r) = sym has.kind in
     let blank_is : Some l ≡ leaf_of (kind_of (blanked r)) = is ∙ ap leaf_of (sym (blanked_kind r checked)) in
-    ap name_text (name_is (blanked r) l blank_is ∙ same_name_by r l l.naming checked is (behind_told (kind_of r) l has.kind) ∙ sym (name_is r l is))
+    name_is (blanked r) l blank_is ∙ same_name_by r l l.naming checked is (behind_told (kind_of r) l has.kind) ∙ sym (name_is r l is)
+
+pub same_name : (r : List ℕ) → IsChecked r → own_name (blanked r) ≡ own_name r
+unfolding own_name
+same_name r checked = ap name_text (same_named r checked)
 
 one_place : (r : List ℕ) → (kind_of r ≡ 0x1001) ⊎ (kind_of r ≡ 0x1205) → places_of r ≡ 0 ∷ []
 unfolding places_of leaf_of rest_places

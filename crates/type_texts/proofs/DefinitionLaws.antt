@@ -63,7 +63,7 @@ defines r words is = elim (cases_eq (kind_of r) 0x1504) [
 
 -- ---- a definition and its blank
 
-properties_same : (r : List ℕ) → IsChecked r → Defines r → number_in 2 (body_of (blanked r)) 2 ≡ number_in 2 (body_of r) 2
+pub properties_same : (r : List ℕ) → IsChecked r → Defines r → number_in 2 (body_of (blanked r)) 2 ≡ number_in 2 (body_of r) 2
 properties_same r checked defined =
     two_same (body_of (blanked r)) (body_of r) 2 (body_len (blanked r) r (blanked_len r checked)) (λ k below. same_in_body r 2 k checked (before r k below defined))
   where

@@ -6,4 +6,5 @@ pub mod ListLaws
 pub mod MemberLaws
 pub mod LinesLaws
 pub mod DefinitionLaws
+pub mod AskedLaws
 pub mod TellLaws

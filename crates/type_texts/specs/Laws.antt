@@ -3,6 +3,7 @@ use Rattle.std.specs.Prelude.{ℕ, ◌≡◌, ◌+◌, ◌<◌, List, length}
 use Rattle.tpi_records.specs.Header.{first_index}
 use Rattle.closed_trees.specs.Tree.{Tree, IsTreeAt}
 use Rattle.closed_trees.specs.Types.{AreTypes}
+use Rattle.type_texts.specs.Asked.{AreTrees}
 use Rattle.type_texts.specs.Expression.{IsTold}
 
 -- the same type has the same words, in whatever records it stands, and at whatever position
@@ -18,3 +19,8 @@ abbrev pub WordsExist : Type 0
 WordsExist =
     (records : List (List ℕ)) (deep to : ℕ) → AreTypes records → to < first_index + length records
     → (words : List ℕ) × IsTold records deep to words
+
+-- records that make types have a tree at each position
+abbrev pub TreesExist : Type 0
+TreesExist =
+    (records : List (List ℕ)) → AreTypes records → (trees : List Tree) × AreTrees records trees

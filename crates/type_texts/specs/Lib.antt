@@ -6,4 +6,5 @@ pub mod Member
 pub mod Expression
 pub mod Lines
 pub mod Definition
+pub mod Asked
 pub mod Laws

@@ -1,8 +1,8 @@
 //! The text of a definition.
 
-ghost use Rattle.std.specs.Prelude.{◌≡◌, ◌≤◌, ◌++◌, ℕ, List, OnOk, option_map, length};
+ghost use Rattle.std.specs.Prelude.{◌≡◌, ◌≤◌, ◌++◌, ℕ, List, OnOk, is_some, option_map, length};
 ghost use Rattle.tpi_records.specs.Records.{IsRecord};
-ghost use Rattle.cv_leaves.specs.Checks.{body_of};
+ghost use Rattle.cv_leaves.specs.Checks.{body_of, kind_of};
 ghost use Rattle.closed_trees.specs.Tree.{Tree, IsTreeAt};
 ghost use Rattle.type_texts.specs.Definition.{defined_words, only_declares, size_words, head_line, list_place, definition_text};
 ghost use Rattle.type_texts.specs.Expression.{IsTold};
@@ -33,6 +33,15 @@ fn defined_words(kind: u16) -> Option<&'static str>
         0x1519 => "interface",
         _ => return None,
     })
+}
+
+/// Whether a record defines or declares a class, a structure, a union, an interface or an
+/// enumeration.
+pub fn is_definition(record: &[u8]) -> bool
+    requires { 4 ≤ length «record».now }
+    ensures { result ≡ is_some (defined_words (kind_of «record».now)) }
+{
+    defined_words(kind_of(record)).is_some()
 }
 
 /// Whether a record only declares a type, and has no members.

@@ -2,7 +2,7 @@
 //!
 //! Each function here does nothing: its contract is the law.
 
-ghost use Rattle.type_texts.specs.Laws.{SameTypeSameWords, WordsExist};
+ghost use Rattle.type_texts.specs.Laws.{SameTypeSameWords, TreesExist, WordsExist};
 
 /// The same type has the same words, in whatever records it stands, and at whatever position.
 pub fn same_type_same_words()
@@ -12,4 +12,9 @@ pub fn same_type_same_words()
 /// Each reference of records that make types has words.
 pub fn words_exist()
     ensures { WordsExist }
+{}
+
+/// Records that make types have a tree at each position.
+pub fn trees_exist()
+    ensures { TreesExist }
 {}

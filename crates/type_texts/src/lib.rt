@@ -36,7 +36,9 @@
 //! ```
 #![tactic(auto)]
 
+mod asked;
 mod definition;
+mod definitions;
 mod expression;
 mod field;
 pub mod laws;
@@ -46,6 +48,8 @@ mod simple;
 mod text;
 mod told;
 
+pub use asked::{Asked, Found, Query};
 pub use definition::{only_declares, push_definition};
+pub use definitions::{find_asked, push_definitions};
 pub use expression::push_type;
 pub use lines::push_members;

@@ -424,7 +424,8 @@ static int take_word(struct line *line, char **words, int at) {
     return 2;
 }
 
-/* The commands, and how many words each takes at least. */
+/* The commands, and how many words each takes at least. The tables have only refusals of members, which
+   are those of check. No call gives the text. */
 static const struct {
     const char *name;
     int words;
@@ -432,7 +433,7 @@ static const struct {
 } COMMANDS[] = {
     {"check", 1, run_check},     {"records", 1, run_records}, {"record", 2, run_record},
     {"types", 1, run_types},     {"info", 1, run_info},       {"diff", 2, run_diff},
-    {"streams", 1, run_streams}, {"merge", 2, run_merge},
+    {"streams", 1, run_streams}, {"merge", 2, run_merge},   {"members", 1, run_check},
 };
 
 int main(int argc, char **argv) {

@@ -158,6 +158,8 @@ def answer_of_streams(files):
 
 
 ANSWERS = {name[10:]: call for name, call in list(globals().items()) if name.startswith('answer_of_')}
+# The tables have only refusals of `members`, which are those of `check`. No call gives the text.
+ANSWERS['members'] = ANSWERS['check']
 
 
 def info_of_names(count, codes):

@@ -1,0 +1,33 @@
+use Rattle.std.proofs.Common.{◌≡◌, ◌∷◌, ◌∙◌, ◌++◌, cond, [], get_or, arith, rules, sym, refl}
+use Rattle.std.proofs.lemmas.List.{append-nil}
+use Rattle.closed_trees.specs.Tree.{nothing}
+use Rattle.type_texts.specs.Asked.{is_shown}
+use Rattle.type_texts.specs.Definition.{definition_text}
+use Rattle.type_texts.proofs.AskedLaws.{next_checked, shown_goes, shown_ends}
+use Rattle.type_texts.proofs.definitions.push_definitions.Goals as goal
+use Rattle.type_texts.proofs.definitions.push_definitions.Goals.{then-is_shown+in_ok-push_definition, else-is_shown}
+
+pub loop-position-init : goal.loop-position-init
+loop-position-init g c = record { left = search rules; texts = λ trees are. refl }
+
+pub loop-position-preserved : goal.loop-position-preserved
+loop-position-preserved g c =
+    let so_far = c.loop-position.invariant in
+    let k = c.loop-position.position in
+    let r = c.in-Some.record.now in
+    let asked = c.args.asked.now in
+    let split : c.loop-position.records ≡ r ∷ c.next.new.self = search rules in
+    let next = next_checked c.args.types.now k c.loop-position.records c.next.new.self r c.len-position-end.ensures.types so_far.left split in
+    record {
+      left = next.3;
+      texts = λ trees are.
+          let pushed : c.if-is_shown.text.items ≡ c.loop-position.text.items ++ cond (is_shown asked k r) (definition_text (get_or trees k nothing)) [] = elim c.if-is_shown.branch [
+            | then-is_shown+in_ok-push_definition w ↦ rw (w.text-is, sym c.is_shown.ensures ∙ w.if-is_shown.true) (w.in_ok-push_definition.ensures (get_or trees k nothing) (are.each k next.0))
+            | else-is_shown w ↦ rw (w.text-is, sym c.is_shown.ensures ∙ w.if-is_shown.false) (sym (append-nil c.loop-position.text.items))
+          ] in
+          shown_goes asked c.args.types.now trees k r c.args.text.now.items c.loop-position.text.items _ are next.0 next.1 next.2 pushed (so_far.texts trees are);
+    }
+
+pub returns : goal.returns
+returns g c = λ trees are.
+    shown_ends c.args.asked.now c.args.types.now trees c.loop-position.position c.args.text.now.items c.loop-position.text.items are (omega (arith, c.loop-position-test.false, c.loop-position.auto.position-end, c.len-position-end.ensures.value)) (c.loop-position.invariant.texts trees are)

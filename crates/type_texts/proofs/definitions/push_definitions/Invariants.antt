@@ -1,0 +1,10 @@
+use Rattle.std.proofs.Common.{◌≡◌, ◌++◌, List, drop}
+use Rattle.closed_trees.specs.Tree.{Tree}
+use Rattle.type_texts.specs.Asked.{AreTrees, shown_texts}
+use Rattle.type_texts.proofs.definitions.push_definitions.Given as goal
+
+abbrev pub invariant-loop-position : goal.invariant-loop-position
+invariant-loop-position g l = record {
+  left : l.records ≡ drop l.position l.types;
+  texts : (trees : List Tree) → AreTrees l.types trees → l.text.items ++ shown_texts l.asked l.position (drop l.position trees) ≡ l.fn.text.items ++ shown_texts l.asked 0 trees;
+}

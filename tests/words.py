@@ -1,0 +1,205 @@
+"""What types and definitions are told in words, as docs/WORDS.md says."""
+import struct
+from harness import FIRST
+
+# The names of simple types, by their kinds.
+SIMPLE = {
+    0x00: 'no type', 0x03: 'void', 0x07: 'type not translated', 0x08: 'HRESULT', 0x10: 'signed char', 0x11: 'short',
+    0x12: 'long', 0x13: '__int64', 0x14: '__int128', 0x20: 'unsigned char', 0x21: 'unsigned short',
+    0x22: 'unsigned long', 0x23: 'unsigned __int64', 0x24: 'unsigned __int128', 0x30: 'bool', 0x31: '__bool16',
+    0x32: '__bool32', 0x33: '__bool64', 0x40: 'float', 0x41: 'double', 0x42: 'long double', 0x43: '__float128',
+    0x46: '__half', 0x68: '__int8', 0x69: 'unsigned __int8', 0x70: 'char', 0x71: 'wchar_t', 0x72: '__int16',
+    0x73: 'unsigned __int16', 0x74: 'int', 0x75: 'unsigned int', 0x76: 'int64_t', 0x77: 'uint64_t',
+    0x78: 'int128_t', 0x79: 'uint128_t', 0x7A: 'char16_t', 0x7B: 'char32_t', 0x7C: 'char8_t',
+}
+# What a record defines, by its kind, and the offset of its size, or of its name in an enumeration.
+DEFINED = {0x1504: ('class', 16), 0x1505: ('structure', 16), 0x1506: ('union', 8), 0x1507: ('enumeration', 12),
+           0x1519: ('interface', 16)}
+# How the numbers of numeric leaves are packed.
+NUMERIC = {0x8000: 'b', 0x8001: 'h', 0x8002: 'H', 0x8003: 'i', 0x8004: 'I', 0x8009: 'q', 0x800A: 'Q'}
+ACCESS = {1: 'private ', 2: 'protected '}
+METHODS = {1: 'virtual method', 2: 'static method', 3: 'friend method', 4: 'new virtual method',
+           5: 'pure virtual method', 6: 'new pure virtual method'}
+POINTERS = {1: 'reference to ', 2: 'pointer to member of ', 3: 'pointer to method of ', 4: 'rvalue reference to '}
+# How deep an expression is told, and how many bytes it has at most.
+DEEP, LONG = 8, 400
+
+
+def number(size, data, at):
+    """The number of so many bytes at an offset, or 0 where it does not fit."""
+    return int.from_bytes(data[at:at + size], 'little') if at + size <= len(data) else 0
+
+
+def numeric(data, at):
+    """The value of the numeric leaf at an offset as it is told, and where it ends."""
+    if at + 2 <= len(data):
+        kind = number(2, data, at)
+        if kind < 0x8000:
+            return str(kind), at + 2
+        code = '<' + NUMERIC.get(kind, '0s')
+        if kind in NUMERIC and at + 2 + struct.calcsize(code) <= len(data):
+            return str(struct.unpack_from(code, data, at + 2)[0]), at + 2 + struct.calcsize(code)
+    return '?', None
+
+
+def name_at(data, at):
+    """The name at an offset, or None, and where it ends with its NUL."""
+    end = -1 if at is None else data.find(b'\0', at)
+    return (None, at) if end < 0 else (data[at:end], end + 1)
+
+
+def quoted(name):
+    """A name in quotes, or a question mark where there is none."""
+    plain = lambda byte: 0x20 <= byte <= 0x7E and byte not in b'"\\'
+    return '?' if name is None else '"' + ''.join(chr(byte) if plain(byte) else f'\\x{byte:02x}' for byte in name) + '"'
+
+
+def kind_and_body(record):
+    return number(2, record, 2), record[4:]
+
+
+def own_name(record):
+    """The name of a class, a structure, a union, an interface or an enumeration."""
+    kind, body = kind_and_body(record)
+    _, at = DEFINED[kind]
+    return name_at(body, at if kind == 0x1507 else numeric(body, at)[1])[0]
+
+
+class Full(Exception):
+    """An expression is longer than it is told."""
+
+
+class Expression:
+    """The words of a type of some records. No more are made than are told."""
+
+    def __init__(self, records, index):
+        self.records, self.text = records, ''
+        try:
+            self.tell(index, DEEP)
+        except Full:
+            self.text = self.text[:LONG] + '..'
+
+    def put(self, words):
+        self.text += words
+        if len(self.text) > LONG:
+            raise Full
+
+    def tell(self, index, deep):
+        if index < FIRST:
+            self.put(simple(index))
+        elif deep == 0:
+            self.put('..')
+        else:
+            self.tell_record(*kind_and_body(self.records[index - FIRST]), self.records[index - FIRST], deep - 1)
+
+    def tell_all(self, indices, separator, deep):
+        for k, index in enumerate(indices):
+            self.put(separator * (k > 0))
+            self.put('...') if index == 0 and separator == ', ' else self.tell(index, deep)
+
+    def tell_parts(self, body, deep, *parts):
+        """Words, and the types at these offsets."""
+        for part in parts:
+            self.put(part) if isinstance(part, str) else self.tell(number(4, body, part), deep)
+
+    def tell_record(self, kind, body, record, deep):
+        flags = number(4, body, 4)
+        if kind in DEFINED:
+            self.put(quoted(own_name(record)))
+        elif kind == 0x1001:
+            self.tell_parts(body, deep, ''.join(word * (flags >> bit & 1) for bit, word in enumerate(('const ', 'volatile ', 'unaligned '))), 0)
+        elif kind == 0x1002:
+            mode = flags >> 5 & 7
+            self.put('const ' * (flags >> 10 & 1) + 'volatile ' * (flags >> 9 & 1) + POINTERS.get(mode, 'pointer to '))
+            self.tell_parts(body, deep, *([8, ', ', 0] if mode in (2, 3) else [0]))
+        elif kind == 0x1008:
+            self.tell_parts(body, deep, 'function ', 8, ' giving ', 0)
+        elif kind == 0x1009:
+            self.tell_parts(body, deep, 'method ', 16, ' of ', 4, ' giving ', 0)
+        elif kind == 0x1201:
+            self.put('(')
+            self.tell_all((number(4, body, 4 + 4 * k) for k in range(number(4, body, 0))), ', ', deep)
+            self.put(')')
+        elif kind == 0x1206:
+            self.tell_all(methods(body), ' or ', deep)
+        elif kind == 0x1205:
+            self.tell_parts(body, deep, 0, f', bits {body[5]} to {max(body[5] + body[4] - 1, 0)}')
+        elif kind == 0x1503:
+            self.tell_parts(body, deep, f'array of {numeric(body, 8)[0]} bytes of ', 0)
+        else:
+            self.put({0x000A: f'virtual table of {number(2, body, 0)}', 0x000E: 'label', 0x1203: 'fields', 0x151D: 'virtual table'}[kind])
+
+
+def simple(index):
+    """The words of a simple type."""
+    name, mode = SIMPLE.get(index % 256), index // 256
+    if name is None:
+        return f'0x{index:03x}'
+    return {0: '', 4: 'pointer to ', 6: 'pointer to '}.get(mode, 'far pointer to ') + name
+
+
+def introduces(attributes):
+    return attributes >> 2 & 7 in (4, 6)
+
+
+def methods(body):
+    """The types of a list of methods."""
+    at = 0
+    while at < len(body):
+        yield number(4, body, at + 4)
+        at += 12 if introduces(number(2, body, at)) else 8
+
+
+def member(records, body, at):
+    """The line of the member at an offset, where it ends, and the list in which the members go on."""
+    kind, attributes, index = number(2, body, at), number(2, body, at + 2), number(4, body, at + 4)
+    who, words = ACCESS.get(attributes & 3, ''), lambda: Expression(records, index).text
+    if kind == 0x1404:
+        return None, at + 8, index
+    if kind == 0x1409:
+        return f'- virtual functions {words()}', at + 8, None
+    if kind == 0x1502:
+        value, end = numeric(body, at + 4)
+        name, end = name_at(body, end)
+        return f'{value} value {quoted(name)}', end, None
+    if kind in (0x1400, 0x151A):
+        offset, end = numeric(body, at + 8)
+        return f'{offset} {who}base {words()}', end, None
+    if kind in (0x1401, 0x1402):
+        offset, end = numeric(body, at + 12)
+        number_there, end = numeric(body, end)
+        return f'{offset} {who}{"indirect " * (kind == 0x1402)}virtual base {number_there} {words()}', end, None
+    place, end = numeric(body, at + 8) if kind == 0x150D else ('-', at + 8)
+    if kind == 0x1511 and introduces(attributes):
+        place, end = str(number(4, body, at + 8)), at + 12
+    name, end = name_at(body, end)
+    what = {0x150D: f'{who}member', 0x150E: f'{who}static', 0x150F: f'{attributes} methods', 0x1510: 'nested',
+            0x1511: who + METHODS.get(attributes >> 2 & 7, 'method')}[kind]
+    return f'{place} {what} {quoted(name)} {words()}', end, None
+
+
+def members(records, index):
+    """The lines of the members of a field list, and of those in which it goes on."""
+    while index >= FIRST and kind_and_body(records[index - FIRST])[0] == 0x1203:
+        _, body = kind_and_body(records[index - FIRST])
+        at, index = 0, 0
+        while at < len(body):
+            if body[at] >= 0xF0:
+                at += body[at] & 15
+                continue
+            line, at, following = member(records, body, at)
+            index = index if following is None else following
+            if line is not None:
+                yield line
+
+
+def definition(records, position):
+    """The lines of the definition at a position, whether it only declares, and its name; None of any other record."""
+    kind, body = kind_and_body(records[position])
+    if kind not in DEFINED:
+        return None
+    what, at = DEFINED[kind]
+    declares, name = number(2, body, 2) >> 7 & 1, own_name(records[position])
+    size = f'of {Expression(records, number(4, body, 4)).text}' if kind == 0x1507 else f'size {numeric(body, at)[0]}'
+    lines = members(records, number(4, body, 8 if kind == 0x1507 else 4))
+    return [f'{what} {quoted(name)} {size}{" declared only" * declares}', *('  ' + line for line in lines)], declares, name
