@@ -1,5 +1,6 @@
 -- What the command `members` writes.
 use Rattle.std.specs.Prelude.{ℕ, ◌≡◌, List, [], ◌∷◌, map, Option, Result}
+use Rattle.std.specs.List.{concat}
 use Rattle.std.specs.Io.KnownBytes.{Appends}
 use Rattle.byte_io.specs.Inputs.{Give}
 use Rattle.byte_io.specs.declared.inputs.InputFault.{InputFault}
@@ -19,7 +20,7 @@ pub record ShowsMembers (known : Option (List (Result (List ℕ) InputFault)))
   pub trees : List Tree
   pub are_trees : AreTrees records trees
   pub finds : found ≡ map (answered trees) asked
-  pub shows : text ≡ shown_texts found 0 trees
+  pub shows : text ≡ concat (shown_texts found 0 trees)
   -- where the bytes of the input are known, it is accepted with these types
   pub accepted : (file : List ℕ) → Give known (file ∷ []) → IsAccepted file records
 

@@ -1,10 +1,10 @@
 -- What the command `merge` writes and reports.
-use Rattle.std.specs.Prelude.{ℕ, ◌≡◌, ◌≢◌, ◌⊎◌, Bool, true, List, ◌++◌, Option, Result, Err, OnOk, IfErr, codes}
+use Rattle.std.specs.Prelude.{ℕ, ◌≡◌, ◌≢◌, ◌⊎◌, Bool, true, List, ◌++◌, Option, Result, Err, OnOk, IfErr, IfSome, length, codes}
 use Rattle.std.specs.Io.KnownBytes.{Appends}
-use Rattle.byte_io.specs.Inputs.{Give}
+use Rattle.byte_io.specs.Inputs.{CanRead, Give}
 use Rattle.byte_io.specs.declared.inputs.InputFault.{InputFault}
 use Rattle.msf_streams.specs.Put.{AppendsPart}
-use Rattle.pdb_merge.specs.Answer.{AcceptsFiles, RefusesFiles, Writes, WritesPart}
+use Rattle.pdb_merge.specs.Answer.{AcceptsFiles, RefusesFiles, RefusesReading, Writes, WritesPart}
 use Rattle.pdb_merge.specs.Fault.{NamesFault}
 use Rattle.pdb_merge.specs.declared.summary.Summary.{Summary}
 use Rattle.pdb_merge.specs.declared.fault.MergeFault.{MergeFault}
@@ -46,6 +46,18 @@ IsOfMerging (Merge inner) = (inner ≢ merge.Memory) × NamesFault inner
 IsOfMerging Memory = Unit {0}
 IsOfMerging Write = Unit {0}
 IsOfMerging _ = ⊥
+
+-- how a command answers that reads the types of all its inputs, and then writes a text
+pub record AnswersReading {A W T : Type 0} (known : Option (List (Result (List ℕ) InputFault)))
+    (before after : W) (result : Result T (RunFault A)) : Type 0 where
+  -- the command has no other fault, whatever is known of the inputs
+  pub own : IfErr result IsOfMerging
+  pub read : OnOk result (IfSome known (λ each. CanRead each (length each)))
+  pub refuses : IfErr result (λ fault. (inner : MergeFault A) → fault ≡ Merge inner →
+      RefusesReading known inner)
+  -- something may have been written only after all inputs were read
+  pub late : result ≡ Err Write → IfSome known (λ each. CanRead each (length each))
+  pub untouched : IfErr result (λ fault. fault ≢ Write → after ≡ before)
 
 -- how a command that merges answers: `wrote` says what it wrote for which files, and `part` what it
 -- wrote of that before its sink broke

@@ -5,7 +5,7 @@ ghost use Rattle.byte_io.specs.Inputs.{CanRead};
 ghost use Rattle.pdb_merge.specs.Answer.{RefusesReading};
 ghost use Rattle.pdb_merge.specs.declared.fault.MergeFault.{MergeFault};
 ghost use Rattle.pdb_commands.specs.Difference.{ShowsInputs, Compared, ComparedPart};
-ghost use Rattle.pdb_commands.specs.Merge.{IsOfMerging};
+ghost use Rattle.pdb_commands.specs.Merge.{AnswersReading, IsOfMerging};
 
 use crate::fault::RunFault;
 use byte_io::{Inputs, Sink, put_all};
@@ -62,21 +62,12 @@ pub fn run_diff<I: Inputs, W: Sink, S: BuildHasher + Drop, A: Allocator + Copy>(
     hasher: S,
 ) -> Result<bool, RunFault<A>>
     requires two { IfSome (I.known inputs.now) (λ each. length each ≡ 2) }
-    // The command has no other fault, whatever is known of the inputs.
-    ensures own { IfErr result IsOfMerging }
+    ensures answers { AnswersReading (I.known inputs.now) out.old out.new result }
     ensures value { IfOk result
         (Compared scope (I.known inputs.now) (W.taken out.old) (W.taken out.new)) }
-    ensures read { OnOk result (IfSome (I.known inputs.now) (λ each. CanRead each (length each))) }
-    ensures refuses { IfErr result (λ fault.
-        (inner : MergeFault A) → fault ≡ RunFault.Merge inner →
-        RefusesReading (I.known inputs.now) inner) }
-    // Something may have been written only after both inputs were read.
-    ensures late { result ≡ Err RunFault.Write →
-        IfSome (I.known inputs.now) (λ each. CanRead each (length each)) }
     ensures write { result ≡ Err RunFault.Write →
         (W.is_broken out.new ≡ true)
         × ComparedPart scope (I.known inputs.now) (W.taken out.old) (W.taken out.new) }
-    ensures untouched { IfErr result (λ fault. fault ≢ RunFault.Write → out.new ≡ out.old) }
 {
     let text = difference_text(alloc, inputs, scope, hasher)?;
     put_all(out, text.as_bytes())?;

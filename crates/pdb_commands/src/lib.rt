@@ -4,7 +4,8 @@
 //! [`run_info`] and [`run_streams`]. Such a command reads a [`Source`](msf_blocks::Source) to its
 //! end, makes its whole text, and then writes it into a [`Sink`](msf_blocks::Sink). [`run_merge`]
 //! writes one file with the types of several files, and a report on it. [`run_diff`] shows the
-//! types that only one of two files has. Each refusal is a [`RunFault`]. [`run_shown`] runs any
+//! types that only one of two files has. [`run_members`] shows the definitions of the types of a
+//! file, with their members. Each refusal is a [`RunFault`]. [`run_shown`] runs any
 //! command that shows a file, with a limit on what it reads: the directory, the stream and the names
 //! of streams.
 //!

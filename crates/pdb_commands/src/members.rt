@@ -5,7 +5,7 @@ ghost use Rattle.byte_io.specs.Inputs.{CanRead};
 ghost use Rattle.pdb_merge.specs.Answer.{RefusesReading};
 ghost use Rattle.pdb_merge.specs.declared.fault.MergeFault.{MergeFault};
 ghost use Rattle.pdb_commands.specs.Members.{ShowsMembers, ShowedMembers, ShowedMembersPart};
-ghost use Rattle.pdb_commands.specs.Merge.{IsOfMerging};
+ghost use Rattle.pdb_commands.specs.Merge.{AnswersReading, IsOfMerging};
 
 use crate::fault::RunFault;
 use byte_io::{Inputs, Sink, put_all};
@@ -32,7 +32,7 @@ fn members_text<I: Inputs, A: Allocator + Copy>(
     let types = read_input_types(alloc, inputs, 0, &mut buffer)?;
     find_asked(&types, asked);
     let mut text = Vec::new(alloc);
-    push_definitions(&mut text, &types, asked)?;
+    push_definitions(alloc, &mut text, &types, asked)?;
     Ok(text)
 }
 
@@ -54,22 +54,13 @@ pub fn run_members<I: Inputs, W: Sink, A: Allocator + Copy>(
     out: &mut W,
 ) -> Result<(), RunFault<A>>
     requires one { IfSome (I.known inputs.now) (λ each. length each ≡ 1) }
-    // The command has no other fault, whatever is known of the inputs.
-    ensures own { IfErr result IsOfMerging }
+    ensures answers { AnswersReading (I.known inputs.now) out.old out.new result }
     ensures value { OnOk result (ShowedMembers (I.known inputs.now) asked.old asked.new
         (W.taken out.old) (W.taken out.new)) }
-    ensures read { OnOk result (IfSome (I.known inputs.now) (λ each. CanRead each (length each))) }
-    ensures refuses { IfErr result (λ fault.
-        (inner : MergeFault A) → fault ≡ RunFault.Merge inner →
-        RefusesReading (I.known inputs.now) inner) }
-    // Something may have been written only after the input was read.
-    ensures late { result ≡ Err RunFault.Write →
-        IfSome (I.known inputs.now) (λ each. CanRead each (length each)) }
     ensures write { result ≡ Err RunFault.Write →
         (W.is_broken out.new ≡ true)
         × ShowedMembersPart (I.known inputs.now) asked.old asked.new
         (W.taken out.old) (W.taken out.new) }
-    ensures untouched { IfErr result (λ fault. fault ≢ RunFault.Write → out.new ≡ out.old) }
 {
     let text = members_text(alloc, inputs, asked)?;
     put_all(out, &text)?;

@@ -159,21 +159,26 @@ fn asked_of<'a>(rt: &HostRuntime, names: &'a [String]) -> Result<Vec<Asked<'a>>,
     Ok(asked)
 }
 
+/// These names in quotes.
+fn all_quoted(rt: &HostRuntime, names: &[String]) -> Result<Vec<String>, ProgramFault> {
+    let mut all = Vec::with_capacity(rt.alloc(), names.len())?;
+    for name in names {
+        all.push(quoted(rt, name.as_str())?)?;
+    }
+    Ok(all)
+}
+
 /// Prints which names no type has. Returns whether there are any.
-fn tell_missing(
-    rt: &HostRuntime,
-    names: &[String],
-    asked: &[Asked<'_>],
-) -> Result<bool, ProgramFault> {
+fn tell_missing(rt: &HostRuntime, names: &[String], asked: &[Asked<'_>]) -> bool {
     let mut is_any = false;
     for (name, one) in names.iter().zip(asked) {
         if one.found == Found::Nothing {
             // Where the line cannot be printed, only the exit status is left.
-            let _ = eprintln!(rt; "pdbmerge: no type {}", quoted(rt, name.as_str())?);
+            let _ = eprintln!(rt; "pdbmerge: no type {}", name.as_str());
             is_any = true;
         }
     }
-    Ok(is_any)
+    is_any
 }
 
 /// Prints the definitions of the types of a file, or those that are asked for. Returns the exit
@@ -184,10 +189,12 @@ fn tell(
     names: &[String],
 ) -> Result<ExitCode, ProgramFault> {
     let mut asked = asked_of(rt, names)?;
+    // Nothing may be refused any more after the text is written.
+    let shown = all_quoted(rt, names)?;
     let mut out = Out::new(writer(rt));
     let told = run_members(rt.alloc(), file, &mut asked, &mut out);
     told.map_err(|fault| ProgramFault::from(fault).uncounted())?;
-    if tell_missing(rt, names, &asked)? {
+    if tell_missing(rt, &shown, &asked) {
         Ok(ExitCode::from(MISSING))
     } else {
         Ok(ExitCode::SUCCESS)

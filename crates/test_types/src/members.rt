@@ -3,7 +3,7 @@
 use super::calls::types_of;
 use std::test::Fail;
 use test_samples::{refusals, stream_with};
-use type_texts::push_definition;
+use type_texts::{Asked, Query, find_asked, push_definitions};
 
 /// A declaration, a method list, a list of one member, a list of one of each kind that goes on in it,
 /// a class, a list of the least and the greatest values, an enumeration, and a union.
@@ -18,13 +18,13 @@ const RECORDS: [&[u8]; 8] = [
     b"\x16\0\x06\x15\x01\0\0\0\x02\x10\0\0,\0Either\0\xf3\xf2\xf1",
 ];
 
-/// Positions, and the lines of each.
-const LINES: [(usize, &[&str]); 6] = [
-    (0, &["structure \"Packet\" size 0 declared only"]),
-    (1, &[]),
-    (3, &[]),
+/// Type indices, and the lines of each.
+const LINES: [(u32, &[&str]); 6] = [
+    (0x1000, &["structure \"Packet\" size 0 declared only"]),
+    (0x1001, &[]),
+    (0x1003, &[]),
     (
-        4,
+        0x1004,
         &[
             "class \"Every \\x22one\\x22\" size 44",
             "  0 base \"Packet\"",
@@ -47,7 +47,7 @@ const LINES: [(usize, &[&str]); 6] = [
         ],
     ),
     (
-        6,
+        0x1006,
         &[
             "enumeration \"Value\" of unsigned int",
             "  32767 value \"a\"",
@@ -64,22 +64,27 @@ const LINES: [(usize, &[&str]); 6] = [
             "  18446744073709551615 value \"l\"",
         ],
     ),
-    (7, &["union \"Either\" size 44", "  40 member \"last\" int"]),
+    (
+        0x1007,
+        &["union \"Either\" size 44", "  40 member \"last\" int"],
+    ),
 ];
 
 #[test]
 fn definitions_in_lines(rt: HostRuntime) -> Result<(), Fail> {
     let stream = stream_with(rt.alloc(), &RECORDS)?;
     let types = types_of(rt.alloc(), &stream)?;
-    for (position, lines) in LINES {
+    for (index, lines) in LINES {
+        let mut asked = [Asked::new(Query::Index(index))];
+        find_asked(&types, &mut asked);
         let mut text = Vec::new(rt.alloc());
-        push_definition(&mut text, &types, position)?;
+        push_definitions(rt.alloc(), &mut text, &types, &asked)?;
         let mut wanted = String::new(rt.alloc());
         for line in lines {
             wanted.push_str(line)?;
             wanted.push_str("\n")?;
         }
-        assert_eq!(rt; text.as_slice(), wanted.as_bytes(), "{position}");
+        assert_eq!(rt; text.as_slice(), wanted.as_bytes(), "{index:#x}");
     }
     Ok(())
 }
@@ -89,8 +94,10 @@ fn growth_for_lines_is_refused(rt: HostRuntime) -> Result<(), Fail> {
     let stream = stream_with(rt.alloc(), &RECORDS)?;
     let types = types_of(rt.alloc(), &stream)?;
     refusals(rt.alloc(), 16, 128, |heap| {
+        let mut asked = [Asked::new(Query::Index(0x1006))];
+        find_asked(&types, &mut asked);
         let mut text = Vec::new(heap);
-        if push_definition(&mut text, &types, 6).is_err() {
+        if push_definitions(heap, &mut text, &types, &asked).is_err() {
             return Ok(true);
         }
         assert_eq!(rt; text.len(), 310);

@@ -1,17 +1,18 @@
 -- What is found among types, and the texts that are shown.
-use Rattle.std.proofs.Common.{◌≡◌, ◌+◌, ◌<◌, ◌≤◌, ◌∙◌, ℕ, suc, cond, zero, List, [], ◌∷◌, ◌++◌, Option, Some, None, length, get_or, take, drop, set, map, refl, sym, ap, subst, arith, inl, inr}
+use Rattle.std.proofs.Common.{◌≡◌, ◌+◌, ◌<◌, ◌≤◌, ◌∙◌, ℕ, suc, cond, zero, Bool, true, false, List, [], ◌∷◌, ◌++◌, Option, Some, None, length, get_or, take, drop, set, map, refl, sym, ap, subst, arith, inl, inr}
 use Rattle.std.proofs.lemmas.List.{append_assoc, append-nil, length-append, get_or_append_left, take_all, drop_all, drop_more}
 use Rattle.std.proofs.Math.Seq.{get_or-append_seam}
 use Rattle.std.proofs.lemmas.Bool.{cases_lt}
-use Rattle.std.specs.List.{list_any}
+use Rattle.std.proofs.lemmas.List.Elements.{Contains-append_cases, Contains-append_left, Contains-append_right}
+use Rattle.std.specs.List.{Contains, concat, list_any}
 use Rattle.cv_leaves.specs.Checks.{kind_of}
 use Rattle.cv_leaves.specs.Place.{IsChecked}
 use Rattle.cv_leaves.specs.References.{blanked}
 use Rattle.cv_leaves.proofs.FilledLaws.{blanked_kind}
-use Rattle.closed_trees.specs.Tree.{Tree, tree, nothing, blank_of, IsTreeAt}
+use Rattle.closed_trees.specs.Tree.{Tree, tree, nothing, blank_of, IsTreeAt, IsType}
 use Rattle.closed_trees.specs.Types.{AreTypes}
 use Rattle.closed_trees.proofs.DepthLaws.{next_record}
-use Rattle.closed_trees.proofs.TreeLaws.{at_position, tree_there}
+use Rattle.closed_trees.proofs.TreeLaws.{at_position, one, tree_there}
 use Rattle.type_texts.specs.Asked.{AreTrees, is_meant, found_in, found_at, better, best, answered, is_best, is_shown, shown_texts}
 use Rattle.type_texts.specs.Definition.{defined_words, only_declares, definition_text}
 use Rattle.type_texts.specs.declared.asked.Asked.{Asked}
@@ -20,6 +21,7 @@ use Rattle.type_texts.specs.declared.asked.Found.TheVariants.{Nothing, Declared,
 use Rattle.type_texts.specs.declared.asked.Query.{Query}
 use Rattle.type_texts.specs.declared.asked.Query.TheVariants.{Index, Name}
 use Rattle.type_texts.proofs.BlankLaws.{same_named}
+use Rattle.type_texts.proofs.LinesLaws.{stands_inside}
 use Rattle.type_texts.proofs.DefinitionLaws.{defines, properties_same}
 
 -- ---- a record and its blank
@@ -110,22 +112,29 @@ unfolding best
 best_ends query records trees k found are end so_far =
     sym (better_nothing found) ∙ (rw (drop_all k trees (omega (arith, end, are.many))) at so_far)
 
+-- a text that is shown comes first
+shown_first : (shown : Bool) (text : List ℕ) (rest : List (List ℕ)) → concat (cond shown (text ∷ []) [] ++ rest) ≡ cond shown text [] ++ concat rest
+shown_first true text rest = refl
+shown_first false text rest = refl
+
 -- the text of a record that is shown comes next
 pub shown_goes : (asked : List Asked) (records : List (List ℕ)) (trees : List Tree) (k : ℕ) (r old text more : List ℕ) → AreTrees records trees → k < length records → r ≡ get_or records k [] → IsChecked r
     → more ≡ text ++ cond (is_shown asked k r) (definition_text (get_or trees k nothing)) []
-    → text ++ shown_texts asked k (drop k trees) ≡ old ++ shown_texts asked 0 trees
-    → more ++ shown_texts asked (k + 1) (drop (k + 1) trees) ≡ old ++ shown_texts asked 0 trees
+    → text ++ concat (shown_texts asked k (drop k trees)) ≡ old ++ concat (shown_texts asked 0 trees)
+    → more ++ concat (shown_texts asked (k + 1) (drop (k + 1) trees)) ≡ old ++ concat (shown_texts asked 0 trees)
 unfolding shown_texts
 shown_goes asked records trees k r old text more are below is checked pushed so_far =
     let next : k + 1 ≡ suc k = omega arith in
     let rest = shown_texts asked (k + 1) (drop (k + 1) trees) in
-    ap (λ (xs : List ℕ). xs ++ rest) pushed
-    ∙ append_assoc text (cond (is_shown asked k r) (definition_text (get_or trees k nothing)) []) rest
+    let here = definition_text (get_or trees k nothing) in
+    ap (λ (xs : List ℕ). xs ++ concat rest) pushed
+    ∙ append_assoc text (cond (is_shown asked k r) here []) (concat rest)
+    ∙ ap (λ (xs : List ℕ). text ++ xs) (sym (shown_first (is_shown asked k r) here rest))
     ∙ (rw (begins records trees k are below, blank_is records trees k r are below is, same_shown asked k r checked, ← next) at so_far)
 
 -- behind the last record there is no more text
 pub shown_ends : (asked : List Asked) (records : List (List ℕ)) (trees : List Tree) (k : ℕ) (old text : List ℕ) → AreTrees records trees → k ≡ length records
-    → text ++ shown_texts asked k (drop k trees) ≡ old ++ shown_texts asked 0 trees → text ≡ old ++ shown_texts asked 0 trees
+    → text ++ concat (shown_texts asked k (drop k trees)) ≡ old ++ concat (shown_texts asked 0 trees) → text ≡ old ++ concat (shown_texts asked 0 trees)
 unfolding shown_texts
 shown_ends asked records trees k old text are end so_far =
     sym (append-nil text) ∙ (rw (drop_all k trees (omega (arith, end, are.many))) at so_far)
@@ -175,3 +184,44 @@ pub all_trees : (records : List (List ℕ)) → AreTypes records → (trees : Li
 all_trees records types =
     let all = some_trees records (length records) types (omega arith) in
     (all.0, record { many = all.1; each = all.2 })
+
+-- ---- the definitions of the same types
+
+-- the tree is a definition
+abbrev IsShown : Tree → Type 0
+IsShown t = is_best Defined (found_in (blank_of t)) ≡ true
+
+one_shown : (shown : Bool) (text x : List ℕ) → Contains (cond shown (x ∷ []) []) text → (shown ≡ true) × (text ≡ x)
+one_shown true text x (zero, below, is) = (refl, sym is)
+one_shown true text x (suc k, below, is) = absurd (omega (arith, below))
+one_shown false text x (k, below, is) = absurd (omega (arith, below))
+
+-- a text that is shown is that of a tree that is a definition
+shown_there : (trees : List Tree) (i : ℕ) (text : List ℕ) → Contains (shown_texts [] i trees) text
+    → (k : ℕ) × (k < length trees) × IsShown (get_or trees k nothing) × (text ≡ definition_text (get_or trees k nothing))
+unfolding shown_texts is_shown
+shown_there [] i text (k, below, is) = absurd (omega (arith, below))
+shown_there (t ∷ ts) i text has =
+    elim (Contains-append_cases (cond (is_shown [] i (blank_of t)) (definition_text t ∷ []) []) (shown_texts [] (suc i) ts) text has) [
+      | inl first ↦ let one = one_shown (is_shown [] i (blank_of t)) text (definition_text t) first in (0, omega arith, one.0, one.1)
+      | inr other ↦ let there = shown_there ts (suc i) text other in (suc there.0, omega (arith, there.1), there.2, there.3)
+    ]
+
+-- the text of a tree that is a definition is shown
+shown_here : (trees : List Tree) (i k : ℕ) → k < length trees → IsShown (get_or trees k nothing) → Contains (shown_texts [] i trees) (definition_text (get_or trees k nothing))
+unfolding shown_texts is_shown
+shown_here [] i k below is = absurd (omega (arith, below))
+shown_here (t ∷ ts) i zero below is =
+    Contains-append_left (cond (is_shown [] i (blank_of t)) (definition_text t ∷ []) []) (shown_texts [] (suc i) ts) (definition_text t) (rw is (0, omega arith, refl))
+shown_here (t ∷ ts) i (suc k) below is =
+    Contains-append_right (cond (is_shown [] i (blank_of t)) (definition_text t ∷ []) []) (shown_texts [] (suc i) ts) (definition_text (get_or ts k nothing)) (shown_here ts (suc i) k (omega (arith, below)) is)
+
+pub same_types_same_definitions : (records others : List (List ℕ)) (trees other_trees : List Tree) → AreTrees records trees → AreTrees others other_trees → ((t : Tree) → IsType records t → IsType others t)
+    → (text : List ℕ) → Contains (shown_texts [] 0 trees) text → Contains (shown_texts [] 0 other_trees) text
+same_types_same_definitions records others trees other_trees are other_are types text has =
+    let there = shown_there trees 0 text has in
+    let t = get_or trees there.0 nothing in
+    let other = types t (there.0, are.each there.0 (omega (arith, there.1, are.many))) in
+    let inside = stands_inside others other.0 t other.1 in
+    let same : t ≡ get_or other_trees other.0 nothing = one others other.0 t (get_or other_trees other.0 nothing) other.1 (other_are.each other.0 inside) in
+    rw (there.3, same) (shown_here other_trees 0 other.0 (omega (arith, inside, other_are.many)) (rw same at there.2))

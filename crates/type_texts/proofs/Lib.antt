@@ -5,6 +5,7 @@ pub mod KindLaws
 pub mod ListLaws
 pub mod MemberLaws
 pub mod LinesLaws
+pub mod SpanLaws
 pub mod DefinitionLaws
 pub mod AskedLaws
 pub mod TellLaws

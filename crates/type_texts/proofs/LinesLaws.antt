@@ -112,7 +112,7 @@ own_starts records r bs old checked = record {
   goes = refl;
 }
 
-more_text : (lines more : List (List ℕ)) → lines_text (lines ++ more) ≡ lines_text lines ++ lines_text more
+pub more_text : (lines more : List (List ℕ)) → lines_text (lines ++ more) ≡ lines_text lines ++ lines_text more
 unfolding lines_text
 more_text lines more = flat_map-append (λ (line : List ℕ). 32 ∷ 32 ∷ line ++ 10 ∷ []) lines more
 
@@ -193,11 +193,6 @@ pub none_left : (records : List (List ℕ)) (deep : ℕ) (next : Option ℕ) (li
 none_left records deep None lines none goes = goes
 none_left records deep (Some to) lines none (inl simple_one) = simple_one.1
 none_left records deep (Some to) lines none (inr (large, t, stands, low, is)) = absurd (omega (arith, none, low))
-
--- one list more
-pub lists_more : (text now old : List ℕ) (own rest all : List (List ℕ)) → now ≡ text ++ lines_text own → text ++ lines_text (own ++ rest) ≡ old ++ lines_text all → now ++ lines_text rest ≡ old ++ lines_text all
-lists_more text now old own rest all is so_far =
-    ap (λ (xs : List ℕ). xs ++ lines_text rest) is ∙ append_assoc text (lines_text own) (lines_text rest) ∙ ap (λ (xs : List ℕ). text ++ xs) (sym (more_text own rest)) ∙ so_far
 
 -- no list more
 pub lists_end : (text old : List ℕ) (rest all : List (List ℕ)) → rest ≡ [] → text ++ lines_text rest ≡ old ++ lines_text all → text ≡ old ++ lines_text all

@@ -63,10 +63,9 @@ unfoldable pub is_shown : List Asked → ℕ → List ℕ → Bool
 is_shown [] i r = is_best Defined (found_in r)
 is_shown asked i r = list_any (λ a. is_best a.found (found_at a.query i r)) asked
 
--- the texts of the definitions among these trees that are shown, the first of which is at
--- position i
-unfoldable pub shown_texts : List Asked → ℕ → List Tree → List ℕ
+-- the texts of those definitions among these trees that are shown; the first tree is at position i
+unfoldable pub shown_texts : List Asked → ℕ → List Tree → List (List ℕ)
 shown_texts asked i [] = []
 shown_texts asked i (t ∷ ts) =
-    (if is_shown asked i (blank_of t) then definition_text t else [])
+    (if is_shown asked i (blank_of t) then definition_text t ∷ [] else [])
     ++ shown_texts asked (suc i) ts

@@ -1,9 +1,10 @@
 -- Laws of the texts of types.
-use Rattle.std.specs.Prelude.{ℕ, ◌≡◌, ◌+◌, ◌<◌, List, length}
+use Rattle.std.specs.Prelude.{ℕ, ◌≡◌, ◌+◌, ◌<◌, List, [], length}
+use Rattle.std.specs.List.{Contains}
 use Rattle.tpi_records.specs.Header.{first_index}
-use Rattle.closed_trees.specs.Tree.{Tree, IsTreeAt}
+use Rattle.closed_trees.specs.Tree.{Tree, IsTreeAt, IsType}
 use Rattle.closed_trees.specs.Types.{AreTypes}
-use Rattle.type_texts.specs.Asked.{AreTrees}
+use Rattle.type_texts.specs.Asked.{AreTrees, shown_texts}
 use Rattle.type_texts.specs.Expression.{IsTold}
 
 -- the same type has the same words, in whatever records it stands, and at whatever position
@@ -24,3 +25,12 @@ WordsExist =
 abbrev pub TreesExist : Type 0
 TreesExist =
     (records : List (List ℕ)) → AreTypes records → (trees : List Tree) × AreTrees records trees
+
+-- where others have all types of some records, they have all definitions of them
+abbrev pub SameTypesSameDefinitions : Type 0
+SameTypesSameDefinitions =
+    (records others : List (List ℕ)) (trees other_trees : List Tree)
+    → AreTrees records trees → AreTrees others other_trees
+    → ((t : Tree) → IsType records t → IsType others t)
+    → (text : List ℕ) → Contains (shown_texts [] 0 trees) text
+    → Contains (shown_texts [] 0 other_trees) text

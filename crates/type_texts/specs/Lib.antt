@@ -5,6 +5,7 @@ pub mod Told
 pub mod Member
 pub mod Expression
 pub mod Lines
+pub mod Spans
 pub mod Definition
 pub mod Asked
 pub mod Laws

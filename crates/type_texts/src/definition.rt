@@ -7,11 +7,12 @@ ghost use Rattle.closed_trees.specs.Tree.{Tree, IsTreeAt};
 ghost use Rattle.type_texts.specs.Definition.{defined_words, only_declares, size_words, head_line, list_place, definition_text};
 ghost use Rattle.type_texts.specs.Expression.{IsTold};
 ghost use Rattle.type_texts.specs.Field.{number_in};
+ghost use Rattle.type_texts.specs.Spans.{AreListed};
 ghost use Rattle.type_texts.specs.Text.{cut};
 
 use crate::expression::push_type;
 use crate::field::{add_numeric, add_own_name, u16_in, u32_in};
-use crate::lines::push_members;
+use crate::lists::{Lists, push_members};
 use crate::text::add;
 use checked_types::Types;
 use cv_leaves::{body_of, kind_of};
@@ -119,15 +120,20 @@ fn list_place(kind: u16) -> usize
 ///
 /// The head is what it defines, its name in quotes, and its size; the type of its values where it
 /// is an enumeration. A declaration has the words `declared only`, and no members. The line of a
-/// member is its offset or its value, what it is, its name, and its type. The only fault is out of
-/// memory. ("CodeView Type Records", `LF_CLASS` to `LF_ENUM`.)
+/// member is its offset or its value, what it is, its name, and its type. `lists` are those whose
+/// lines stand in the text already: they are copied. The only fault is out of memory. ("CodeView
+/// Type Records", `LF_CLASS` to `LF_ENUM`.)
 pub fn push_definition<A: Allocator, T: Allocator>(
     text: &mut Vec<u8, A>,
     types: &Types<'_, T>,
+    lists: &mut Lists<A>,
     position: usize,
 ) -> Result<(), AllocError>
-    ensures { (t : Tree) → IsTreeAt types.now position t →
+    requires lists { AreListed types.now text.old.items lists.old }
+    requires there { (t : Tree) × IsTreeAt types.now position t }
+    ensures value { (t : Tree) → IsTreeAt types.now position t →
         OnOk result (text.new.items ≡ text.old.items ++ definition_text t) }
+    ensures lists { OnOk result (AreListed types.now text.new.items lists.new) }
 {
     let Some(record) = types.get(position) else {
         return Ok(());
@@ -137,9 +143,6 @@ pub fn push_definition<A: Allocator, T: Allocator>(
     };
     push_head(text, types, record, words)?;
     add(text, b"\n")?;
-    push_members(
-        text,
-        types,
-        u32_in(body_of(record), list_place(kind_of(record))),
-    )
+    let list = u32_in(body_of(record), list_place(kind_of(record)));
+    push_members(text, types, lists, list)
 }

@@ -8,10 +8,11 @@
 //! longer. In a list of arguments no type is three points: more arguments may follow. The words are
 //! our own. They are no declaration of any language.
 //!
-//! [`push_definition`] appends the text of a class, a structure, a union, an interface or an
-//! enumeration: its head, and a line for each of its members, such as `8 member "next" int`.
-//! [`push_members`] appends the lines of a field list, and of those in which it goes on.
-//! [`only_declares`] says whether a record declares a type without its members.
+//! [`push_definitions`] appends the texts of classes, structures, unions, interfaces and
+//! enumerations: of each its head, and a line for each of its members, such as `8 member "next" int`.
+//! All definitions are shown, or those that are [`Asked`] for, of which [`find_asked`] says what is
+//! found. [`push_definition`] appends the text of one of them, and [`Lists`] says which field lists
+//! were told in a text, so that their lines are copied. [`only_declares`] says whether a record declares a type without its members.
 //!
 //! What is proved: the words depend on nothing but the type. They are those of its tree, so no type
 //! index, no position and no file can be seen in them, and the same type has the same words in
@@ -43,6 +44,7 @@ mod expression;
 mod field;
 pub mod laws;
 mod lines;
+mod lists;
 mod member;
 mod simple;
 mod text;
@@ -52,4 +54,4 @@ pub use asked::{Asked, Found, Query};
 pub use definition::{only_declares, push_definition};
 pub use definitions::{find_asked, push_definitions};
 pub use expression::push_type;
-pub use lines::push_members;
+pub use lists::Lists;

@@ -1,6 +1,6 @@
-//! The lines of the members of a type.
+//! The lines of the members of one field list.
 
-ghost use Rattle.std.specs.Prelude.{◌≡◌, ◌≤◌, ◌<◌, ◌-◌, ◌++◌, [], ◌∷◌, ◌^◌, ℕ, List, true, OnOk, IfOk, IfSome, IfNone, length};
+ghost use Rattle.std.specs.Prelude.{◌≡◌, ◌≤◌, ◌<◌, ◌-◌, ◌++◌, [], ◌∷◌, ◌^◌, ℕ, List, true, OnOk, IfOk, length};
 ghost use Rattle.tpi_records.specs.Header.{first_index};
 ghost use Rattle.tpi_records.specs.Records.{IsRecord};
 ghost use Rattle.cv_leaves.specs.Place.{IsChecked};
@@ -9,7 +9,7 @@ ghost use Rattle.closed_trees.specs.Tree.{Tree, Branches, IsTreeAt, AreBranches}
 ghost use Rattle.closed_trees.specs.Depth.{depth, depth_over};
 ghost use Rattle.type_texts.specs.Expression.{IsTold};
 ghost use Rattle.type_texts.specs.Field.{number_in};
-ghost use Rattle.type_texts.specs.Lines.{AreLines, GoOn, lines_text, own_lines, rest_lines};
+ghost use Rattle.type_texts.specs.Lines.{GoOn, lines_text, own_lines, rest_lines};
 ghost use Rattle.type_texts.specs.Member.{member_line, names_type};
 ghost use Rattle.type_texts.specs.Text.{cut};
 
@@ -44,7 +44,7 @@ fn push_line<A: Allocator, T: Allocator>(
 }
 
 /// Appends the lines of the members of one field list. Returns the list in which they go on.
-fn push_own<A: Allocator, T: Allocator>(
+pub fn push_own<A: Allocator, T: Allocator>(
     text: &mut Vec<u8, A>,
     types: &Types<'_, T>,
     list: &[u8],
@@ -67,23 +67,8 @@ fn push_own<A: Allocator, T: Allocator>(
     Ok(next)
 }
 
-/// The list in which members go on, where there is one.
-fn list_at<'a, T: Allocator>(types: &Types<'a, T>, next: Option<u32>) -> Option<&'a [u8]>
-    ensures none { IfNone result ((deep : ℕ) (lines : List (List ℕ)) →
-        GoOn types.now deep next lines → lines ≡ []) }
-    ensures some { IfSome result (λ list. (deep : ℕ) (lines : List (List ℕ)) →
-        GoOn types.now deep next lines →
-        (bs : Branches) × AreBranches types.now (references list.now) bs × (depth_over bs < deep)
-        × (lines ≡ own_lines list.now bs ++ rest_lines list.now bs)) }
-    ensures framed { IfSome result (λ list. IsRecord list.now) }
-    ensures checked { IfSome result (λ list. IsChecked list.now) }
-{
-    let position = next?.checked_sub(FIRST_INDEX)?;
-    types.get(position as usize)
-}
-
 /// How many lists members may go on in, at most: one more than the depth of the first.
-fn lists_from<T: Allocator>(types: &Types<'_, T>, to: u32) -> u64
+pub fn lists_from<T: Allocator>(types: &Types<'_, T>, to: u32) -> u64
     ensures { (t : Tree) → first_index ≤ to → IsTreeAt types.now (to - first_index) t →
         depth t < result }
 {
@@ -94,25 +79,4 @@ fn lists_from<T: Allocator>(types: &Types<'_, T>, to: u32) -> u64
         Some(depth) => u64::from(depth) + 1,
         None => 0,
     }
-}
-
-/// Appends the lines of the members of the field list that a reference names, and of those of the
-/// lists in which they go on: one line each, after two spaces. A reference that names no field list
-/// has none.
-pub fn push_members<A: Allocator, T: Allocator>(
-    text: &mut Vec<u8, A>,
-    types: &Types<'_, T>,
-    to: u32,
-) -> Result<(), AllocError>
-    ensures { (lines : List (List ℕ)) → AreLines types.now to lines →
-        OnOk result (text.new.items ≡ text.old.items ++ lines_text lines) }
-{
-    let mut next = Some(to);
-    for _ in 0..lists_from(types, to) {
-        let Some(list) = list_at(types, next) else {
-            return Ok(());
-        };
-        next = push_own(text, types, list)?;
-    }
-    Ok(())
 }
