@@ -1,7 +1,7 @@
 -- A definition is told in the same words as its tree.
-use Rattle.std.proofs.Common.{◌≡◌, ◌<◌, ◌+◌, ◌∙◌, ◌==◌, ◌⊎◌, ℕ, true, false, cond, List, [], ◌∷◌, ◌++◌, Some, None, length, get_or, codes, refl, sym, ap, subst, arith, inl, inr}
+use Rattle.std.proofs.Common.{add_assoc, ◌≡◌, ◌<◌, ◌+◌, ◌∙◌, ◌==◌, ◌⊎◌, ℕ, true, false, List, [], ◌∷◌, ◌++◌, Some, None, length, get_or, codes, refl, sym, ap, subst, arith, inl, inr}
 use Rattle.std.proofs.lemmas.Bool.{cases_eq, ne_eqb}
-use Rattle.std.proofs.lemmas.List.{append_assoc}
+use Rattle.std.proofs.lemmas.List.{append_assoc, length-append}
 use Rattle.cv_leaves.specs.Leaf.{leaf_of}
 use Rattle.cv_leaves.specs.Checks.{kind_of, body_of, places_of, rest_places}
 use Rattle.cv_leaves.specs.Place.{IsChecked}
@@ -9,11 +9,11 @@ use Rattle.cv_leaves.specs.References.{references, blanked}
 use Rattle.cv_leaves.specs.declared.leaf.Rest.TheVariants.{Nothing}
 use Rattle.cv_leaves.proofs.PartLaws.{no_places}
 use Rattle.cv_leaves.proofs.FilledLaws.{blanked_kind, blanked_len, blanked_places, reference_each}
-use Rattle.closed_trees.specs.Tree.{Tree, Branches, tree, IsTreeAt, AreBranches}
-use Rattle.type_texts.specs.Definition.{defined_words, only_declares, size_words, head_line, list_place, definition_text}
+use Rattle.closed_trees.specs.Tree.{Tree, Branches, tree, blank_of, IsTreeAt, AreBranches}
+use Rattle.type_texts.specs.Definition.{defined_words, only_declares, title, size_text, end_of_head, list_place, title_of, definition_size, members_text, is_definition, definition_text, parts_of}
 use Rattle.type_texts.specs.Expression.{position_of, branch_text, IsTold}
 use Rattle.type_texts.specs.Text.{cut}
-use Rattle.type_texts.specs.Field.{number_in, own_name}
+use Rattle.type_texts.specs.Field.{number_in}
 use Rattle.type_texts.specs.Lines.{shown_type, lines_at, lines_text, AreLines, GoOn}
 use Rattle.type_texts.proofs.BlankLaws.{Outside, body_len, two_same, numeric_same, same_name, same_rest, same_in_body}
 use Rattle.type_texts.proofs.BranchLaws.{Has, at_position, reference_there, read_place, place_told}
@@ -72,32 +72,50 @@ properties_same r checked defined =
     before x k below (inr (inl (places, _))) = rw places (inl (omega (arith, below)), tt)
     before x k below (inr (inr (places, _))) = rw places (inl (omega (arith, below)), (inl (omega (arith, below)), tt))
 
-size_same : (r : List ℕ) (at : ℕ → List ℕ) → IsChecked r → Defines r → size_words (blanked r) at ≡ size_words r at
-unfolding size_words
+size_same : (r : List ℕ) (at : ℕ → List ℕ) → IsChecked r → Defines r → size_text (blanked r) at ≡ size_text r at
+unfolding size_text
 size_same r at checked (inl (places, a, b)) =
     let rest = same_rest r 16 checked (rw places (omega arith, (omega arith, (omega arith, tt)))) in
-    rw (blanked_kind r checked, a, b) (ap (λ (xs : List ℕ). codes " size " ++ xs) (numeric_same (body_of (blanked r)) (body_of r) 16 (body_len (blanked r) r (blanked_len r checked)) rest))
+    rw (blanked_kind r checked, a, b) (numeric_same (body_of (blanked r)) (body_of r) 16 (body_len (blanked r) r (blanked_len r checked)) rest)
 size_same r at checked (inr (inl (places, kind))) =
     let rest = same_rest r 8 checked (rw places (omega arith, tt)) in
-    rw (blanked_kind r checked, kind) (ap (λ (xs : List ℕ). codes " size " ++ xs) (numeric_same (body_of (blanked r)) (body_of r) 8 (body_len (blanked r) r (blanked_len r checked)) rest))
+    rw (blanked_kind r checked, kind) (numeric_same (body_of (blanked r)) (body_of r) 8 (body_len (blanked r) r (blanked_len r checked)) rest)
 size_same r at checked (inr (inr (places, kind))) = rw (blanked_kind r checked, kind) refl
 
-head_same : (words r : List ℕ) (at : ℕ → List ℕ) → IsChecked r → Defines r → head_line words (blanked r) at ≡ head_line words r at
-unfolding head_line only_declares
-head_same words r at checked defined = rw (same_name r checked, size_same r at checked defined, properties_same r checked defined) refl
+title_same : (words r : List ℕ) → IsChecked r → title words (blanked r) ≡ title words r
+unfolding title
+title_same words r checked = rw (same_name r checked, blanked_kind r checked) refl
 
--- the text of the tree of a definition is that of its record
-pub defined : (r b words : List ℕ) (bs : Branches) → IsChecked r → blanked r ≡ b → Some words ≡ defined_words (kind_of r)
-    → definition_text (tree b bs)
-    ≡ head_line words r (λ place. shown_type bs (position_of place (places_of r))) ++ 10 ∷ lines_text (lines_at bs (position_of (list_place (kind_of r)) (places_of r)))
-unfolding definition_text
-defined r b words bs checked is some =
-    rw (← is, blanked_kind r checked, blanked_places r checked, ← some)
-    (ap (λ (xs : List ℕ). xs ++ 10 ∷ lines_text (lines_at bs (position_of (list_place (kind_of r)) (places_of r)))) (head_same words r (λ place. shown_type bs (position_of place (places_of r))) checked (defines r words some)))
+end_same : (r : List ℕ) → IsChecked r → Defines r → end_of_head (blanked r) ≡ end_of_head r
+unfolding end_of_head only_declares
+end_same r checked defined = rw (properties_same r checked defined) refl
 
--- that of any other record is empty
-pub undefined : (r b : List ℕ) (bs : Branches) → IsChecked r → blanked r ≡ b → defined_words (kind_of r) ≡ None → definition_text (tree b bs) ≡ []
-unfolding definition_text
+-- the parts of the text of a tree are those of its record
+pub record SameParts (r words shown : List ℕ) (lines : List (List ℕ)) (t : Tree) : Type 0 where
+  pub is : is_definition t ≡ true
+  pub same_title : title_of t ≡ title words r
+  pub same_size : definition_size t ≡ size_text r (λ place. cut 400 shown)
+  pub same_end : end_of_head (blank_of t) ≡ end_of_head r
+  pub same_lines : members_text t ≡ lines_text lines
+
+-- a size names no type but that at the place 4
+size_at : (r : List ℕ) (at : ℕ → List ℕ) → size_text r at ≡ size_text r (λ place. at 4)
+unfolding size_text
+size_at r at = refl
+
+defined : (r b words : List ℕ) (bs : Branches) → IsChecked r → blanked r ≡ b → Some words ≡ defined_words (kind_of r)
+    → SameParts r words (branch_text (codes "no type") 8 bs (position_of 4 (places_of r))) (lines_at bs (position_of (list_place (kind_of r)) (places_of r))) (tree b bs)
+unfolding title_of definition_size members_text
+defined r b words bs checked is some = record {
+  is = rw (← is, blanked_kind r checked, ← some) refl;
+  same_title = rw (← is, blanked_kind r checked, ← some) (title_same words r checked);
+  same_size = rw (← is, blanked_places r checked) (size_same r (λ place. shown_type bs (position_of place (places_of r))) checked (defines r words some) ∙ size_at r (λ place. shown_type bs (position_of place (places_of r))));
+  same_end = rw (← is) (end_same r checked (defines r words some));
+  same_lines = rw (← is, blanked_kind r checked, blanked_places r checked) refl;
+}
+
+-- any other record has no text
+undefined : (r b : List ℕ) (bs : Branches) → IsChecked r → blanked r ≡ b → defined_words (kind_of r) ≡ None → is_definition (tree b bs) ≡ false
 undefined r b bs checked is none = rw (← is, blanked_kind r checked, none) refl
 
 -- ---- its places
@@ -127,57 +145,44 @@ place_lines records r bs p checked branches has =
     any_depth all deep to lines (inl none) = inl none
     any_depth all deep to lines (inr (large, t, stands, low, is)) = inr (large, t, stands, is)
 
--- ---- texts one after the other
-
--- the type of the values of an enumeration
-pub sized : (r shown old one two : List ℕ) → kind_of r ≡ 0x1507 → one ≡ old ++ codes " of " → two ≡ one ++ shown → two ≡ old ++ size_words r (λ place. shown)
-unfolding size_words
-sized r shown old one two kind first second = rw kind (second ∙ ap (λ (xs : List ℕ). xs ++ shown) first ∙ append_assoc old (codes " of ") shown)
-
--- the head of a definition
-pub headed : (words r shown old a b c d : List ℕ) → a ≡ old ++ words → b ≡ a ++ codes " " → c ≡ b ++ own_name r → d ≡ c ++ size_words r (λ place. shown) → d ++ cond (only_declares r) (codes " declared only") [] ≡ old ++ head_line words r (λ place. shown)
-unfolding head_line
-headed words r shown old a b c d p q s t = rw (t, s, q, p) (simp append_assoc refl)
-
-pub nothing_more : (xs : List ℕ) → xs ++ [] ≡ xs
-nothing_more [] = refl
-nothing_more (x ∷ xs) = ap (λ (ys : List ℕ). x ∷ ys) (nothing_more xs)
-
--- that of a declaration
-pub headed_declared : (words r shown old a b c d e : List ℕ) → a ≡ old ++ words → b ≡ a ++ codes " " → c ≡ b ++ own_name r → d ≡ c ++ size_words r (λ place. shown) → only_declares r ≡ true → e ≡ d ++ codes " declared only" → e ≡ old ++ head_line words r (λ place. shown)
-headed_declared words r shown old a b c d e p q s t is more = more ∙ (rw is at (headed words r shown old a b c d p q s t))
-
--- that of a whole definition
-pub headed_whole : (words r shown old a b c d : List ℕ) → a ≡ old ++ words → b ≡ a ++ codes " " → c ≡ b ++ own_name r → d ≡ c ++ size_words r (λ place. shown) → only_declares r ≡ false → d ≡ old ++ head_line words r (λ place. shown)
-headed_whole words r shown old a b c d p q s t is = sym (nothing_more d) ∙ (rw is at (headed words r shown old a b c d p q s t))
-
--- a head names no type but that at the place 4
-pub head_at : (words r : List ℕ) (at : ℕ → List ℕ) → head_line words r (λ place. at 4) ≡ head_line words r at
-unfolding head_line size_words
-head_at words r at = refl
-
--- the text of a definition
-pub whole_text : (head old a b c lines : List ℕ) → a ≡ old ++ head → b ≡ a ++ codes "\n" → c ≡ b ++ lines → c ≡ old ++ (head ++ 10 ∷ lines)
-whole_text head old a b c lines p q s = rw (s, q, p) (simp append_assoc refl)
-
 -- ---- the tree of a record
 
 -- a record that defines nothing
-pub tree_undefined : (records : List (List ℕ)) (i : ℕ) (r : List ℕ) (t : Tree) → r ≡ get_or records i [] → IsChecked r → None ≡ defined_words (kind_of r) → IsTreeAt records i t → definition_text t ≡ []
+pub tree_undefined : (records : List (List ℕ)) (i : ℕ) (r : List ℕ) (t : Tree) → r ≡ get_or records i [] → IsChecked r → None ≡ defined_words (kind_of r) → IsTreeAt records i t → is_definition t ≡ false
 tree_undefined records i r (tree b bs) own checked none stands = undefined r b bs checked (ap blanked own ∙ stands.1) (sym none)
 
--- a record that defines a type: the text of the type at its place 4, the lines of its list, and its own
+pub nothing_told : (start : ℕ) (t : Tree) → is_definition t ≡ false → (definition_text t ≡ []) × (parts_of start t ≡ None)
+unfolding definition_text parts_of
+nothing_told start t none = (rw none refl, rw none refl)
+
+-- a record that defines a type: the text of the type at its place 4, the lines of its list, and its parts
 pub tree_defined : (records : List (List ℕ)) (i : ℕ) (r words : List ℕ) (t : Tree) → r ≡ get_or records i [] → IsChecked r → Some words ≡ defined_words (kind_of r) → IsTreeAt records i t
-    → (shown : List ℕ) × (lines : List (List ℕ)) × IsTold records 8 (number_in 4 (body_of r) 4) shown × AreLines records (number_in 4 (body_of r) (list_place (kind_of r))) lines
-    × (definition_text t ≡ head_line words r (λ place. cut 400 shown) ++ 10 ∷ lines_text lines)
+    → (shown : List ℕ) × (lines : List (List ℕ)) × IsTold records 8 (number_in 4 (body_of r) 4) shown × AreLines records (number_in 4 (body_of r) (list_place (kind_of r))) lines × SameParts r words shown lines t
 tree_defined records i r words (tree b bs) own checked some stands =
     let d = defines r words some in
-    let branches = subst (λ (x : List ℕ). AreBranches records (references x) bs) (sym own) stands.2 in
-    let lines = lines_at bs (position_of (list_place (kind_of r)) (places_of r)) in (
+    let branches = subst (λ (x : List ℕ). AreBranches records (references x) bs) (sym own) stands.2 in (
       branch_text (codes "no type") 8 bs (position_of 4 (places_of r)),
-      lines,
+      lines_at bs (position_of (list_place (kind_of r)) (places_of r)),
       place_told (codes "no type") records 8 r bs 4 checked branches (has_four r d),
       place_lines records r bs (list_place (kind_of r)) checked branches (has_list r d),
-      defined r b words bs checked (ap blanked own ∙ stands.1) some
-          ∙ ap (λ (xs : List ℕ). xs ++ 10 ∷ lines_text lines) (sym (head_at words r (λ place. shown_type bs (position_of place (places_of r))))),
+      defined r b words bs checked (ap blanked own ∙ stands.1) some,
+    )
+
+-- ---- its text
+
+-- a text of four parts
+pub record Grows (old a b c d one two three four : List ℕ) : Type 0 where
+  pub first : a ≡ old ++ one
+  pub second : b ≡ a ++ two
+  pub third : c ≡ b ++ three
+  pub fourth : d ≡ c ++ four
+
+pub whole_text : (r words shown : List ℕ) (lines : List (List ℕ)) (t : Tree) (old a b c d : List ℕ) → SameParts r words shown lines t
+    → Grows old a b c d (title words r) (size_text r (λ place. cut 400 shown)) (end_of_head r) (lines_text lines)
+    → (d ≡ old ++ definition_text t) × (Some (record { size = length a; head = length b; lines = length c }) ≡ parts_of (length old) t)
+unfolding definition_text parts_of
+whole_text r words shown lines t old a b c d same grown =
+    rw (same.is, same.same_title, same.same_size, same.same_end, same.same_lines, grown.fourth, grown.third, grown.second, grown.first) (
+      simp append_assoc refl,
+      simp length-append (simp add_assoc refl),
     )

@@ -13,7 +13,7 @@ use std::alloc::Allocator;
 use tpi_records::FIRST_INDEX;
 
 /// What a reader asks for.
-#[derive(Clone, Copy, Debug, PartialEq, Eq)]
+#[derive(Clone, Copy, Debug)]
 pub enum Query<'a> {
     /// The type with this type index.
     Index(u32),
@@ -33,7 +33,7 @@ pub enum Found {
 }
 
 /// What a reader asks for, and what was found of it.
-#[derive(Clone, Copy, Debug, PartialEq, Eq)]
+#[derive(Clone, Copy, Debug)]
 pub struct Asked<'a> {
     /// What the reader asks for.
     pub query: Query<'a>,

@@ -51,7 +51,7 @@ mod text;
 mod told;
 
 pub use asked::{Asked, Found, Query};
-pub use definition::{only_declares, push_definition};
+pub use definition::{Parts, only_declares, push_definition};
 pub use definitions::{find_asked, push_definitions};
 pub use expression::push_type;
 pub use lists::Lists;

@@ -13,14 +13,14 @@ use tpi_records::FIRST_INDEX;
 
 /// Where the lines of a field list stand in a text, with those of the lists in which it goes on.
 /// Where `end` is 0 they were not made yet.
-#[derive(Clone, Copy, Debug, PartialEq, Eq)]
+#[derive(Clone, Copy, Debug)]
 pub struct Span {
     start: usize,
     end: usize,
 }
 
 /// A field list whose lines begin at `start`, and whose end is not known yet.
-#[derive(Clone, Copy, Debug, PartialEq, Eq)]
+#[derive(Clone, Copy, Debug)]
 pub struct Begun {
     position: u32,
     start: usize,
