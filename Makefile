@@ -64,6 +64,7 @@ test:
 	tests/guid
 	tests/difference
 	tests/members
+	tests/changes
 	tests/failures
 	tests/position
 	tests/surroundings

@@ -65,8 +65,8 @@ def merging(pdbmerge, out, files):
 
 
 def run(words, out=None, status=0):
-    """One run, which has to end with this status. Where `out` names a file, standard output goes
-    there, and the text is empty."""
+    """One run, which has to end with this status, or one of these. Where `out` names a file,
+    standard output goes there, and the text is empty."""
     with open(out, 'wb') if out else contextlib.nullcontext(subprocess.PIPE) as to:
         begin = time.perf_counter()
         child = subprocess.Popen(words, stdout=to, stderr=subprocess.DEVNULL if status else None)
@@ -74,7 +74,7 @@ def run(words, out=None, status=0):
         _, ended, usage = os.wait4(child.pid, 0)
         seconds = time.perf_counter() - begin
     child.returncode = os.waitstatus_to_exitcode(ended)
-    if child.returncode != status:
+    if child.returncode not in (status if isinstance(status, tuple) else (status,)):
         sys.exit(f'{" ".join(words)}: status {child.returncode}, not {status}')
     return Run(seconds, usage.ru_utime + usage.ru_stime, usage.ru_maxrss * 1024, text)
 
@@ -96,7 +96,7 @@ def peak(words, out):
     with open(out, 'wb') as to:
         words = [sys.executable, '-I', '-S', '-c', STARTER, *words]
         ended = subprocess.run(words, stdout=to, stderr=subprocess.PIPE, text=True)
-    if ended.returncode:
+    if not ended.stderr.strip().isdigit():
         sys.exit(f'{" ".join(words[5:])}: {ended.stderr}')
     return int(ended.stderr.split()[-1]) * 1024
 

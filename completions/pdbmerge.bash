@@ -36,7 +36,7 @@ _pdbmerge() {
     fi
     case $command in
         merge) options='--guid --age --limit --block-size --max-bytes --files-from -0 --null --progress -v --verbose -h --help' ;;
-        diff) options='--origins --max-bytes -v --verbose -h --help' ;;
+        diff) options='--origins --members --max-bytes -v --verbose -h --help' ;;
         members | records | record | types | check | streams | info) options='--max-bytes -v --verbose -h --help' ;;
         explain) options='-v --verbose -h --help' ;;
         help) options='-v --verbose' ;;
@@ -64,6 +64,10 @@ _pdbmerge() {
         --age | --limit | --max-bytes) return ;;
     esac
     if [[ $word == -* ]]; then
+        # One of these two is enough.
+        case " ${COMP_WORDS[*]:0:COMP_CWORD} " in
+            *' --origins '* | *' --members '*) options=${options#--origins --members } ;;
+        esac
         _pdbmerge_words "$word" "$options"
         return
     fi

@@ -56,7 +56,9 @@ complete -c pdbmerge -n '__pdbmerge_command_is merge' -r -F -l files-from -d 'A 
 complete -c pdbmerge -n '__pdbmerge_command_is merge' -s 0 -l null -d 'The paths of the list end with a NUL'
 complete -c pdbmerge -n '__pdbmerge_command_is merge' -l progress -d 'Tells how many of the inputs were read'
 complete -c pdbmerge -n '__pdbmerge_command_is merge diff members records record types check streams info explain help' -s v -l verbose -d 'Says more after a refusal'
-complete -c pdbmerge -n '__pdbmerge_command_is diff' -l origins -d 'Only the types where the difference begins'
+# One of these two is enough.
+complete -c pdbmerge -n '__pdbmerge_command_is diff; and not __fish_contains_opt origins members' -l origins -d 'Only the types where the difference begins'
+complete -c pdbmerge -n '__pdbmerge_command_is diff; and not __fish_contains_opt origins members' -l members -d 'Which definitions came, went or changed, and in which members'
 
 complete -c pdbmerge -n '__pdbmerge_command_is merge' -a '(__pdbmerge_files)'
 complete -c pdbmerge -n '__pdbmerge_has_fewer 2 diff' -a '(__pdbmerge_files)'

@@ -348,12 +348,12 @@ BY_TYPES = ['merge', '--guid', 'types', '--age']
 LISTED = ('plain.pdb', 'memptr.pdb', 'sample.pdb')
 
 
-def table_rows(folder):
-    """The rows of the table of a folder: inputs, command, status and answer."""
-    with open(folder / 'EXPECTED.tsv', newline='') as file:
+def table_rows(folder, name='EXPECTED.tsv'):
+    """The rows of a table of a folder: inputs, command, status and answer."""
+    with open(folder / name, newline='') as file:
         head, *rows = csv.reader(file, delimiter='\t', quoting=csv.QUOTE_NONE)
     if head != ['input', 'command', 'status', 'answer']:
-        refuse(f'{folder}/EXPECTED.tsv has the head {head}')
+        refuse(f'{folder}/{name} has the head {head}')
     return rows
 
 

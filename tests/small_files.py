@@ -2,6 +2,11 @@
 import struct
 from harness import FIRST, GUID, blocks_of, container, words
 
+# The type index of int, the kinds of the records of definitions, and bits of their properties: that a record only
+# declares, and that a unique name stands behind the name.
+INT = 0x74
+CLASS, STRUCTURE, UNION, ENUMERATION, INTERFACE = 0x1504, 0x1505, 0x1506, 0x1507, 0x1519
+DECLARED, UNIQUE = 0x80, 0x200
 # Records: const int and volatile int.
 CONST = bytes.fromhex('0a000110 74000000 0100f2f1')
 VOLATILE = bytes.fromhex('0a000110 74000000 0200f2f1')
@@ -15,6 +20,47 @@ def pointer(to):
 def procedure(returned, arguments):
     """The record of a procedure that returns a type and takes a list of arguments."""
     return bytes.fromhex('0e000810') + words(returned, 0, arguments)
+
+
+def filled(part):
+    """Bytes, and what fills them up to a multiple of four."""
+    return part + bytes(0xF0 + left for left in range(-len(part) % 4, 0, -1))
+
+
+def record(kind, body):
+    """A record of this kind."""
+    body = filled(body)
+    return struct.pack('<2H', 2 + len(body), kind) + body
+
+
+def member(name, offset=0, to=INT):
+    """A member of a field list: a public one of this type at this offset."""
+    return struct.pack('<2HIH', 0x150D, 3, to, offset) + name + b'\0'
+
+
+def value(name, number):
+    """A member of a field list: a value of an enumeration."""
+    return struct.pack('<3H', 0x1502, 3, number) + name + b'\0'
+
+
+def going_on(index):
+    """A member of a field list: it goes on in the list of this index."""
+    return struct.pack('<2HI', 0x1404, 0, index)
+
+
+def field_list(*members):
+    """A field list of these members."""
+    return record(0x1203, b''.join(map(filled, members)))
+
+
+def class_of(name, size, fields=0, properties=0, kind=STRUCTURE, unique=None):
+    """A class, or what else this kind is, whose members are those of a field list. The size of an enumeration is the
+    type of its values. A unique name stands behind the name, and its bit is set."""
+    front = {UNION: struct.pack('<IH', fields, size), ENUMERATION: struct.pack('<2I', size, fields)}
+    front = front.get(kind, struct.pack('<3IH', fields, 0, 0, size))
+    names = [name] if unique is None else [name, unique]
+    properties |= UNIQUE * (unique is not None)
+    return record(kind, struct.pack('<2H', 0, properties) + front + b''.join(part + b'\0' for part in names))
 
 
 def chain(count):
@@ -55,7 +101,7 @@ def written(records, block=4096):
 
 
 # The records of the file that is merged and shown where nothing is to be refused.
-TO_INT = pointer(0x74)
+TO_INT = pointer(INT)
 GOOD_RECORDS = [CONST, TO_INT]
 
 

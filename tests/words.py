@@ -1,6 +1,7 @@
 """What types and definitions are told in words, as docs/WORDS.md says."""
 import struct
 from harness import FIRST
+from small_files import CLASS, DECLARED, ENUMERATION, INTERFACE, STRUCTURE, UNION
 
 # The names of simple types, by their kinds.
 SIMPLE = {
@@ -13,8 +14,8 @@ SIMPLE = {
     0x78: 'int128_t', 0x79: 'uint128_t', 0x7A: 'char16_t', 0x7B: 'char32_t', 0x7C: 'char8_t',
 }
 # What a record defines, by its kind, and the offset of its size, or of its name in an enumeration.
-DEFINED = {0x1504: ('class', 16), 0x1505: ('structure', 16), 0x1506: ('union', 8), 0x1507: ('enumeration', 12),
-           0x1519: ('interface', 16)}
+DEFINED = {CLASS: ('class', 16), STRUCTURE: ('structure', 16), UNION: ('union', 8), ENUMERATION: ('enumeration', 12),
+           INTERFACE: ('interface', 16)}
 # How the numbers of numeric leaves are packed.
 NUMERIC = {0x8000: 'b', 0x8001: 'h', 0x8002: 'H', 0x8003: 'i', 0x8004: 'I', 0x8009: 'q', 0x800A: 'Q'}
 ACCESS = {1: 'private ', 2: 'protected '}
@@ -58,11 +59,24 @@ def kind_and_body(record):
     return number(2, record, 2), record[4:]
 
 
-def own_name(record):
-    """The name of a class, a structure, a union, an interface or an enumeration."""
+def name_place(record):
+    """The name of a class, a structure, a union, an interface or an enumeration, and where it ends."""
     kind, body = kind_and_body(record)
     _, at = DEFINED[kind]
-    return name_at(body, at if kind == 0x1507 else numeric(body, at)[1])[0]
+    return name_at(body, at if kind == ENUMERATION else numeric(body, at)[1])
+
+
+def own_name(record):
+    return name_place(record)[0]
+
+
+def properties_of(record):
+    return number(2, kind_and_body(record)[1], 2)
+
+
+def declares(record):
+    """Whether such a record only declares."""
+    return bool(properties_of(record) & DECLARED)
 
 
 class Full(Exception):
@@ -193,13 +207,23 @@ def members(records, index):
                 yield line
 
 
+def definition_parts(records, position):
+    """What the head of a definition says before its size, its size or the type of its values, and the lines of its
+    members."""
+    kind, body = kind_and_body(records[position])
+    what, at = DEFINED[kind]
+    if kind == ENUMERATION:
+        between, size = 'of', Expression(records, number(4, body, 4)).text
+    else:
+        between, size = 'size', numeric(body, at)[0]
+    lines = members(records, number(4, body, 8 if kind == ENUMERATION else 4))
+    return f'{what} {quoted(own_name(records[position]))} {between} ', size, tuple(f'  {line}' for line in lines)
+
+
 def definition(records, position):
     """The lines of the definition at a position, whether it only declares, and its name; None of any other record."""
-    kind, body = kind_and_body(records[position])
-    if kind not in DEFINED:
+    record = records[position]
+    if kind_and_body(record)[0] not in DEFINED:
         return None
-    what, at = DEFINED[kind]
-    declares, name = number(2, body, 2) >> 7 & 1, own_name(records[position])
-    size = f'of {Expression(records, number(4, body, 4)).text}' if kind == 0x1507 else f'size {numeric(body, at)[0]}'
-    lines = members(records, number(4, body, 8 if kind == 0x1507 else 4))
-    return [f'{what} {quoted(name)} {size}{" declared only" * declares}', *('  ' + line for line in lines)], declares, name
+    title, size, lines = definition_parts(records, position)
+    return [f'{title}{size}{" declared only" * declares(record)}', *lines], declares(record), own_name(record)

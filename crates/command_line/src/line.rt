@@ -61,6 +61,15 @@ pub struct Merging {
     pub max_bytes: u32,
 }
 
+/// What is compared of two files.
+#[derive(Clone, Copy, Debug, PartialEq, Eq)]
+pub enum Compared {
+    /// All types, or those where the difference begins.
+    Types(Scope),
+    /// The definitions, with their members.
+    Members,
+}
+
 /// A command with its arguments as values.
 #[derive(Debug, Drop)]
 pub enum Task {
@@ -73,9 +82,9 @@ pub enum Task {
         file: String,
         max_bytes: u32,
     },
-    /// `diff [--origins] [--max-bytes N] A B`
+    /// `diff [--origins | --members] [--max-bytes N] A B`
     Diff {
-        scope: Scope,
+        compared: Compared,
         files: Vec<String>,
         max_bytes: u32,
     },
@@ -285,16 +294,23 @@ fn page_in(arguments: &ArgMatches<'_>) -> Result<Page, LineFault> {
     page.ok_or(wrong(arguments, "N", PAGE_NUMBER))
 }
 
+/// What `diff` compares.
+fn compared_by(arguments: &ArgMatches<'_>) -> Compared {
+    if arguments.get_flag("members") {
+        Compared::Members
+    } else if arguments.get_flag("origins") {
+        Compared::Types(Scope::Origins)
+    } else {
+        Compared::Types(Scope::All)
+    }
+}
+
 /// What the command with this name is asked for.
 fn task_of(alloc: Global, name: &str, arguments: &ArgMatches<'_>) -> Result<Task, LineFault> {
     match command_named(name) {
         Some(Kind::Merge) => Ok(Task::Merge(merging_of(alloc, arguments)?)),
         Some(Kind::Diff) => Ok(Task::Diff {
-            scope: if arguments.get_flag("origins") {
-                Scope::Origins
-            } else {
-                Scope::All
-            },
+            compared: compared_by(arguments),
             files: files_of(alloc, arguments, &["A", "B"])?,
             max_bytes: max_bytes_of(arguments)?,
         }),

@@ -206,18 +206,23 @@ static OF_MERGE: [Choice; 9] = [
     VERBOSE,
 ];
 
-/// The options of `diff`.
-static OF_DIFF: [Choice; 3] = [
-    Choice {
-        name: "origins",
-        short: None,
-        value: None,
-        help: "Only the types whose own named types are all in the other file: where it begins",
-        is_required: false,
-    },
-    MAX,
-    VERBOSE,
-];
+/// What `diff` shows.
+static ORIGINS: Choice = Choice {
+    name: "origins",
+    short: None,
+    value: None,
+    help: "Only the types whose own named types are all in the other file: where it begins",
+    is_required: false,
+};
+
+/// What `diff` shows in its place.
+static CHANGED_MEMBERS: Choice = Choice {
+    name: MEMBERS_NAME,
+    short: None,
+    value: None,
+    help: "Which structures, unions and enumerations came, went or changed, and in which members",
+    is_required: false,
+};
 
 /// The options of a command that reads one file.
 static OF_SHOWN: [Choice; 2] = [MAX, VERBOSE];
@@ -238,7 +243,8 @@ const MERGE_STATUSES: &str =
 
 /// The exit statuses of `diff`, at the end of its help text.
 const DIFF_STATUSES: &str =
-    "Exit status: 0 the files have the same types; 3 they differ; 1 refused, with one line on \
+    "With --members, files with the same structures, unions and enumerations have no difference.\n\n\
+    Exit status: 0 the files have the same types; 3 they differ; 1 refused, with one line on \
     standard\nerror that begins with 'pdbmerge: ' and the fault's number and name; 2 the arguments \
     are wrong.";
 
@@ -288,6 +294,29 @@ fn inputs<'a>(alloc: Global) -> Result<Arg<'a>, AllocError> {
         .required_unless_present("files-from")
 }
 
+/// A command without its options and arguments. `end` stands at the end of its help.
+#[inline(never)]
+fn bare_command<'a>(alloc: Global, name: &'a str, about: &'a str, end: &'a str) -> Command<'a> {
+    Command::new(alloc, name)
+        .before_help(ABOUT)
+        .about(about)
+        .after_help(end)
+}
+
+/// A command with these options.
+#[inline(never)]
+fn with_options<'a>(
+    alloc: Global,
+    command: Command<'a>,
+    options: &'a [Choice],
+) -> Result<Command<'a>, AllocError> {
+    let mut command = command;
+    for choice in options {
+        command = command.arg(option(alloc, choice))?;
+    }
+    Ok(command)
+}
+
 /// A command with its options. `end` stands at the end of its help.
 #[inline(never)]
 fn command<'a>(
@@ -297,14 +326,8 @@ fn command<'a>(
     options: &'a [Choice],
     end: &'a str,
 ) -> Result<Command<'a>, AllocError> {
-    let mut command = Command::new(alloc, name)
-        .before_help(ABOUT)
-        .about(about)
-        .after_help(end);
-    for choice in options {
-        command = command.arg(option(alloc, choice))?;
-    }
-    Ok(command)
+    let command = bare_command(alloc, name, about, end);
+    with_options(alloc, command, options)
 }
 
 /// A command that reads one file, with its arguments.
@@ -364,8 +387,10 @@ fn with_files<'a>(alloc: Global, command: Command<'a>) -> Result<Command<'a>, Al
 /// The command that shows the types that only one of two files has.
 #[inline(never)]
 fn differing<'a>(alloc: Global) -> Result<Command<'a>, AllocError> {
-    let command = command(alloc, DIFF_NAME, DIFF, &OF_DIFF, DIFF_STATUSES)?;
-    with_files(alloc, command)
+    let command = bare_command(alloc, DIFF_NAME, DIFF, DIFF_STATUSES);
+    let members = option(alloc, &CHANGED_MEMBERS).conflicts_with(ORIGINS.name)?;
+    let command = command.arg(option(alloc, &ORIGINS))?.arg(members)?;
+    with_files(alloc, with_options(alloc, command, &OF_SHOWN)?)
 }
 
 /// The names of the types that are shown.

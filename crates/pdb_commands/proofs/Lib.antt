@@ -1,3 +1,4 @@
+pub mod ChangesLaws
 pub mod DifferenceLaws
 pub mod InfoLaws
 pub mod MembersLaws

@@ -1,3 +1,4 @@
+pub mod Changes
 pub mod Check
 pub mod Difference
 pub mod Fault

@@ -5,7 +5,8 @@
 //! end, makes its whole text, and then writes it into a [`Sink`](msf_blocks::Sink). [`run_merge`]
 //! writes one file with the types of several files, and a report on it. [`run_diff`] shows the
 //! types that only one of two files has. [`run_members`] shows the definitions of the types of a
-//! file, with their members. Each refusal is a [`RunFault`]. [`run_shown`] runs any
+//! file, with their members, and [`run_diff_members`] which of them came, went or changed between
+//! two files. Each refusal is a [`RunFault`]. [`run_shown`] runs any
 //! command that shows a file, with a limit on what it reads: the directory, the stream and the names
 //! of streams.
 //!
@@ -53,6 +54,7 @@
 //! ```
 #![tactic(auto)]
 
+mod changes;
 mod check;
 mod command;
 mod difference;
@@ -66,6 +68,7 @@ mod shown;
 mod streams;
 mod types;
 
+pub use changes::run_diff_members;
 pub use check::run_check;
 pub use command_texts::Scope;
 pub use difference::run_diff;

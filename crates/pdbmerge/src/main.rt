@@ -17,13 +17,15 @@ mod report;
 
 use arguments::arguments;
 use byte_io::{In, Out, put_all};
-use command_line::{GuidChoice, Line, LineFault, Merging, Task, USAGE, query_of, read_line};
+use command_line::{
+    Compared, GuidChoice, Line, LineFault, Merging, Task, USAGE, query_of, read_line,
+};
 use fault_pages::Page;
 use hold::hold;
 use lists::read_list;
 use pdb_commands::{
-    Asked, Found, Scope, Shown, run_diff, run_members, run_merge, run_merge_by_types, run_shown,
-    run_shown_file,
+    Asked, Found, Shown, run_diff, run_diff_members, run_members, run_merge, run_merge_by_types,
+    run_shown, run_shown_file,
 };
 use program_files::{InputFiles, NewFile, ProgramFault, Progress, Reading, WholeFile, open_within};
 use refusal::{Refusal, quoted, refuse, refuse_line};
@@ -120,15 +122,19 @@ fn merge(rt: &HostRuntime, task: &Merging) -> Result<ExitCode, ProgramFault> {
     }
 }
 
-/// Prints the types that only one of two files has. Returns the exit status.
-fn compare_with<S: BuildHasher + Drop>(
+/// Prints in what two files differ. Returns the exit status.
+fn compare_with<S: BuildHasher + Drop + Copy>(
     rt: &HostRuntime,
     inputs: &InputFiles<'_, HostRuntime>,
-    scope: Scope,
+    compared: Compared,
     hasher: S,
 ) -> Result<ExitCode, ProgramFault> {
     let mut out = Out::new(writer(rt));
-    if run_diff(rt.alloc(), inputs, scope, &mut out, hasher)? {
+    let same = match compared {
+        Compared::Types(scope) => run_diff(rt.alloc(), inputs, scope, &mut out, hasher)?,
+        Compared::Members => run_diff_members(rt.alloc(), inputs, &mut out, hasher)?,
+    };
+    if same {
         Ok(ExitCode::SUCCESS)
     } else {
         Ok(ExitCode::from(DIFFERENT))
@@ -139,13 +145,13 @@ fn compare_with<S: BuildHasher + Drop>(
 fn compare(
     rt: &HostRuntime,
     inputs: &InputFiles<'_, HostRuntime>,
-    scope: Scope,
+    compared: Compared,
 ) -> Result<ExitCode, ProgramFault> {
     match RandomState::new(rt) {
-        Ok(hasher) => compare_with(rt, inputs, scope, hasher),
+        Ok(hasher) => compare_with(rt, inputs, compared, hasher),
         Err(_) => {
             let hasher: BuildHasherDefault<DefaultHasher> = BuildHasherDefault::new();
-            compare_with(rt, inputs, scope, hasher)
+            compare_with(rt, inputs, compared, hasher)
         }
     }
 }
@@ -253,10 +259,10 @@ fn run(rt: &HostRuntime, task: &Task) -> Result<ExitCode, ProgramFault> {
             max_bytes,
         } => show(rt, *shown, file.as_str(), *max_bytes)?,
         Task::Diff {
-            scope,
+            compared,
             files,
             max_bytes,
-        } => return compare(rt, &inputs_in(rt, files, *max_bytes), *scope),
+        } => return compare(rt, &inputs_in(rt, files, *max_bytes), *compared),
         Task::Members {
             file,
             names,

@@ -30,6 +30,7 @@ use test_samples::{CONST, TO_FIRST, TO_INT, VOLATILE, folding, sample, stream_wi
 use text_set::TextSet;
 use topological_order::{Graph, topological_order};
 use tpi_records::{Records, tpi_header_bytes};
+use type_changes::push_changes;
 use type_difference::{Standing, compare};
 use type_table::{Canon, Table};
 use type_texts::push_type;
@@ -264,6 +265,33 @@ fn where_two_lists_differ(rt: HostRuntime) -> Result<(), Fail> {
     let found = standings_in(rt.alloc(), &one, &other)?;
     let want = [Standing::Origin, Standing::Follows];
     assert_eq!(rt; found.as_slice(), want.as_slice());
+    Ok(())
+}
+
+/// The enumeration `Kind` without values, of type int.
+const KIND_OF_INT: &[u8] = b"\x16\0\x07\x15\0\0\0\0\x74\0\0\0\0\0\0\0Kind\0\xf3\xf2\xf1";
+
+/// The same, of type unsigned char.
+const KIND_OF_BYTE: &[u8] = b"\x16\0\x07\x15\0\0\0\0\x20\0\0\0\0\0\0\0Kind\0\xf3\xf2\xf1";
+
+/// What changed between the types of two streams.
+fn changes_in(alloc: Global, one: &[u8], other: &[u8]) -> Result<Vec<u8>, Fail> {
+    let first = types_in(alloc, one)?;
+    let second = types_in(alloc, other)?;
+    let mut text = Vec::new(alloc);
+    push_changes(alloc, folding(), &mut text, &first, &second)?;
+    Ok(text)
+}
+
+/// `type_changes` tells what changed between two lists of types.
+#[test]
+fn what_changed_between_two_lists(rt: HostRuntime) -> Result<(), Fail> {
+    // the enumeration Kind, whose values were of type int, and are unsigned characters now
+    let one = stream_with(rt.alloc(), &[KIND_OF_INT])?;
+    let other = stream_with(rt.alloc(), &[KIND_OF_BYTE])?;
+    let text = changes_in(rt.alloc(), &one, &other)?;
+    let want = b"~ enumeration \"Kind\" of int -> unsigned char\n".as_slice();
+    assert_eq!(rt; text.as_slice(), want);
     Ok(())
 }
 

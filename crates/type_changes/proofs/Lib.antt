@@ -1,0 +1,10 @@
+pub mod ListLaws
+pub mod SameLaws
+pub mod NextLaws
+pub mod LoneLaws
+pub mod SoleLaws
+pub mod ChangeLaws
+pub mod KeyLaws
+pub mod PlaceLaws
+pub mod TypeLaws
+pub mod NameLaws

@@ -1,0 +1,30 @@
+-- Laws of what changed between two lists of definitions.
+use Rattle.std.specs.Prelude.{ℕ, ◌≡◌, ◌↔◌, List, [], ◌++◌}
+use Rattle.std.specs.List.{Contains}
+use Rattle.closed_trees.specs.Tree.{Tree, IsType}
+use Rattle.type_texts.specs.Asked.{AreTrees}
+use Rattle.type_changes.specs.Definition.{Definition, definitions}
+use Rattle.type_changes.specs.Lone.{lone}
+use Rattle.type_changes.specs.Changes.{changes_text, gone_text}
+
+-- nothing is shown exactly where both lists have the same definitions
+abbrev pub NothingChanged : Type 0
+NothingChanged =
+    (ours theirs : List Definition)
+    → (changes_text ours theirs ≡ []) ↔ ((d : Definition) → Contains ours d ↔ Contains theirs d)
+
+-- where others have all types of some records, they have all definitions of them
+abbrev pub TypesHaveDefinitions : Type 0
+TypesHaveDefinitions =
+    (records others : List (List ℕ)) (trees other_trees : List Tree)
+    → AreTrees records trees → AreTrees others other_trees
+    → ((t : Tree) → IsType records t → IsType others t)
+    → (d : Definition) → Contains (definitions trees) d → Contains (definitions other_trees) d
+
+-- each definition that only our list has is shown, as what changed or as what went
+abbrev pub LoneIsShown : Type 0
+LoneIsShown =
+    (ours theirs : List Definition) (d : Definition) → Contains ours d → (Contains theirs d → ⊥)
+    → (before after : List ℕ)
+    × (changes_text ours theirs
+    ≡ before ++ gone_text (lone ours theirs) (lone theirs ours) d ++ after)

@@ -1,0 +1,5 @@
+pub mod Definition
+pub mod Seen
+pub mod Lone
+pub mod Changes
+pub mod Laws

@@ -1,0 +1,20 @@
+//! Laws of what changed between two lists of definitions.
+//!
+//! Each function here does nothing: its contract is the law.
+
+ghost use Rattle.type_changes.specs.Laws.{LoneIsShown, NothingChanged, TypesHaveDefinitions};
+
+/// Nothing is shown exactly where both lists have the same definitions.
+pub fn nothing_changed()
+    ensures { NothingChanged }
+{}
+
+/// Each definition that only our list has is shown, as what changed or as what went.
+pub fn lone_is_shown()
+    ensures { LoneIsShown }
+{}
+
+/// Where other records have all types of some records, they have all definitions of them.
+pub fn types_have_definitions()
+    ensures { TypesHaveDefinitions }
+{}
