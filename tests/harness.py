@@ -94,8 +94,6 @@ INPUTS = ('FILE', 'A', 'B', 'IN')
 VALUES = {'OUT': 'out.pdb', 'INDEX': '0x1000', 'N': '2', '--guid': GUID_TEXT, '--age': AGE}
 # The commands that do not read one file and show something of it.
 OTHERS = ('merge', 'diff', 'explain')
-# The commands that show a file and that campaign_driver does not run.
-UNDRIVEN = ('members',)
 
 
 def help_part(text, head):

@@ -1,7 +1,7 @@
 //! The runs of a case.
 //!
-//! For each file: `records`, `record` (of 0x1000), `types`, `check`, `info` and `streams`, and
-//! `alone`, the merge of the file alone. Then for all files: `list`, their merge; `reversed`, in
+//! For each file: `records`, `record` (of 0x1000), `types`, `check`, `info`, `streams` and
+//! `members`, and `alone`, the merge of the file alone. Then for all files: `list`, their merge; `reversed`, in
 //! reverse order; `twice`, the list twice; `again`, what `list` wrote and then the list; `first`
 //! and `second`, the two parts of the list; and `parts`, the merge of what these two wrote.
 //!
@@ -14,9 +14,11 @@ use crate::files::Positioned;
 use crate::line::{push_end, push_fault, push_words, push_written};
 use byte_io::{In, Out};
 use pdb_commands::{
-    RunFault, run_check, run_info, run_merge, run_record, run_records, run_streams, run_types,
+    RunFault, run_check, run_info, run_members, run_merge, run_record, run_records, run_streams,
+    run_types,
 };
 use pdb_info::Settings;
+use pdb_merge::MergeFault;
 use std::alloc::Global;
 use std::hash::RandomState;
 use std::random::RandomSource;
@@ -33,6 +35,7 @@ enum Command {
     Check,
     Info,
     Streams,
+    Members,
 }
 
 impl Command {
@@ -45,19 +48,30 @@ impl Command {
             Command::Check => "check",
             Command::Info => "info",
             Command::Streams => "streams",
+            Command::Members => "members",
         }
     }
 }
 
 /// All commands that show something of a file.
-const COMMANDS: [Command; 6] = [
+const COMMANDS: [Command; 7] = [
     Command::Records,
     Command::Record,
     Command::Types,
     Command::Check,
     Command::Info,
     Command::Streams,
+    Command::Members,
 ];
+
+/// Shows all definitions of a file. The fault doesn't count the file, as that of the program.
+fn show_members(alloc: Global, file: &[u8], out: &mut Out<&mut Vec<u8>>) -> Result<(), RunFault> {
+    let one: [&[u8]; 1] = [file];
+    match run_members(alloc, &Positioned::new(&one), &mut [], out) {
+        Err(RunFault::Merge(MergeFault::Refused { fault, .. })) => Err(RunFault::from(fault)),
+        answer => answer,
+    }
+}
 
 /// Runs a command on a file.
 fn run(
@@ -75,6 +89,7 @@ fn run(
         Command::Check => run_check(alloc, &mut input, u32::MAX, &mut out),
         Command::Info => run_info(alloc, &mut input, u32::MAX, &mut out),
         Command::Streams => run_streams(alloc, &mut input, u32::MAX, &mut out),
+        Command::Members => show_members(alloc, file, &mut out),
     }
 }
 
