@@ -59,7 +59,7 @@ typedef struct pdbmerge_fault {
     char text[236];    /* as the program prints it, as "file 1: 2 Magic": at most 235 bytes of it, and NULs */
 } pdbmerge_fault;
 
-/* Some bytes: those of a file. */
+/* Some bytes: those of a file, or of a name. */
 typedef struct pdbmerge_slice {
     const uint8_t *bytes;
     size_t length;
@@ -216,6 +216,23 @@ uint32_t pdbmerge_diff(const uint8_t *first, size_t first_length,
                        const uint8_t *second, size_t second_length, const pdbmerge_seed *seed,
                        pdbmerge_difference *differences, size_t room,
                        uint64_t *count, pdbmerge_fault *fault);
+
+/* Copies the text of the definitions of a file to the front of `out`, as the command `members` prints
+ * it (docs/WORDS.md): of those with one of the `count` names, or of all where `count` is 0. What is only
+ * declared is shown where a name asks for it, and the file defines nothing with that name. A name that no
+ * definition has adds nothing. `size` is how many bytes the text has, also after PDBMERGE_ROOM.
+ * Faults, in order: those of pdbmerge_check; 33; 100. */
+uint32_t pdbmerge_members(const uint8_t *file, size_t length,
+                          const pdbmerge_slice *names, size_t count,
+                          uint8_t *out, size_t room, uint64_t *size, pdbmerge_fault *fault);
+
+/* Copies what changed between the definitions of two files to the front of `out`, as the command
+ * `diff --members` prints it. The text is empty exactly where both files have the same definitions, and
+ * so where they have the same types. `size` is how many bytes it has, also after PDBMERGE_ROOM. Faults,
+ * in order: those of pdbmerge_check of the first file, then of the second; 33; 100. */
+uint32_t pdbmerge_changes(const uint8_t *first, size_t first_length,
+                          const uint8_t *second, size_t second_length, const pdbmerge_seed *seed,
+                          uint8_t *out, size_t room, uint64_t *size, pdbmerge_fault *fault);
 
 #ifdef __cplusplus
 }

@@ -3,5 +3,6 @@ pub mod OffsetLaws
 pub mod HeaderLaws
 pub mod FaultLaws
 pub mod DiffLaws
+pub mod ChangesLaws
 pub mod InfoLaws
 pub mod LayoutLaws

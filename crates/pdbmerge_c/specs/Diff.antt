@@ -1,20 +1,12 @@
 -- The types that only one of two files has.
-use Rattle.std.specs.Prelude.{ℕ, ◌≡◌, ◌⊎◌, ◌↔◌, ◌+◌, List, [], ◌∷◌, ◌++◌}
-use Rattle.std.specs.declared.alloc.Global.{Global}
+use Rattle.std.specs.Prelude.{ℕ, ◌≡◌, ◌↔◌, ◌+◌, List, [], ◌∷◌, ◌++◌}
 use Rattle.tpi_records.specs.Header.{first_index}
 use Rattle.closed_trees.specs.Tree.{Tree, IsType}
 use Rattle.type_difference.specs.Difference.{HaveStandings}
 use Rattle.type_difference.specs.declared.standing.Standing.{Standing}
 use Rattle.type_difference.specs.declared.standing.Standing.TheVariants.{Shared, Again, Follows, Origin}
-use Rattle.pdb_merge.specs.Fault.{merge_number, faulty_file}
-use Rattle.file_types.specs.Read.{IsAccepted, HasPdbFault}
-use Rattle.pdb_merge.specs.declared.fault.MergeFault.{MergeFault}
-use Rattle.pdb_merge.specs.declared.fault.MergeFault.TheVariants as merge
-use Rattle.file_types.specs.declared.fault.PdbFault.{PdbFault}
-use Rattle.file_types.specs.declared.fault.PdbFault.TheVariants as pdb
+use Rattle.file_types.specs.Read.{IsAccepted}
 use Rattle.pdbmerge_c.specs.declared.diff.OneSided.{OneSided}
-use Rattle.pdbmerge_c.specs.declared.fault.Fault.{Fault}
-use Rattle.pdbmerge_c.specs.Fault.{IsTold, input_code}
 
 -- the row of the record at this position of a file, by how it stands to the other file:
 -- there is one where it is the first record of a type that the other lacks
@@ -49,22 +41,3 @@ pub record AreDifferences (first second : List ℕ) (rows : List OneSided) : Typ
   pub too : IsAccepted second others
   pub apart : TellApart records others rows
   pub empty : (rows ≡ []) ↔ ((t : Tree) → IsType records t ↔ IsType others t)
-
--- the fault of the file at this position
-abbrev pub input_fault : {A : Type 0} → ℕ → PdbFault A → MergeFault A
-input_fault input pdb.Memory = merge.Memory
-input_fault input why = merge.Refused input why
-
--- this is the first fault of the file at this position, on the way to its types; or memory ran out
-abbrev pub IsFaultOfInput : {A : Type 0} → ℕ → List ℕ → MergeFault A → Type 0
-IsFaultOfInput input file (merge.Refused at why) = (at ≡ input) × HasPdbFault file why
-IsFaultOfInput input file merge.Memory = Unit {0}
-IsFaultOfInput input file _ = ⊥
-
--- what is told is the fault of the first file, or, where that is accepted, the fault of the second
-pub record RefusesDiff (first second : List ℕ) (fault : Fault) : Type 0 where
-  pub why : MergeFault Global
-  pub is_fault :
-      IsFaultOfInput 0 first why
-      ⊎ (((records : List (List ℕ)) × IsAccepted first records) × IsFaultOfInput 1 second why)
-  pub told : IsTold fault (merge_number why) (input_code (faulty_file why))

@@ -10,4 +10,7 @@ pub mod Records
 pub mod Record
 pub mod References
 pub mod Name
+pub mod Pair
 pub mod Diff
+pub mod Members
+pub mod Changes

@@ -1,17 +1,17 @@
 //! The types that only one of two files has.
 
 ghost use Rattle.std.specs.Prelude.{◌≡◌, ◌⊎◌, ◌<◌, ◌+◌, ◌^◌, ◌++◌, ℕ, List, length, OnOk, IfOk, IfErr};
-ghost use Rattle.std.specs.declared.alloc.Global.{Global};
 ghost use Rattle.file_types.specs.Read.{IsAccepted};
 ghost use Rattle.pdb_merge.specs.declared.fault.MergeFault.{MergeFault};
 ghost use Rattle.pdbmerge_c.specs.Given.{Copies};
-ghost use Rattle.pdbmerge_c.specs.Diff.{AreDifferences, IsFaultOfInput, RefusesDiff, TellApart, input_fault, row_of, rows_from};
+ghost use Rattle.pdbmerge_c.specs.Diff.{AreDifferences, TellApart, row_of, rows_from};
+ghost use Rattle.pdbmerge_c.specs.Pair.{IsFaultOfPair, RefusesPair};
 
 use crate::fault::{Fault, refuse};
 use crate::give::give;
+use crate::pair::{Buffers, Pair};
 use crate::seed::Seed;
 use checked_types::Types;
-use file_types::{Buffer, PdbFault, read_types};
 use pdb_merge::MergeFault;
 use std::alloc::{AllocError, Global};
 use std::hash::RandomState;
@@ -67,34 +67,6 @@ fn push_rows(rows: &mut Vec<OneSided>, input: u32, standings: &[Standing]) -> Re
     Ok(())
 }
 
-/// The fault of the file at this position.
-fn input_fault(input: usize, fault: PdbFault) -> MergeFault
-    ensures { result ≡ input_fault input fault }
-{
-    match fault {
-        PdbFault::Memory => MergeFault::Memory,
-        fault => MergeFault::Refused { file: input, fault },
-    }
-}
-
-/// The types of one of two files.
-fn types_of<'a>(
-    alloc: Global,
-    input: usize,
-    file: &'a [u8],
-    buffer: &'a mut Buffer,
-) -> Result<Types<'a>, MergeFault>
-    ensures value { IfOk result (IsAccepted file.now) }
-    ensures found { (records : List (List ℕ)) → IsAccepted file.now records →
-        IfErr result (λ fault. fault ≡ MergeFault.Memory) }
-    ensures first { IfErr result (IsFaultOfInput input file.now) }
-{
-    match read_types(alloc, file, buffer) {
-        Ok(types) => Ok(types),
-        Err(fault) => Err(input_fault(input, fault)),
-    }
-}
-
 /// The rows of two lists of types.
 fn compare_types(
     alloc: Global,
@@ -127,16 +99,11 @@ fn list_differences(
     ensures found { (records others : List (List ℕ)) →
         IsAccepted first.now records → IsAccepted second.now others →
         IfErr result (λ fault. fault ≡ MergeFault.Memory) }
-    ensures first { IfErr result (λ fault.
-        IsFaultOfInput 0 first.now fault
-        ⊎ (((records : List (List ℕ)) × IsAccepted first.now records)
-        × IsFaultOfInput 1 second.now fault)) }
+    ensures first { IfErr result (IsFaultOfPair first.now second.now) }
 {
-    let mut first_buffer = Buffer::new(alloc);
-    let ours = types_of(alloc, 0, first, &mut first_buffer)?;
-    let mut second_buffer = Buffer::new(alloc);
-    let theirs = types_of(alloc, 1, second, &mut second_buffer)?;
-    match compare_types(alloc, &ours, &theirs, seed) {
+    let mut buffers = Buffers::new(alloc);
+    let pair = Pair::read(alloc, first, second, &mut buffers)?;
+    match compare_types(alloc, &pair.first, &pair.second, seed) {
         Ok(rows) => Ok(rows),
         Err(_) => Err(MergeFault::Memory),
     }
@@ -158,7 +125,7 @@ pub extern "C" fn pdbmerge_diff(
     count: &mut u64,
     fault: &mut Fault,
 ) -> u32
-    ensures answer { Copies (AreDifferences first.now second.now) (RefusesDiff first.now second.now)
+    ensures answer { Copies (AreDifferences first.now second.now) (RefusesPair first.now second.now)
         rows.old rows.new count.old count.new fault.new result }
     // Files that are accepted are refused only when out of memory or of room.
     ensures found { (records others : List (List ℕ)) →

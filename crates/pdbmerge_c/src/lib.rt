@@ -19,6 +19,8 @@
 //!   by its type index. `pdbmerge_references` lists the types that a record names, each a
 //!   [`Reference`], and `pdbmerge_name` copies the name of its type.
 //! - `pdbmerge_diff` lists the types that only one of two files has, each a [`OneSided`].
+//! - `pdbmerge_members` copies the text of the definitions of a file, and `pdbmerge_changes` that of
+//!   what changed between the definitions of two files.
 //!
 //! What is proved: the contract of each call says what it answers for all bytes. That of
 //! `pdbmerge_merge` is the headline (`IsFileOf` of `pdb_merge`). Unless a call returns 0, `out` and
@@ -26,6 +28,7 @@
 //! room for the answer, the results say how much it takes.
 #![tactic(auto)]
 
+mod changes;
 mod check;
 mod diff;
 mod fault;
@@ -33,8 +36,10 @@ mod give;
 mod identify;
 mod info;
 mod layout;
+mod members;
 mod merge;
 mod name;
+mod pair;
 mod records;
 mod references;
 mod seed;

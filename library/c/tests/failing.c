@@ -121,6 +121,33 @@ static uint32_t run_diff_refused(struct results *to, pdbmerge_fault *fault) {
     return diff(&files[2], to, fault);
 }
 
+static uint32_t run_members(struct results *to, pdbmerge_fault *fault) {
+    return pdbmerge_members(files[0].bytes, files[0].length, NULL, 0, to->out, sizeof to->out, &to->size, fault);
+}
+
+static uint32_t run_members_named(struct results *to, pdbmerge_fault *fault) {
+    static const pdbmerge_slice names[2] = {{(const uint8_t *)"C0", 2}, {(const uint8_t *)"no such type", 12}};
+    return pdbmerge_members(files[0].bytes, files[0].length, names, 2, to->out, sizeof to->out, &to->size, fault);
+}
+
+static uint32_t run_members_refused(struct results *to, pdbmerge_fault *fault) {
+    return pdbmerge_members(files[2].bytes, files[2].length, NULL, 0, to->out, sizeof to->out, &to->size, fault);
+}
+
+static uint32_t changes(const pdbmerge_slice *second, struct results *to, pdbmerge_fault *fault) {
+    pdbmerge_seed seed = {{1}};
+    return pdbmerge_changes(files[0].bytes, files[0].length, second->bytes, second->length, &seed,
+                            to->out, sizeof to->out, &to->size, fault);
+}
+
+static uint32_t run_changes(struct results *to, pdbmerge_fault *fault) {
+    return changes(&files[1], to, fault);
+}
+
+static uint32_t run_changes_refused(struct results *to, pdbmerge_fault *fault) {
+    return changes(&files[2], to, fault);
+}
+
 /* Stream 1 and stream 2 of the first file. */
 static pdbmerge_slice info, stream;
 
@@ -187,6 +214,11 @@ static const struct call {
     {"name", run_name, PDBMERGE_OK},
     {"diff", run_diff, PDBMERGE_OK},
     {"diff of a refused file", run_diff_refused, 34},
+    {"members", run_members, PDBMERGE_OK},
+    {"members of names", run_members_named, PDBMERGE_OK},
+    {"members of a refused file", run_members_refused, 34},
+    {"changes", run_changes, PDBMERGE_OK},
+    {"changes of a refused file", run_changes_refused, 34},
 };
 
 /* The answer of a call of which this allocation fails, and nothing before it was written. */

@@ -75,6 +75,16 @@ static uint32_t into_differences(void *out, size_t room, uint64_t *size, pdbmerg
                          out, room, size, fault);
 }
 
+static uint32_t into_members(void *out, size_t room, uint64_t *size, pdbmerge_fault *fault) {
+    return pdbmerge_members(first.bytes, first.length, NULL, 0, out, room, size, fault);
+}
+
+static uint32_t into_changes(void *out, size_t room, uint64_t *size, pdbmerge_fault *fault) {
+    pdbmerge_seed seed = {{0}};
+    return pdbmerge_changes(first.bytes, first.length, second.bytes, second.length, &seed,
+                            out, room, size, fault);
+}
+
 /* The types and the bytes of the report are looked at as well: those of a merge with enough room. */
 static uint32_t into_merge(void *out, size_t room, uint64_t *size, pdbmerge_fault *fault) {
     static pdbmerge_report whole;
@@ -106,6 +116,8 @@ static const struct row {
     {"references", into_references, sizeof(pdbmerge_reference)},
     {"name", into_name, 1},
     {"differences", into_differences, sizeof(pdbmerge_difference)},
+    {"members", into_members, 1},
+    {"changes", into_changes, 1},
     {"merge", into_merge, 1},
 };
 
@@ -245,6 +257,8 @@ static void hold_null_lists(void) {
     hold_fault("references of NULL", &fault, 22, "22 RecordShort index 0x1234");
     hold("name of NULL", pdbmerge_name(NULL, 0, 0x1234, NULL, 0, &size, &fault), 22);
     hold_fault("name of NULL", &fault, 22, "22 RecordShort index 0x1234");
+    hold("members of NULL", pdbmerge_members(NULL, 0, NULL, 0, NULL, 0, &size, &fault), 1);
+    hold_fault("members of NULL", &fault, 1, "1 Short");
     hold("size is as before", size, 7);
 }
 
@@ -263,6 +277,33 @@ static void hold_null_pairs(void) {
                            NULL, 0, &count, &fault);
     hold("diff of a file with itself", number, PDBMERGE_OK);
     hold("count of no differences", count, 0);
+}
+
+static void hold_null_changes(void) {
+    pdbmerge_fault fault;
+    pdbmerge_seed seed = {{0}};
+    uint64_t size = 7;
+    uint32_t number = pdbmerge_changes(NULL, 0, NULL, 0, &seed, NULL, 0, &size, &fault);
+    hold("changes of NULL", number, 1);
+    hold_input(&fault, 0, "file 0: 1 Short");
+    number = pdbmerge_changes(first.bytes, first.length, NULL, 0, &seed, NULL, 0, &size, &fault);
+    hold("changes with NULL", number, 1);
+    hold_input(&fault, 1, "file 1: 1 Short");
+    hold("size is as before", size, 7);
+    number = pdbmerge_changes(first.bytes, first.length, first.bytes, first.length, &seed,
+                              NULL, 0, &size, &fault);
+    hold("changes of a file with itself", number, PDBMERGE_OK);
+    hold("the size of no text", size, 0);
+}
+
+/* A name of no bytes is NULL, and one that no type has adds nothing. */
+static void hold_null_names(void) {
+    static const pdbmerge_slice names[2] = {{NULL, 0}, {(const uint8_t *)"no such type", 12}};
+    pdbmerge_fault fault;
+    uint64_t size = 7;
+    uint32_t number = pdbmerge_members(first.bytes, first.length, names, 2, NULL, 0, &size, &fault);
+    hold("members of names that no type has", number, PDBMERGE_OK);
+    hold("the size of their text", size, 0);
 }
 
 /* A file without streams has neither sizes nor blocks. */
@@ -442,6 +483,8 @@ int main(int argc, char **argv) {
     hold_null_files();
     hold_null_lists();
     hold_null_pairs();
+    hold_null_changes();
+    hold_null_names();
     hold_no_streams();
     hold_no_names();
     hold_null_room();

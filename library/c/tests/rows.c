@@ -26,6 +26,7 @@ static const struct {
 struct line {
     pdbmerge_settings settings;
     int origins;
+    int members;
     int count;
     const char **words; /* those that belong to no option */
 };
@@ -47,6 +48,12 @@ struct layout {
 struct names {
     struct numbers streams;
     const uint8_t *texts;
+    uint64_t size;
+};
+
+/* Text that a call made. */
+struct text {
+    const uint8_t *bytes;
     uint64_t size;
 };
 
@@ -120,6 +127,27 @@ static uint32_t read_names(pdbmerge_slice stream, struct names *names) {
     uint8_t *room = ALLOCATE(uint8_t, names->size);
     names->texts = room;
     return pdbmerge_stream_names(stream.bytes, stream.length, room, names->size, &names->size, &fault);
+}
+
+static uint32_t read_members(pdbmerge_slice file, pdbmerge_slice *names, size_t count, struct text *text) {
+    uint32_t answer = pdbmerge_members(file.bytes, file.length, names, count, NULL, 0, &text->size, &fault);
+    if (!is_sized(answer))
+        return answer;
+    uint8_t *room = ALLOCATE(uint8_t, text->size);
+    text->bytes = room;
+    return pdbmerge_members(file.bytes, file.length, names, count, room, text->size, &text->size, &fault);
+}
+
+static uint32_t read_changes(pdbmerge_slice first, pdbmerge_slice second, const pdbmerge_seed *seed,
+                             struct text *text) {
+    uint32_t answer = pdbmerge_changes(first.bytes, first.length, second.bytes, second.length, seed,
+                                       NULL, 0, &text->size, &fault);
+    if (!is_sized(answer))
+        return answer;
+    uint8_t *room = ALLOCATE(uint8_t, text->size);
+    text->bytes = room;
+    return pdbmerge_changes(first.bytes, first.length, second.bytes, second.length, seed,
+                            room, text->size, &text->size, &fault);
 }
 
 static uint32_t read_types(pdbmerge_slice file, struct types *types) {
@@ -339,7 +367,33 @@ static int run_streams(const struct line *line) {
     return print_streams(&layout) ? 0 : 2;
 }
 
+static int run_members(const struct line *line) {
+    size_t count = (size_t)line->count - 1;
+    pdbmerge_slice *names = ALLOCATE(pdbmerge_slice, count);
+    for (size_t at = 0; at < count; at++) {
+        names[at].bytes = (const uint8_t *)line->words[at + 1];
+        names[at].length = strlen(line->words[at + 1]);
+    }
+    struct text text;
+    if (read_members(read_file(line->words[0]), names, count, &text) != PDBMERGE_OK)
+        return refused();
+    fwrite(text.bytes, 1, text.size, stdout);
+    return 0;
+}
+
+static int run_changes(const struct line *line) {
+    struct text text;
+    uint32_t answer = read_changes(read_file(line->words[0]), read_file(line->words[1]),
+                                   &line->settings.seed, &text);
+    if (answer != PDBMERGE_OK)
+        return refused();
+    fwrite(text.bytes, 1, text.size, stdout);
+    return text.size != 0 ? DIFFERENT : 0;
+}
+
 static int run_diff(const struct line *line) {
+    if (line->members)
+        return run_changes(line);
     pdbmerge_slice files[2] = {read_file(line->words[0]), read_file(line->words[1])};
     static struct types types[2];
     static struct record record;
@@ -407,6 +461,10 @@ static int take_word(struct line *line, char **words, int at) {
         line->origins = 1;
         return 1;
     }
+    if (strcmp(word, "--members") == 0) {
+        line->members = 1;
+        return 1;
+    }
     if (strncmp(word, "--", 2) != 0 || value == NULL) {
         line->words[line->count++] = word;
         return 1;
@@ -424,8 +482,7 @@ static int take_word(struct line *line, char **words, int at) {
     return 2;
 }
 
-/* The commands, and how many words each takes at least. The tables have only refusals of members, which
-   are those of check. No call gives the text. */
+/* The commands, and how many words each takes at least. */
 static const struct {
     const char *name;
     int words;
@@ -433,11 +490,11 @@ static const struct {
 } COMMANDS[] = {
     {"check", 1, run_check},     {"records", 1, run_records}, {"record", 2, run_record},
     {"types", 1, run_types},     {"info", 1, run_info},       {"diff", 2, run_diff},
-    {"streams", 1, run_streams}, {"merge", 2, run_merge},   {"members", 1, run_check},
+    {"streams", 1, run_streams}, {"merge", 2, run_merge},     {"members", 1, run_members},
 };
 
 int main(int argc, char **argv) {
-    struct line line = {settings_of(4096), 0, 0, ALLOCATE(const char *, (size_t)argc)};
+    struct line line = {settings_of(4096), 0, 0, 0, ALLOCATE(const char *, (size_t)argc)};
     for (int at = 2; at < argc;)
         at += take_word(&line, argv, at);
     for (size_t at = 0; argc > 1 && at < sizeof COMMANDS / sizeof *COMMANDS; at++)

@@ -14,17 +14,21 @@ import dataclasses
 import itertools
 import os
 import uuid
-from typing import Callable, Dict, Iterable, Iterator, List, Optional, Tuple, Type, TypeVar
+from typing import Callable, Dict, Iterable, Iterator, List, Optional, Tuple, Type, TypeVar, Union
 
-from . import _library
+from . import _definitions, _library
+from ._definitions import Change, Definition, Member
 from ._library import Buffer
 
 __all__ = [
     'Buffer',
+    'Change',
     'Counts',
+    'Definition',
     'Difference',
     'Identity',
     'Layout',
+    'Member',
     'Merged',
     'NamedStream',
     'OutOfMemory',
@@ -33,11 +37,13 @@ __all__ = [
     'Reference',
     'SettingsError',
     'Stream',
+    'changes',
     'check',
     'diff',
     'features',
     'identify',
     'layout',
+    'members',
     'merge',
     'named_streams',
     'record',
@@ -54,6 +60,8 @@ _TYPES = 2
 _FIRST = 0x1000
 _LARGEST = 2**32 - 1
 _LARGEST_BLOCK = 32768
+# Room for a text at first. What changed between two files mostly takes less.
+_TEXT = 2**20
 
 
 class PdbError(Exception):
@@ -230,10 +238,10 @@ def _made(room: int, length: Callable[[], int], call: Callable[[int, int], bool]
         room = length()
 
 
-def _copied(call: Callable[[int, int, c.c_uint64, _library.Fault], int]) -> bytes:
+def _copied(call: Callable[[int, int, c.c_uint64, _library.Fault], int], room: int = 0) -> bytes:
     """The bytes that a call copies."""
     size, fault = c.c_uint64(), _library.Fault()
-    return _made(0, lambda: size.value, lambda out, room: _done(call(out, room, size, fault), fault))
+    return _made(room, lambda: size.value, lambda out, room: _done(call(out, room, size, fault), fault))
 
 
 def _word(number: int, what: str) -> int:
@@ -401,3 +409,32 @@ def diff(first: Buffer, second: Buffer) -> List[Difference]:
             lambda *answer: _library.diff(one.bytes, one.length, other.bytes, other.length, seed, *answer),
         )
     return [Difference(each.input, each.index, each.origin != 0) for each in itertools.islice(found, count)]
+
+
+def members(file: Buffer, name: Union[bytes, str, None] = None) -> List[Definition]:
+    """The definitions of a file, in the order of their records.
+
+    With a name they are those that have it or, where the file only declares it, the declaration. The list
+    is empty where no type has the name. A `str` is encoded by `name.encode()`, as UTF-8.
+    """
+    names = [] if name is None else [name.encode() if isinstance(name, str) else name]
+    with _library.lent(file, *names) as [data, *asked]:
+        table = (_library.Slice * len(asked))(*asked)
+        text = _copied(
+            lambda *answer: _library.members(data.bytes, data.length, table, len(table), *answer), _TEXT
+        )
+    return _definitions.definitions_of(text)
+
+
+def changes(first: Buffer, second: Buffer) -> List[Change]:
+    """The definitions that came, went or changed, in the order in which `diff --members` prints them.
+
+    There are none exactly where both files have the same definitions.
+    """
+    seed = _seed()
+    with _library.lent(first, second) as [one, other]:
+        text = _copied(
+            lambda *answer: _library.changes(one.bytes, one.length, other.bytes, other.length, seed, *answer),
+            _TEXT,
+        )
+    return _definitions.changes_of(text)

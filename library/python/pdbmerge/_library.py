@@ -139,6 +139,8 @@ name = _declared('pdbmerge_name', *_bytes, c.c_uint32, *_bytes, _size, _fault)
 diff = _declared(
     'pdbmerge_diff', *_bytes, *_bytes, c.POINTER(Seed), c.POINTER(Difference), c.c_size_t, _size, _fault
 )
+members = _declared('pdbmerge_members', *_bytes, c.POINTER(Slice), c.c_size_t, *_bytes, _size, _fault)
+changes = _declared('pdbmerge_changes', *_bytes, *_bytes, c.POINTER(Seed), *_bytes, _size, _fault)
 
 
 class _View(c.Structure):

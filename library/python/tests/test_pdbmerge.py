@@ -4,11 +4,11 @@
 usage: PYTHONPATH=library/python PDBMERGE_LIBRARY=SO python3 library/python/tests/test_pdbmerge.py [TEST..]
 
 Where the wheel is installed, neither variable is needed. The answers are those of EXPECTED.tsv in
-examples, examples/faults and examples/differences, and no row is left out: one whose command is not known
-here is an error. Besides: each kind of buffer, each exception, answers that don't fit at first, the order
-and repetition of files, threads, and the example of docs/LIBRARY.md. Each difference is printed. The status
-is 1 where there is one, and 2 where the library is not there. The tests need Python 3.9; the module needs
-3.8."""
+examples, examples/faults and examples/differences, and of MEMBERS.tsv there, and no row is left out: one
+whose command is not known here is an error. Besides: definitions of shipped files, each form of a line that
+tells of one, each kind of buffer, each exception, answers that don't fit at first, the order and repetition
+of files, threads, and the examples of docs/LIBRARY.md. Each difference is printed. The status is 1 where
+there is one, and 2 where the library is not there. The tests need Python 3.9; the module needs 3.8."""
 import hashlib
 import mmap
 import os
@@ -34,6 +34,8 @@ try:
 except (ImportError, OSError) as missing:
     print(missing, file=sys.stderr)
     sys.exit(2)
+
+from pdbmerge import Change, Definition, Member
 
 EXAMPLES = ROOT / 'examples'
 GUID = uuid.UUID('00112233-4455-6677-8899-aabbccddeeff')
@@ -69,9 +71,9 @@ def content(name):
     return (EXAMPLES / name).read_bytes()
 
 
-def rows(folder):
+def rows(folder, name='EXPECTED.tsv'):
     """The rows of a table: the names and the bytes of the files, the command, the status, the answer."""
-    with open(EXAMPLES / folder / 'EXPECTED.tsv', encoding='utf-8', newline='\n') as table:
+    with open(EXAMPLES / folder / name, encoding='utf-8', newline='\n') as table:
         lines = [line.rstrip('\n').split('\t') for line in table]
     for names, command, status, answer in lines[1:]:
         files = [content(pathlib.Path(folder, name)) for name in names.split()]
@@ -103,6 +105,64 @@ def type_line(record):
     return ' '.join([f'{record.index:#x}', leaf, str(len(record.data)), *named, *shown])
 
 
+def title(definition):
+    """The head of a definition, up to its size or the type of its values."""
+    name = '?' if definition.name is None else quoted(definition.name)
+    return f'{definition.kind} {name} ' + ('of ' if definition.kind == 'enumeration' else 'size ')
+
+
+def size_words(definition):
+    """The size of a definition, or the type of its values."""
+    if definition.type is not None:
+        return definition.type
+    return '?' if definition.size is None else str(definition.size)
+
+
+def member_line(member):
+    """The line of a member, as the command `members` prints it."""
+    name = None if member.name is None else quoted(member.name)
+    place = '-' if member.offset is None else str(member.offset)
+    return '  ' + ' '.join(word for word in [place, member.what, name, member.type] if word is not None)
+
+
+def definition_lines(definition):
+    """The lines of a definition, as the command `members` prints them."""
+    head = title(definition) + size_words(definition) + ' declared only' * definition.declared
+    return [head, *map(member_line, definition.members)]
+
+
+def change_lines(change):
+    """The lines of a change, as `diff --members` prints them."""
+    both = [each for each in (change.old, change.new) if each is not None]
+    if len(both) == 1:
+        sign = '+' if change.old is None else '-'
+        return [f'{sign} {line}' for line in definition_lines(*both)]
+    [head] = set(map(title, both))
+    sizes = ' -> '.join(dict.fromkeys(map(size_words, both)))
+    lines = [f'  {sign} {member_line(each)}' for sign, side in zip('-+', both) for each in side.members]
+    return [f'~ {head}{sizes}', *lines]
+
+
+def lines_of(tell, found):
+    """The lines of all that was found."""
+    return [line for each in found for line in tell(each)]
+
+
+def type_differences(files):
+    """The types that only one of two files has, and the line of each."""
+    records = [list(pdbmerge.types(file)) for file in files]
+    for each in pdbmerge.diff(*files):
+        yield each, '-+'[each.input] + ' ' + type_line(records[each.input][each.index - 0x1000])
+
+
+# What `diff` prints of two files, by its option.
+DIFFERENCES = {
+    None: lambda files: [line for _, line in type_differences(files)],
+    '--origins': lambda files: [line for each, line in type_differences(files) if each.origin],
+    '--members': lambda files: lines_of(change_lines, pdbmerge.changes(*files)),
+}
+
+
 def answer_of_check(files):
     counts = pdbmerge.check(files[0])
     return f'accepted records {counts.records} bytes {counts.bytes} levels {counts.levels}'
@@ -130,13 +190,12 @@ def answer_of_record(files, index):
     return '\\n'.join(lines if name is None else [*lines, f'name {quoted(name)}'])
 
 
-def answer_of_diff(files, origins=None):
-    records = [list(pdbmerge.types(file)) for file in files]
-    return '\\n'.join(
-        '-+'[each.input] + ' ' + type_line(records[each.input][each.index - 0x1000])
-        for each in pdbmerge.diff(*files)
-        if each.origin or not origins
-    )
+def answer_of_diff(files, option=None):
+    return '\\n'.join(DIFFERENCES[option](files))
+
+
+def answer_of_members(files):
+    return '\\n'.join(lines_of(definition_lines, pdbmerge.members(files[0])))
 
 
 def answer_of_info(files):
@@ -158,8 +217,6 @@ def answer_of_streams(files):
 
 
 ANSWERS = {name[10:]: call for name, call in list(globals().items()) if name.startswith('answer_of_')}
-# The tables have only refusals of `members`, which are those of `check`. No call gives the text.
-ANSWERS['members'] = ANSWERS['check']
 
 
 def info_of_names(count, codes):
@@ -212,8 +269,8 @@ class Tables(Checks):
             self.hold(f'{what}: number and index', (fault.number, fault.index), wanted)
         self.hold(what, got, (status, answer))
 
-    def hold_table(self, folder):
-        table = list(rows(folder))
+    def hold_table(self, folder, *name):
+        table = list(rows(folder, *name))
         self.assertTrue(table)
         for row in table:
             self.hold_row(*row)
@@ -227,6 +284,9 @@ class Tables(Checks):
     def test_differences(self):
         self.hold_table('differences')
 
+    def test_members(self):
+        self.hold_table('differences', 'MEMBERS.tsv')
+
     def test_types_are_checked_first(self):
         for what, files, command, status, answer in rows('faults'):
             if command == ['check']:
@@ -235,6 +295,251 @@ class Tables(Checks):
                 except pdbmerge.PdbError as fault:
                     got = f'pdbmerge: {fault}'
                 self.hold(f'types after {what}', got, answer.split(' bytes')[0] if status == 0 else answer)
+
+
+# Definitions of examples/differences/edited-1.pdb, by edited-1.h and edited.cpp, and of examples/inherit.pdb, by
+# inherit.cpp, which has what is static or not public.
+EDITED = [
+    Definition('structure', b'Echo', 24, None, False, (
+        Member(0, 'base', None, '"Handler"'),
+        Member(16, 'member', b'seen', 'unsigned int'),
+        Member(None, 'virtual method', b'on_packet',
+               'method (reference to "Connection", reference to const "Packet") of "Echo" giving int'),
+    )),
+    Definition('structure', b'Handler', 16, None, False, (
+        Member(None, 'virtual functions', None, 'pointer to virtual table of 2'),
+        Member(8, 'member', b'refs', 'int'),
+        Member(0, 'new pure virtual method', b'on_packet',
+               'method (reference to "Connection", reference to const "Packet") of "Handler" giving int'),
+        Member(8, 'new virtual method', b'on_close', 'method (reference to "Connection") of "Handler" giving void'),
+    )),
+    Definition('structure', b'Header', 12, None, False, (
+        Member(0, 'member', b'kind', '"Kind"'),
+        Member(1, 'member', b'version', 'unsigned char'),
+        Member(2, 'member', b'length', 'unsigned short'),
+        Member(4, 'member', b'sequence', 'unsigned int'),
+        Member(8, 'member', b'flags', 'unsigned int, bits 0 to 3'),
+        Member(8, 'member', b'window', 'unsigned int, bits 4 to 15'),
+    )),
+    Definition('enumeration', b'Kind', None, 'unsigned char', False, (
+        Member(1, 'value', b'Hello', None),
+        Member(2, 'value', b'Data', None),
+        Member(3, 'value', b'Bye', None),
+    )),
+]
+INHERITED = [
+    Definition('class', b'Both', 72, None, False, (
+        Member(0, 'base', None, '"Left"'),
+        Member(24, 'protected base', None, '"Right"'),
+        Member(8, 'indirect virtual base 1', None, '"Root"'),
+        Member(48, 'member', b'b', 'int'),
+        Member(52, 'private member', b'hidden', 'int'),
+        Member(None, '3 methods', b'right',
+               'method () of "Both" giving void or method (int, ...) of "Both" giving int or '
+               'method (rvalue reference to "Both") of "Both" giving int'),
+    )),
+    Definition('structure', b'Root', 16, None, False, (
+        Member(None, 'virtual functions', None, 'pointer to virtual table of 3'),
+        Member(8, 'member', b'r', 'int'),
+        Member(None, 'static', b'count', 'int'),
+        Member(None, '2 methods', b'id', 'method () of "Root" giving int or method (int) of "Root" giving int'),
+        Member(16, 'new virtual method', b'~Root', 'method () of "Root" giving void'),
+        Member(None, 'static method', b'make', 'method (int) of "Root" giving int'),
+    )),
+]
+# S is only declared in examples/differences/declared-1.pdb.
+DECLARED = Definition('structure', b'S', 0, None, True, ())
+
+
+def texts_of(call, *files):
+    """The lines of the text that is behind the objects of a call, and those that the objects are told in."""
+    tell = definition_lines if call is pdbmerge.members else change_lines
+    with mock.patch.multiple(pdbmerge._definitions, definitions_of=bytes.decode, changes_of=bytes.decode):
+        text = call(*files)
+    return text.splitlines(), lines_of(tell, call(*files))
+
+
+class Definitions(Checks):
+    def test_shipped(self):
+        for name, definitions in ('differences/edited-1.pdb', EDITED), ('inherit.pdb', INHERITED):
+            found = pdbmerge.members(content(name))
+            for want in definitions:
+                what = f'{name} {want.name}'
+                self.hold(what, [each for each in found if each.name == want.name], [want])
+                self.hold(f'{what} alone', pdbmerge.members(content(name), want.name), [want])
+                self.hold(f'{what} as str', pdbmerge.members(content(name), want.name.decode()), [want])
+            self.hold(f'{name} without the name', pdbmerge.members(content(name), 'Gone'), [])
+
+    def test_declared(self):
+        file = content('differences/declared-1.pdb')
+        self.hold('none', pdbmerge.members(file), [])
+        self.hold('the declaration', pdbmerge.members(file, 'S'), [DECLARED])
+
+    def test_names(self):
+        names = [b'S', b'', 'é'.encode(), b'a"b\\c\nd\xff', b'\\x41', b'S']
+        sizes = range(1, 1 + len(names))
+        file = small_files.written([small_files.class_of(*each) for each in zip(names, sizes)])
+        wanted = [Definition('structure', name, size, None, False, ()) for name, size in zip(names, sizes)]
+        self.hold('all', pdbmerge.members(file), wanted)
+        for name in names:
+            self.hold(str(name), pdbmerge.members(file, name), [each for each in wanted if each.name == name])
+        self.hold('as str', pdbmerge.members(file, 'é'), wanted[2:3])
+        self.hold('empty str', pdbmerge.members(file, ''), wanted[1:2])
+
+    def test_order(self):
+        # The definitions of edited-1.h and edited.cpp, in the order of their records.
+        names = [record.name() for record in pdbmerge.records(content('differences/edited-1.pdb'))
+                 if record.kind in (0x1504, 0x1505, 0x1506, 0x1507) and not record.data[6] & 0x80]
+        self.hold('names', [each.name for each in pdbmerge.members(content('differences/edited-1.pdb'))], names)
+        self.hold('count', len(names), 12)
+
+    def test_told_again(self):
+        """Nothing is lost of what the text tells of the shipped files, and of changes from each to the next."""
+        accepted = [what[6:] for what, _, command, status, _ in rows('') if (command, status) == (['check'], 0)]
+        paths = [EXAMPLES / name for name in accepted] + sorted(EXAMPLES.glob('differences/*.pdb'))
+        files = [(path.name, path.read_bytes()) for path in paths]
+        for name, file in files:
+            self.hold(f'members {name}', *texts_of(pdbmerge.members, file))
+        for (name, first), (other, second) in zip(files, files[1:]):
+            self.hold(f'changes {name} {other}', *texts_of(pdbmerge.changes, first, second))
+
+
+# A type that is cut, in a name with an arrow.
+CUT = 'pointer to "a -> ' + 'b' * 383 + '..'
+METHODS = ['method', 'virtual method', 'static method', 'friend method', 'new virtual method', 'pure virtual method',
+           'new pure virtual method']
+# Lines of members, and what they tell.
+MEMBERS = [
+    *((f'{place} {who}{what} {words}', Member(offset, who + what, None, words))
+      for who in ('', 'private ', 'protected ')
+      for place, offset, what, words in [
+          ('0', 0, 'base', '"B"'), ('8', 8, 'base', '?'), ('8', 8, 'virtual base 1', '"B"'),
+          ('?', None, 'virtual base ?', '"B"'), ('16', 16, 'indirect virtual base 2', '"B"'),
+          ('?', None, 'indirect virtual base ?', '?')]),
+    *((f'{place} {who}{what} "m" {words}', Member(offset, who + what, b'm', words))
+      for who in ('', 'private ', 'protected ')
+      for place, offset, what, words in [
+          ('8', 8, 'member', 'int'), ('?', None, 'member', '?'), ('-', None, 'static', 'const "T"'),
+          *(('-', None, method, 'method () of "C" giving "m"') for method in METHODS),
+          *(('24', 24, method, 'method () of "C" giving int') for method in METHODS if method.startswith('new '))]),
+    ('- virtual functions pointer to virtual table of 2',
+     Member(None, 'virtual functions', None, 'pointer to virtual table of 2')),
+    ('- 2 methods "f" method () of "C" giving int or method (int) of "C" giving int',
+     Member(None, '2 methods', b'f', 'method () of "C" giving int or method (int) of "C" giving int')),
+    ('- 0 methods "f" ', Member(None, '0 methods', b'f', '')),
+    ('- nested "N" "C::N"', Member(None, 'nested', b'N', '"C::N"')),
+    ('- nested "" "C::<unnamed-tag>"', Member(None, 'nested', b'', '"C::<unnamed-tag>"')),
+    ('1 value "v"', Member(1, 'value', b'v', None)),
+    ('-1 value "v"', Member(-1, 'value', b'v', None)),
+    (f'{-2**63} value "lowest"', Member(-2**63, 'value', b'lowest', None)),
+    (f'{2**64 - 1} value "greatest"', Member(2**64 - 1, 'value', b'greatest', None)),
+    ('? value "v"', Member(None, 'value', b'v', None)),
+    ('? value ?', Member(None, 'value', None, None)),
+    ('8 member ? "T"', Member(8, 'member', None, '"T"')),
+    ('-8 member "m" pointer to member of "C", int', Member(-8, 'member', b'm', 'pointer to member of "C", int')),
+    ('8 member "" unsigned int, bits 0 to 3', Member(8, 'member', b'', 'unsigned int, bits 0 to 3')),
+    (r'8 member "a\x22b\xff\x00" "a\x22b\xff"', Member(8, 'member', b'a"b\xff\0', r'"a\x22b\xff"')),
+    (r'8 member "\x5cx41\x5c\x5c" int', Member(8, 'member', b'\\x41\\\\', 'int')),
+    ('8 member "value ? int" "8 member"', Member(8, 'member', b'value ? int', '"8 member"')),
+    ('8 member "m" function (pointer to "a -> b", ...) giving "T"',
+     Member(8, 'member', b'm', 'function (pointer to "a -> b", ...) giving "T"')),
+    (f'8 member "m" {CUT}', Member(8, 'member', b'm', CUT)),
+    # A member of a kind that is not known may lack the name.
+    ('- method int', Member(None, 'method', None, 'int')),
+    ('- private static method "T"', Member(None, 'private static method', None, '"T"')),
+]
+# Heads, and what they tell.
+HEADS = [
+    ('class "C" size 8', Definition('class', b'C', 8, None, False, ())),
+    ('structure ? size ?', Definition('structure', None, None, None, False, ())),
+    (f'union "" size {2**64 - 1}', Definition('union', b'', 2**64 - 1, None, False, ())),
+    ('interface "I" size 0 declared only', Definition('interface', b'I', 0, None, True, ())),
+    (r'class "a size 4\x22\xff declared only" size 8',
+     Definition('class', b'a size 4"\xff declared only', 8, None, False, ())),
+    ('enumeration "E" of "T of int"', Definition('enumeration', b'E', None, '"T of int"', False, ())),
+    ('enumeration ? of void declared only', Definition('enumeration', None, None, 'void', True, ())),
+    (f'enumeration "E" of {CUT}', Definition('enumeration', b'E', None, CUT, False, ())),
+    (f'enumeration "E" of {CUT} declared only', Definition('enumeration', b'E', None, CUT, True, ())),
+    ('enumeration "E" of ', Definition('enumeration', b'E', None, '', False, ())),
+]
+# Sizes and types of values behind `~`, and what they are in both files.
+SIZES = [('8', 8, 8), ('8 -> 16', 8, 16), ('? -> 4', None, 4), ('4 -> ?', 4, None), ('?', None, None)]
+# Types that are not cut. Behind another one and an arrow they have two points where a cut type would end.
+DEEP, POINTS = f'function ("{"b" * 372}") giving ..', f'"{"b" * 383}.. -> c"'
+VALUES = [
+    ('int', 'int', 'int'),
+    ('int -> unsigned int', 'int', 'unsigned int'),
+    ('"a -> b"', '"a -> b"', '"a -> b"'),
+    ('"a -> b" -> "c -> d"', '"a -> b"', '"c -> d"'),
+    ('"a -> b" -> int', '"a -> b"', 'int'),
+    (' -> int', '', 'int'),
+    ('int -> ', 'int', ''),
+    (CUT, CUT, CUT),
+    (f'{CUT} -> int', CUT, 'int'),
+    (f'{CUT} -> "c -> d"', CUT, '"c -> d"'),
+    (f'int -> {CUT}', 'int', CUT),
+    (f'{CUT} -> {CUT[:-3]}c..', CUT, f'{CUT[:-3]}c..'),
+    (f'int -> {DEEP}', 'int', DEEP),
+    (f'unsigned int -> {POINTS}', 'unsigned int', POINTS),
+    (f'{DEEP} -> {POINTS}', DEEP, POINTS),
+]
+
+
+class Texts(Checks):
+    """Each form of a line of the texts."""
+
+    def holds(self, lines, *wanted):
+        """Holds the objects of lines that tell of definitions, or of changes."""
+        read = pdbmerge._definitions.changes_of if lines[0][0] in '~-+' else pdbmerge._definitions.definitions_of
+        text = ''.join(line + '\n' for line in lines)
+        self.hold(lines, read(text.encode('ascii')), list(wanted))
+
+    def test_members(self):
+        for line, member in MEMBERS:
+            whole = Definition('class', b'C', 8, None, False, (member, member))
+            none = Definition('class', b'C', 8, None, False, ())
+            self.holds(['class "C" size 8', f'  {line}', f'  {line}'], whole)
+            self.holds(['- class "C" size 8', f'-   {line}', f'-   {line}'], Change(whole, None))
+            self.holds(['+ class "C" size 8', f'+   {line}', f'+   {line}'], Change(None, whole))
+            self.holds(['~ class "C" size 8', f'  -   {line}', f'  -   {line}'], Change(whole, none))
+            self.holds(['~ class "C" size 8', f'  +   {line}', f'  +   {line}'], Change(none, whole))
+
+    def test_heads(self):
+        for head, definition in HEADS:
+            self.holds([head], definition)
+            self.holds([f'- {head}'], Change(definition, None))
+            self.holds([f'+ {head}'], Change(None, definition))
+
+    def test_sizes(self):
+        for sizes, *both in SIZES:
+            self.holds([f'~ union "a -> b" size {sizes}'],
+                       Change(*(Definition('union', b'a -> b', size, None, False, ()) for size in both)))
+        for words, *both in VALUES:
+            self.holds([f'~ enumeration ? of {words}'],
+                       Change(*(Definition('enumeration', None, None, each, False, ()) for each in both)))
+
+    def test_several(self):
+        some, other = Member(0, 'member', b'a', 'int'), Member(-1, 'value', b'b', None)
+        values, empty = (Definition('enumeration', b'E', None, 'int', False, has) for has in ((other, other), ()))
+        fields, field = (Definition('class', b'C', 8, None, False, has) for has in ((some,), (some, other)))
+        self.holds(['enumeration "E" of int', '  -1 value "b"', '  -1 value "b"', 'enumeration "E" of int',
+                    'class "C" size 8', '  0 member "a" int'], values, empty, fields)
+        self.holds(['- enumeration "E" of int', '~ class "C" size 8', '  -   0 member "a" int',
+                    '  -   -1 value "b"', '  +   0 member "a" int', '- class "C" size 8', '-   0 member "a" int',
+                    '+ enumeration "E" of int', '+   -1 value "b"', '+   -1 value "b"', '+ class "C" size 8',
+                    '+   0 member "a" int'],
+                   Change(empty, None), Change(field, fields), Change(fields, None), Change(None, values),
+                   Change(None, fields))
+
+    def test_none(self):
+        self.hold('definitions', pdbmerge._definitions.definitions_of(b''), [])
+        self.hold('changes', pdbmerge._definitions.changes_of(b''), [])
+
+    def test_unknown(self):
+        # A newer library may tell what this module does not know.
+        for text in b'module "M" size 8\n', b'class "C" size 8\n  0 word "x" int\n', b'class "C" size 8 or so\n':
+            with self.subTest(text), self.assertRaises(ValueError):
+                pdbmerge._definitions.definitions_of(text)
 
 
 class Buffers(Checks):
@@ -254,7 +559,7 @@ class Buffers(Checks):
                     use(f'mmap that is {name}', mapped)
 
     def test_each_kind(self):
-        want = content('memptr.pdb')
+        want, sample = content('memptr.pdb'), content('sample.pdb')
         # The counts are those of EXPECTED.tsv.
         counts = pdbmerge.Counts(records=96, bytes=1996, levels=8)
 
@@ -269,6 +574,9 @@ class Buffers(Checks):
             self.hold(f'record {what}', pdbmerge.record(file, 0x1007), pdbmerge.record(want, 0x1007))
             self.hold(f'types {what}', len(list(pdbmerge.types(file))), 96)
             self.hold(f'diff {what}', pdbmerge.diff(file, want), [])
+            self.hold(f'members {what}', pdbmerge.members(file), pdbmerge.members(want))
+            self.hold(f'changes {what}', pdbmerge.changes(file, want), [])
+            self.hold(f'changes {what} second', pdbmerge.changes(sample, file), pdbmerge.changes(sample, want))
 
         self.lend(use)
 
@@ -277,12 +585,13 @@ class Buffers(Checks):
             what = type(file).__name__
             sound = content('sample.pdb')
             for call in pdbmerge.identify, pdbmerge.layout, pdbmerge.check, pdbmerge.named_streams, \
-                    pdbmerge.features, pdbmerge.records, pdbmerge.types:
+                    pdbmerge.features, pdbmerge.records, pdbmerge.types, pdbmerge.members:
                 self.refuses(f'{call.__name__} {what}', pdbmerge.PdbError, 1, None, call, file)
             for call in pdbmerge.stream, pdbmerge.record:
                 self.refuses(f'{call.__name__} {what}', pdbmerge.PdbError, 1, None, call, file, 2)
             self.refuses(f'merge {what}', pdbmerge.PdbError, 1, 1, merged, [sound, file])
-            self.refuses(f'diff {what}', pdbmerge.PdbError, 1, 1, pdbmerge.diff, sound, file)
+            for call in pdbmerge.diff, pdbmerge.changes:
+                self.refuses(f'{call.__name__} {what}', pdbmerge.PdbError, 1, 1, call, sound, file)
 
     def test_released(self):
         sound, cut = bytearray(content('sample.pdb')), bytearray(55)
@@ -338,10 +647,11 @@ class Faults(Checks):
             self.refuses(f'record {index:#x}', pdbmerge.PdbError, 39, None, pdbmerge.record,
                          content('sample.pdb'), index)
 
-    def test_diff_names_the_file(self):
+    def test_the_file_is_named(self):
         sound, magic = content('sample.pdb'), content('faults/02-magic.pdb')
-        self.refuses('first', pdbmerge.PdbError, 2, 0, pdbmerge.diff, magic, sound)
-        self.refuses('second', pdbmerge.PdbError, 2, 1, pdbmerge.diff, sound, magic)
+        for call in pdbmerge.diff, pdbmerge.changes:
+            self.refuses(f'first of {call.__name__}', pdbmerge.PdbError, 2, 0, call, magic, sound)
+            self.refuses(f'second of {call.__name__}', pdbmerge.PdbError, 2, 1, call, sound, magic)
 
     def test_long_text(self):
         # A cycle of 100 records: its text has more bytes than a fault holds.
@@ -399,6 +709,18 @@ class Room(Checks):
         want = [pdbmerge.Difference(1, 0x1000 + n, n == 1) for n in range(1, 400)]
         self.hold('differences', pdbmerge.diff(second, first), want)
 
+    def test_members(self):
+        # Twenty structures that share a list of sixty members, whose names have 1000 bytes each.
+        names = [b'%01000d' % n for n in range(60)]
+        listed = small_files.field_list(*(small_files.member(name, 4 * n) for n, name in enumerate(names)))
+        file = small_files.written([listed, *(small_files.class_of(b'S', n, 0x1000) for n in range(20))])
+        members = tuple(Member(4 * n, 'member', name, 'int') for n, name in enumerate(names))
+        want = [Definition('structure', b'S', n, None, False, members) for n in range(20)]
+        self.hold('room', 20 * sum(map(len, names)) > pdbmerge._TEXT, True)
+        self.hold('members', pdbmerge.members(file), want)
+        changes = [Change(each, None) for each in want]
+        self.hold('changes', pdbmerge.changes(file, small_files.written([])), changes)
+
     def test_merge(self):
         files = [content('chain-200.1.pdb'), content('chain-200.2.pdb')]
         want = merged(files)
@@ -433,18 +755,30 @@ class Merges(Checks):
 
 
 class Others(Checks):
-    def test_page(self):
-        """Runs the example of docs/LIBRARY.md, whose file is that of a row of EXPECTED.tsv."""
+    def part_of_page(self, begin, end):
+        """What stands between two lines of docs/LIBRARY.md."""
         page = (ROOT / 'docs' / 'LIBRARY.md').read_text(encoding='utf-8')
-        lines = page.split('\nIn Python:\n')[1].split('\nIn Rust:\n')[0]
-        [want] = [row[4] for row in rows('') if row[0] == 'merge plain.pdb inherit.pdb']
+        return textwrap.dedent(page.split(f'\n{begin}\n')[1].split(f'\n{end}\n')[0])
+
+    def run_example(self, lines):
+        """Runs an example in a folder that has the shipped files. Returns what it prints, and what it merges."""
         with tempfile.TemporaryDirectory() as folder:
             pathlib.Path(folder, 'examples').symlink_to(EXAMPLES)
             module = pathlib.Path(pdbmerge.__file__).parents[1]
             setting = {**os.environ, 'PYTHONPATH': str(module)}
-            subprocess.run([sys.executable, '-c', textwrap.dedent(lines)], cwd=folder, env=setting, check=True)
-            made = pathlib.Path(folder, 'merged.pdb').read_bytes()
+            words = [sys.executable, '-c', lines]
+            told = subprocess.run(words, cwd=folder, env=setting, check=True, stdout=subprocess.PIPE, text=True)
+            made = pathlib.Path(folder, 'merged.pdb')
+            return told.stdout, made.read_bytes() if made.exists() else None
+
+    def test_page(self):
+        """Runs the examples of docs/LIBRARY.md. The merged file is that of a row of EXPECTED.tsv."""
+        [want] = [row[4] for row in rows('') if row[0] == 'merge plain.pdb inherit.pdb']
+        _, made = self.run_example(self.part_of_page('In Python:', 'In Rust:'))
         self.hold('sum', hashlib.sha256(made).hexdigest(), want.split(' ')[-1])
+        begin = 'This tells in Python which types have another size in a second build:'
+        told, _ = self.run_example(self.part_of_page(begin, 'It prints this:'))
+        self.hold('sizes', told, self.part_of_page('It prints this:', '## The calls').strip() + '\n')
 
     def test_version(self):
         header = (ROOT / 'include' / 'pdbmerge.h').read_text(encoding='utf-8')

@@ -37,7 +37,7 @@ pub struct pdbmerge_fault {
     pub text: [u8; 236],
 }
 
-/// Some bytes: those of a file.
+/// Some bytes: those of a file, or of a name.
 #[repr(C)]
 #[derive(Clone, Copy, Debug)]
 pub struct pdbmerge_slice {
@@ -302,6 +302,31 @@ extern "C" {
         differences: *mut pdbmerge_difference,
         room: usize,
         count: *mut u64,
+        fault: *mut pdbmerge_fault,
+    ) -> u32;
+
+    /// Copies the text of the definitions of a file.
+    pub fn pdbmerge_members(
+        file: *const u8,
+        length: usize,
+        names: *const pdbmerge_slice,
+        count: usize,
+        out: *mut u8,
+        room: usize,
+        size: *mut u64,
+        fault: *mut pdbmerge_fault,
+    ) -> u32;
+
+    /// Copies what changed between the definitions of two files.
+    pub fn pdbmerge_changes(
+        first: *const u8,
+        first_length: usize,
+        second: *const u8,
+        second_length: usize,
+        seed: *const pdbmerge_seed,
+        out: *mut u8,
+        room: usize,
+        size: *mut u64,
         fault: *mut pdbmerge_fault,
     ) -> u32;
 }

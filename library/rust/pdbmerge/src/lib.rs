@@ -29,6 +29,7 @@ extern crate alloc;
 extern crate std;
 
 mod call;
+mod definition;
 mod error;
 mod info;
 mod layout;
@@ -40,6 +41,11 @@ use alloc::vec::Vec;
 use pdbmerge_sys as sys;
 
 use call::{done, no_fault, written};
+#[cfg(feature = "std")]
+pub use definition::changes;
+pub use definition::{
+    changes_with_seed, members, members_named, Change, Definition, DefinitionKind, Member,
+};
 pub use error::{Error, ErrorKind};
 pub use info::{features, named_streams, NamedStream};
 pub use layout::{layout, Layout, Stream};
@@ -137,14 +143,7 @@ pub fn merge_with_seed<T: AsRef<[u8]>>(
     settings: &Settings,
     seed: Seed,
 ) -> Result<Merged, Error> {
-    let lent = |file: &T| {
-        let bytes = file.as_ref();
-        sys::pdbmerge_slice {
-            bytes: bytes.as_ptr(),
-            length: bytes.len(),
-        }
-    };
-    let slices: Vec<_> = files.iter().map(lent).collect();
+    let slices: Vec<_> = files.iter().map(|file| lent(file.as_ref())).collect();
     let settings = settings.lent(seed);
     let mut report = sys::pdbmerge_report::default();
     // SAFETY: each file is as long as said, and `files` lends them until the call has returned.
@@ -163,6 +162,14 @@ pub fn merge_with_seed<T: AsRef<[u8]>>(
         types: report.types,
         bytes: report.bytes,
     })
+}
+
+/// Bytes as a call takes several of them.
+fn lent(bytes: &[u8]) -> sys::pdbmerge_slice {
+    sys::pdbmerge_slice {
+        bytes: bytes.as_ptr(),
+        length: bytes.len(),
+    }
 }
 
 /// Room for what is merged, unless streams share blocks: the types, the lists of blocks, and the other

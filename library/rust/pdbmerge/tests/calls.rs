@@ -9,8 +9,9 @@ use std::thread;
 use common::{content, root, settings};
 use container::{container, words, BLOCK};
 use pdbmerge::{
-    check, diff, features, identify, layout, merge, merge_with_seed, named_streams, records,
-    stream, types, version, Error, ErrorKind, Layout, NamedStream, Record, Reference, Seed,
+    changes, changes_with_seed, check, diff, features, identify, layout, members, members_named,
+    merge, merge_with_seed, named_streams, records, stream, types, version, Change, Definition,
+    DefinitionKind, Error, ErrorKind, Layout, Member, NamedStream, Record, Reference, Seed,
     Settings,
 };
 
@@ -40,10 +41,15 @@ fn no_bytes_are_refused() {
     assert_eq!(refusal(features(b"")), short);
     assert_eq!(refusal(records(b"")), short);
     assert_eq!(refusal(types(b"")), short);
+    assert_eq!(refusal(members(b"")), short);
+    assert_eq!(refusal(members_named(b"", b"")), short);
     let second = (1, Some(1), ErrorKind::Refused);
     assert_eq!(refusal(merge(&[&sound[..], b""], &settings())), second);
     assert_eq!(refusal(diff(&sound, b"")), second);
-    assert_eq!(refusal(diff(b"", &sound)), (1, Some(0), ErrorKind::Refused));
+    assert_eq!(refusal(changes(&sound, b"")), second);
+    let first = (1, Some(0), ErrorKind::Refused);
+    assert_eq!(refusal(diff(b"", &sound)), first);
+    assert_eq!(refusal(changes(b"", &sound)), first);
 }
 
 #[test]
@@ -281,6 +287,236 @@ fn many_differences_fit() {
     assert_eq!(found.len(), merged.types as usize);
     assert!(found.iter().all(|each| each.input == 1));
     assert!(found.windows(2).all(|pair| pair[0].index < pair[1].index));
+}
+
+/// A member that has an offset or a value.
+fn member(offset: i128, what: &str, name: Option<&str>, ty: Option<&str>) -> Member {
+    Member {
+        offset: Some(offset),
+        what: what.into(),
+        name: name.map(|name| name.into()),
+        ty: ty.map(String::from),
+    }
+}
+
+/// A member that has none.
+fn placeless(what: &str, name: Option<&str>, ty: &str) -> Member {
+    Member {
+        offset: None,
+        ..member(0, what, name, Some(ty))
+    }
+}
+
+/// A field: a member in the sense of C.
+fn field(offset: i128, name: &str, ty: &str) -> Member {
+    member(offset, "member", Some(name), Some(ty))
+}
+
+fn structure(name: &str, size: i128, members: Vec<Member>) -> Definition {
+    Definition {
+        kind: DefinitionKind::Structure,
+        name: Some(name.into()),
+        size: Some(size),
+        ty: None,
+        declared: false,
+        members,
+    }
+}
+
+fn enumeration(name: &str, ty: &str, values: &[(&str, i128)]) -> Definition {
+    let value = |&(name, value)| member(value, "value", Some(name), None);
+    Definition {
+        kind: DefinitionKind::Enumeration,
+        size: None,
+        ty: Some(ty.into()),
+        ..structure(name, 0, values.iter().map(value).collect())
+    }
+}
+
+/// Some definitions of edited-1.h and edited.cpp. A pointer has eight bytes.
+fn edited() -> [Definition; 4] {
+    let takes = r#"method (reference to "Connection", reference to const "Packet") of"#;
+    let on_packet = |class| format!("{takes} \"{class}\" giving int");
+    let on_close = r#"method (reference to "Connection") of "Handler" giving void"#;
+    let tables = "pointer to virtual table of 2";
+    let pure = "new pure virtual method";
+    let handler = vec![
+        placeless("virtual functions", None, tables),
+        field(8, "refs", "int"),
+        member(0, pure, Some("on_packet"), Some(&on_packet("Handler"))),
+        member(8, "new virtual method", Some("on_close"), Some(on_close)),
+    ];
+    let echo = vec![
+        member(0, "base", None, Some("\"Handler\"")),
+        field(16, "seen", "unsigned int"),
+        placeless("virtual method", Some("on_packet"), &on_packet("Echo")),
+    ];
+    let header = vec![
+        field(0, "kind", "\"Kind\""),
+        field(1, "version", "unsigned char"),
+        field(2, "length", "unsigned short"),
+        field(4, "sequence", "unsigned int"),
+        field(8, "flags", "unsigned int, bits 0 to 3"),
+        field(8, "window", "unsigned int, bits 4 to 15"),
+    ];
+    let kinds = [("Hello", 1), ("Data", 2), ("Bye", 3)];
+    [
+        structure("Handler", 16, handler),
+        enumeration("Kind", "unsigned char", &kinds),
+        structure("Header", 12, header),
+        structure("Echo", 24, echo),
+    ]
+}
+
+/// Whether a record is that of a definition: by its kind, and bit 7 of its properties is not set.
+fn defines(record: &Record) -> bool {
+    (0x1504..=0x1507).contains(&record.kind()) && record.bytes()[6] & 0x80 == 0
+}
+
+#[test]
+fn definitions_are_those_of_the_source() {
+    let file = content("differences/edited-1.pdb");
+    let mut found = members(&file).expect("an accepted file");
+    let records = types(&file).expect("an accepted file");
+    let names: Vec<_> = found.iter().map(|each| each.name.clone()).collect();
+    let recorded = records.iter().filter(defines).map(|each| each.name());
+    assert_eq!(recorded.collect::<Result<_, _>>(), Ok(names));
+    for each in &found {
+        let name = each.name.as_ref().expect("a name");
+        assert_eq!(members_named(&file, name), Ok(vec![each.clone()]));
+    }
+    let wanted = edited();
+    found.retain(|each| wanted.iter().any(|one| one.name == each.name));
+    assert_eq!(found, wanted);
+    for name in ["", "kind", "Kin", "Kind\0", "0x1000"] {
+        let found = members_named(&file, name.as_bytes());
+        assert_eq!(found, Ok(vec![]), "{name:?}");
+    }
+}
+
+#[test]
+fn a_class_has_bases_of_each_kind() {
+    // The class Both of inherit.cpp. Each of its two direct bases has its pointer to virtual bases at 8.
+    let right = "method () of \"Both\" giving void or method (int, ...) of \"Both\" giving int \
+                 or method (rvalue reference to \"Both\") of \"Both\" giving int";
+    let both = vec![
+        member(0, "base", None, Some("\"Left\"")),
+        member(24, "protected base", None, Some("\"Right\"")),
+        member(8, "indirect virtual base 1", None, Some("\"Root\"")),
+        field(48, "b", "int"),
+        member(52, "private member", Some("hidden"), Some("int")),
+        placeless("3 methods", Some("right"), right),
+    ];
+    let class = Definition {
+        kind: DefinitionKind::Class,
+        ..structure("Both", 72, both)
+    };
+    let file = content("inherit.pdb");
+    assert_eq!(members_named(&file, b"Both"), Ok(vec![class]));
+}
+
+/// The files of a pair of differences/.
+fn pair(name: &str) -> [Vec<u8>; 2] {
+    ["1", "2"].map(|number| content(&format!("differences/{name}-{number}.pdb")))
+}
+
+#[test]
+fn declarations_are_shown_where_they_are_asked_for() {
+    let [declared, defined] = pair("declared");
+    assert_eq!(members(&declared), Ok(vec![]));
+    let declaration = Definition {
+        declared: true,
+        ..structure("S", 0, vec![])
+    };
+    assert_eq!(members_named(&declared, b"S"), Ok(vec![declaration]));
+    let definition = structure("S", 4, vec![field(0, "f", "int")]);
+    assert_eq!(members_named(&defined, b"S"), Ok(vec![definition.clone()]));
+    let came = Change {
+        old: None,
+        new: Some(definition),
+    };
+    assert_eq!(changes(&declared, &defined), Ok(vec![came]));
+}
+
+#[test]
+fn no_seed_makes_a_difference_in_changes() {
+    let [one, other] = pair("edited");
+    let found = changes(&one, &other).expect("two accepted files");
+    assert_eq!(found.len(), 8);
+    for byte in [0, 7, 0xff] {
+        let seeded = changes_with_seed(&one, &other, Seed([byte; 16]));
+        assert_eq!(seeded.as_ref(), Ok(&found));
+    }
+}
+
+/// A file of these type records.
+fn file_of_records(records: &[Vec<u8>]) -> Vec<u8> {
+    let body = records.concat();
+    let (end, size) = (0x1000 + records.len() as u32, body.len() as u32);
+    let mut stream = words(&[20040203, 56, 0x1000, end, size]);
+    stream.resize(56, 0);
+    stream.extend(body);
+    container(&[vec![], vec![0; 28], stream])
+}
+
+/// A record, filled up to a multiple of four bytes.
+fn record(kind: u16, body: &[u8]) -> Vec<u8> {
+    let mut body = body.to_vec();
+    body.resize((body.len() + 3) / 4 * 4, 0);
+    let length = 2 + body.len() as u16;
+    [&length.to_le_bytes(), &kind.to_le_bytes(), &body[..]].concat()
+}
+
+/// The record of an enumeration: of its name, the type of its values and its list of fields.
+fn enumeration_record(name: &str, ty: u32, fields: u32) -> Vec<u8> {
+    let body = [&words(&[0, ty, fields]), name.as_bytes(), &[0]].concat();
+    record(0x1507, &body)
+}
+
+#[test]
+fn many_members_fit() {
+    // A list of one value, which all enumerations have: the text has far more bytes than the file.
+    let long = "v".repeat(1001);
+    let list = [&[0x02, 0x15, 3, 0, 7, 0], long.as_bytes(), &[0]].concat();
+    let mut records = vec![record(0x1203, &list)];
+    let names: Vec<_> = (10..99).map(|n| format!("E{n}")).collect();
+    records.extend(
+        names
+            .iter()
+            .map(|name| enumeration_record(name, 0x74, 0x1000)),
+    );
+    let file = file_of_records(&records);
+    assert!(names.len() * long.len() > 2 * file.len());
+    let told = |name: &String| enumeration(name, "int", &[(&long, 7)]);
+    let wanted: Vec<_> = names.iter().map(told).collect();
+    let gone = wanted.iter().map(|each| Change {
+        old: Some(each.clone()),
+        new: None,
+    });
+    assert_eq!(members(&file).as_ref(), Ok(&wanted));
+    assert_eq!(changes(&file, &file_of_records(&[])), Ok(gone.collect()));
+}
+
+#[test]
+fn a_name_can_look_like_a_change() {
+    // The words of a type are cut after 400 bytes. Behind `"S" -> ` the trap reads as if they were cut
+    // there.
+    let (long, trap) = ("a -> ".repeat(100), "a".repeat(392) + ".. -> ");
+    let cut = format!("\"{}..", &long[..399]);
+    let types = ["S", &trap, &long].map(|name| {
+        let body = [&[0; 18], name.as_bytes(), &[0]].concat();
+        let records = [record(0x1505, &body), enumeration_record("E", 0x1000, 0)];
+        file_of_records(&records)
+    });
+    let told = ["\"S\"", &format!("\"{trap}\""), &cut].map(|ty| Some(enumeration("E", ty, &[])));
+    for (old, first) in told.iter().zip(&types) {
+        for (new, second) in told.iter().zip(&types).filter(|(new, _)| *new != old) {
+            let mut found = changes(first, second).expect("two accepted files");
+            found.retain(|each| each.old.is_some() && each.new.is_some());
+            let (old, new) = (old.clone(), new.clone());
+            assert_eq!(found, [Change { old, new }]);
+        }
+    }
 }
 
 #[test]

@@ -9,7 +9,7 @@ use std::io::Write;
 use std::process::{Command, Stdio};
 
 use common::{content, root, settings};
-use pdbmerge::{Error, Record};
+use pdbmerge::{Change, Definition, Error, Member, Record};
 
 /// A row of a table.
 struct Row {
@@ -20,9 +20,9 @@ struct Row {
     answer: String,
 }
 
-/// The rows of the table of a folder.
-fn rows(folder: &str) -> Vec<Row> {
-    let table = content(&format!("{folder}EXPECTED.tsv"));
+/// The rows of a table of a folder.
+fn rows(folder: &str, table: &str) -> Vec<Row> {
+    let table = content(&format!("{folder}{table}"));
     let text = String::from_utf8(table).expect("a table is UTF-8");
     text.lines().skip(1).map(|line| row(folder, line)).collect()
 }
@@ -102,6 +102,88 @@ fn type_line(record: Record, leaves: &HashMap<u16, String>) -> Result<String, Er
         line += &format!(" {}", quoted(&name));
     }
     Ok(line)
+}
+
+/// The line of a member.
+fn member_line(member: &Member) -> String {
+    let place = member
+        .offset
+        .map_or("-".into(), |offset| offset.to_string());
+    let mut line = format!("  {place} {}", member.what);
+    if let Some(name) = &member.name {
+        line += &format!(" {}", quoted(name));
+    }
+    if let Some(ty) = &member.ty {
+        line += &format!(" {ty}");
+    }
+    line
+}
+
+/// The head of a definition before its size, and its size or the type of its values.
+fn head(definition: &Definition) -> (String, String) {
+    let name = definition.name.as_ref();
+    let name = name.map_or("?".into(), |name| quoted(name));
+    let size = definition.size.map_or("?".into(), |size| size.to_string());
+    let (joint, size) = match &definition.ty {
+        Some(ty) => ("of", ty.clone()),
+        None => ("size", size),
+    };
+    (format!("{} {name} {joint} ", definition.kind), size)
+}
+
+/// The lines of members, each after a sign.
+fn signed<'a>(sign: &'a str, members: &'a [Member]) -> impl Iterator<Item = String> + 'a {
+    let line = move |member| format!("{sign}{}", member_line(member));
+    members.iter().map(line)
+}
+
+/// The lines of a definition, each after a sign.
+fn definition_lines(sign: &str, definition: &Definition) -> Vec<String> {
+    let (front, size) = head(definition);
+    let end = if definition.declared {
+        " declared only"
+    } else {
+        ""
+    };
+    let mut lines = vec![format!("{sign}{front}{size}{end}")];
+    lines.extend(signed(sign, &definition.members));
+    lines
+}
+
+/// The lines of a definition that changed.
+fn changed_lines(old: &Definition, new: &Definition) -> Vec<String> {
+    let ((front, size), (other_front, other_size)) = (head(old), head(new));
+    assert_eq!(front, other_front, "both halves are of the first file");
+    let mut line = format!("~ {front}{size}");
+    if size != other_size {
+        line += &format!(" -> {other_size}");
+    }
+    let mut lines = vec![line];
+    lines.extend(signed("  - ", &old.members));
+    lines.extend(signed("  + ", &new.members));
+    lines
+}
+
+/// The lines of a change, as the command `diff --members` prints them.
+fn change_lines(change: &Change) -> Vec<String> {
+    match (&change.old, &change.new) {
+        (Some(old), Some(new)) => changed_lines(old, new),
+        (Some(old), None) => definition_lines("- ", old),
+        (None, Some(new)) => definition_lines("+ ", new),
+        (None, None) => panic!("a change has a definition"),
+    }
+}
+
+fn members(file: &[u8]) -> Result<String, Error> {
+    let found = pdbmerge::members(file)?;
+    let lines = found.iter().flat_map(|each| definition_lines("", each));
+    Ok(lines.collect::<Vec<_>>().join("\\n"))
+}
+
+fn changes(files: &[Vec<u8>]) -> Result<String, Error> {
+    let found = pdbmerge::changes(&files[0], &files[1])?;
+    let lines: Vec<_> = found.iter().flat_map(change_lines).collect();
+    Ok(lines.join("\\n"))
 }
 
 fn check(file: &[u8]) -> Result<String, Error> {
@@ -214,17 +296,19 @@ fn info(file: &[u8]) -> Result<String, Error> {
 /// What the calls give for a row.
 fn given(row: &Row) -> Result<String, Error> {
     let words: Vec<&str> = row.command.split(' ').collect();
-    match words[0] {
-        // The tables have only refusals of `members`, which are those of `check`. No call gives the text.
-        "check" | "members" => check(&row.files[0]),
-        "merge" => merge(&row.files),
-        "records" => records(&row.files[0]),
-        "types" => types(&row.files[0]),
-        "record" => record(&row.files[0], words[1]),
-        "diff" => diff(&row.files, words.len() == 2),
-        "streams" => streams(&row.files[0]),
-        "info" => info(&row.files[0]),
-        other => panic!("{other} is no command"),
+    match words[..] {
+        ["check"] => check(&row.files[0]),
+        ["merge"] => merge(&row.files),
+        ["records"] => records(&row.files[0]),
+        ["types"] => types(&row.files[0]),
+        ["record", index] => record(&row.files[0], index),
+        ["members"] => members(&row.files[0]),
+        ["diff"] => diff(&row.files, false),
+        ["diff", "--origins"] => diff(&row.files, true),
+        ["diff", "--members"] => changes(&row.files),
+        ["streams"] => streams(&row.files[0]),
+        ["info"] => info(&row.files[0]),
+        _ => panic!("{} is no command", row.command),
     }
 }
 
@@ -274,11 +358,11 @@ fn holds(row: &Row) -> bool {
 }
 
 /// Holds the calls to each row of a table.
-fn hold_table(folder: &str) {
-    let rows = rows(folder);
+fn hold_table(folder: &str, table: &str) {
+    let rows = rows(folder, table);
     let wrong = rows.iter().filter(|row| !holds(row)).count();
     println!(
-        "{folder}EXPECTED.tsv: {} rows, {wrong} not as wanted",
+        "{folder}{table}: {} rows, {wrong} not as wanted",
         rows.len()
     );
     assert!(!rows.is_empty() && wrong == 0);
@@ -286,15 +370,20 @@ fn hold_table(folder: &str) {
 
 #[test]
 fn examples() {
-    hold_table("");
+    hold_table("", "EXPECTED.tsv");
 }
 
 #[test]
 fn faults() {
-    hold_table("faults/");
+    hold_table("faults/", "EXPECTED.tsv");
 }
 
 #[test]
 fn differences() {
-    hold_table("differences/");
+    hold_table("differences/", "EXPECTED.tsv");
+}
+
+#[test]
+fn differences_in_members() {
+    hold_table("differences/", "MEMBERS.tsv");
 }
