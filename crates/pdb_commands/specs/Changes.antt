@@ -1,16 +1,12 @@
 -- What the command `diff --members` writes.
 use Rattle.std.specs.Prelude.{ℕ, ◌≡◌, ◌↔◌, Bool, List, [], ◌∷◌, Option, Result, IsTrue}
-use Rattle.std.specs.List.{Contains}
 use Rattle.std.specs.Io.KnownBytes.{Appends}
 use Rattle.byte_io.specs.Inputs.{Give}
 use Rattle.byte_io.specs.declared.inputs.InputFault.{InputFault}
-use Rattle.closed_trees.specs.Tree.{Tree, IsType}
 use Rattle.closed_trees.specs.Types.{AreTypes}
 use Rattle.msf_streams.specs.Put.{AppendsPart}
 use Rattle.file_types.specs.Read.{IsAccepted}
-use Rattle.type_texts.specs.Asked.{AreTrees}
-use Rattle.type_changes.specs.Changes.{changes_text}
-use Rattle.type_changes.specs.Definition.{Definition, definitions}
+use Rattle.type_changes.specs.Tells.{TellsChanges}
 
 -- `diff --members` shows this text for two inputs: what changed between the definitions of their
 -- types
@@ -20,15 +16,7 @@ pub record ShowsChanges (known : Option (List (Result (List ℕ) InputFault))) (
   pub others : List (List ℕ)
   pub are_types : AreTypes records
   pub others_are_types : AreTypes others
-  pub trees : List Tree
-  pub other_trees : List Tree
-  pub are_trees : AreTrees records trees
-  pub others_are_trees : AreTrees others other_trees
-  pub shows : text ≡ changes_text (definitions trees) (definitions other_trees)
-  -- it is empty exactly if both have the same definitions, and so if they have the same types
-  pub empty : (text ≡ []) ↔ ((d : Definition)
-      → Contains (definitions trees) d ↔ Contains (definitions other_trees) d)
-  pub same : ((t : Tree) → IsType records t ↔ IsType others t) → text ≡ []
+  pub changes : TellsChanges records others text
   -- where the bytes of the inputs are known, they are accepted with these types
   pub accepted : (one other : List ℕ) → Give known (one ∷ other ∷ []) → IsAccepted one records
   pub other_accepted : (one other : List ℕ) → Give known (one ∷ other ∷ [])

@@ -3,6 +3,5 @@ pub mod OffsetLaws
 pub mod HeaderLaws
 pub mod FaultLaws
 pub mod DiffLaws
-pub mod ChangesLaws
 pub mod InfoLaws
 pub mod LayoutLaws

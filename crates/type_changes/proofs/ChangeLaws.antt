@@ -1,16 +1,17 @@
 -- Nothing is shown exactly where both lists have the same definitions.
-use Rattle.std.proofs.Common.{◌≡◌, ◌∙◌, ◌↔◌, ℕ, Bool, true, false, not, cond, ◌||◌, List, [], ◌∷◌, ◌++◌, filter, refl, sym, ap, codes, true≢false}
-use Rattle.std.specs.Prelude.{Option, Some, None}
+use Rattle.std.proofs.Common.{◌≡◌, ◌∙◌, ◌↔◌, ℕ, Bool, true, false, not, cond, ◌||◌, List, [], ◌∷◌, ◌++◌, filter, refl, sym, ap, codes, true≢false, inl, inr}
+use Rattle.std.specs.Prelude.{Option, Some, None, ◌⊎◌, is_some}
 use Rattle.std.specs.List.{Contains, flat_map}
 use Rattle.std.specs.Option.{option_map_or}
 use Rattle.std.proofs.lemmas.List.{append_assoc}
 use Rattle.std.specs.Cmp.{IsEquivalence}
+use Rattle.std.proofs.lemmas.Option.{same_Some}
 use Rattle.std.proofs.lemmas.Map.Views.{list_any-from_Contains, Contains-from_any}
-use Rattle.type_changes.specs.Definition.{Definition}
-use Rattle.type_changes.specs.Lone.{is_same, has, distinct, lone}
+use Rattle.type_changes.specs.Definition.{Definition, Key}
+use Rattle.type_changes.specs.Lone.{is_same, is_same_key, has, distinct, lone, only, sole}
 use Rattle.type_changes.specs.Changes.{changed, changes_between, changes_text, come_text, gone_text, successor, whole}
-use Rattle.type_changes.proofs.ListLaws.{filter_agrees, filter_twice}
-use Rattle.type_changes.proofs.SameLaws.{same_decides, same_turned}
+use Rattle.type_changes.proofs.ListLaws.{filter_agrees, filter_twice, or_none}
+use Rattle.type_changes.proofs.SameLaws.{keys_decide, same_decides, same_turned}
 
 -- ---- what is in a list is found there
 
@@ -174,6 +175,97 @@ lone_is_shown ours theirs d is other =
     none : (b : Bool) → has theirs d ≡ b → b ≡ false
     none true e = absurd (other (there theirs d e))
     none false e = refl
+
+-- ---- each that came is shown
+
+-- what passes a test is in the list
+passing : (p : Definition → Bool) (all : List Definition) (d : Definition) → has (filter p all) d ≡ true → (p d ≡ true) × (has all d ≡ true)
+passing p [] d is = absurd (true≢false (sym is))
+passing p (x ∷ xs) d is = by (p x) (is_same d x) refl refl (λ rest. passing p xs d rest) is
+  where
+    by : (b c : Bool) → p x ≡ b → is_same d x ≡ c → (has (filter p xs) d ≡ true → (p d ≡ true) × (has xs d ≡ true)) → has (cond b (x ∷ filter p xs) (filter p xs)) d ≡ true → (p d ≡ true) × ((is_same d x || has xs d) ≡ true)
+    by true true q e rest is = (ap p ((same_decides d x).0 e) ∙ q, rw e refl)
+    by true false q e rest is = let more = rest (rw e at is) in (more.0, rw e more.1)
+    by false true q e rest is = let more = rest is in (more.0, rw e refl)
+    by false false q e rest is = let more = rest is in (more.0, rw e more.1)
+
+-- the only one is alone in its list
+alone : (all : List Definition) (d : Definition) → only all ≡ Some d → all ≡ d ∷ []
+alone [] d is = absurd cc
+alone (x ∷ []) d is = ap (λ (y : Definition). y ∷ []) (same_Some x d is)
+alone (x ∷ y ∷ others) d is = absurd cc
+
+-- the only definition with a key is in the list, and has the key
+sole_there : (all : List Definition) (key : Key) (d : Definition) → sole all key ≡ Some d → (is_same_key key d.key ≡ true) × (has all d ≡ true)
+sole_there all key d is =
+    let one = alone (filter (λ x. is_same_key key x.key) all) d is in
+    passing (λ x. is_same_key key x.key) all d (rw (one, (same_decides d d).1 refl) refl)
+
+-- any definition with the key is that one
+sole_is : (all : List Definition) (d one : Definition) → has all d ≡ true → sole all d.key ≡ Some one → d ≡ one
+sole_is all d one is found =
+    let kept = kept_there (λ x. is_same_key d.key x.key) all d is ((keys_decide d.key d.key).1 refl) in
+    let same : (is_same d one || false) ≡ true = rw (alone (filter (λ x. is_same_key d.key x.key) all) one found) at kept in
+    (same_decides d one).0 (sym (or_none (is_same d one)) ∙ same)
+
+-- a definition that changed is what one of ours is now
+changed_from : (gone come : List Definition) (d new : Definition) → has come d ≡ true → successor gone come d.key ≡ Some new
+    → (old : Definition) × (has gone old ≡ true) × (gone_text gone come old ≡ changed old d)
+unfolding successor gone_text
+changed_from gone come d new is found = by (sole gone d.key) refl found
+  where
+    by : (o : Option Definition) → sole gone d.key ≡ o → cond (is_some o) (sole come d.key) None ≡ Some new → (old : Definition) × (has gone old ≡ true) × (gone_text gone come old ≡ changed old d)
+    by None e found = absurd cc
+    by (Some old) e found =
+        let there = sole_there gone d.key old e in
+        let key : d.key ≡ old.key = (keys_decide d.key old.key).0 there.0 in
+        (old, there.1, rw (← key, e, found, ← sole_is come d new is found) refl)
+
+-- a list among two that are joined
+joined : (first all before shown after : List ℕ) → all ≡ before ++ shown ++ after → first ++ all ≡ (first ++ before) ++ shown ++ after
+joined first all before shown after is = ap (λ (xs : List ℕ). first ++ xs) is ∙ simp append_assoc refl
+
+-- each definition that only their list has is shown
+pub came_is_shown : (ours theirs : List Definition) (d : Definition) → Contains theirs d → (Contains ours d → ⊥)
+    → (before shown after : List ℕ) × (changes_text ours theirs ≡ before ++ shown ++ after)
+    × ((shown ≡ whole (codes "+ ") d) ⊎ ((old : Definition) × Contains (lone ours theirs) old × (shown ≡ changed old d)))
+unfolding changes_between come_text
+came_is_shown ours theirs d is other = by (successor gone come d.key) refl
+  where
+    gone : List Definition
+    gone = lone ours theirs
+
+    come : List Definition
+    come = lone theirs ours
+
+    none : (b : Bool) → has ours d ≡ b → b ≡ false
+    none true e = absurd (other (there ours d e))
+    none false e = refl
+
+    inside : has come d ≡ true
+    inside = kept_there (λ x. not (has ours x)) (distinct theirs) d (has_distinct theirs d ∙ found theirs d is) (ap not (none (has ours d) refl))
+
+    by : (o : Option Definition) → successor gone come d.key ≡ o
+        → (before shown after : List ℕ) × (changes_text ours theirs ≡ before ++ shown ++ after)
+        × ((shown ≡ whole (codes "+ ") d) ⊎ ((old : Definition) × Contains gone old × (shown ≡ changed old d)))
+    by None e =
+        let among = shown_among (come_text gone come) come d inside in
+        let text : come_text gone come d ≡ whole (codes "+ ") d = rw e refl in (
+          flat_map (gone_text gone come) gone ++ among.0,
+          come_text gone come d,
+          among.1,
+          joined (flat_map (gone_text gone come) gone) (flat_map (come_text gone come) come) among.0 (come_text gone come d) among.1 among.2,
+          inl text,
+        )
+    by (Some new) e =
+        let from = changed_from gone come d new inside e in
+        let among = shown_among (gone_text gone come) gone from.0 from.1 in (
+          among.0,
+          gone_text gone come from.0,
+          among.1 ++ flat_map (come_text gone come) come,
+          ap (λ (xs : List ℕ). xs ++ flat_map (come_text gone come) come) among.2 ∙ simp append_assoc refl,
+          inr (from.0, there gone from.0 from.1, from.2),
+        )
 
 -- ---- what may be left out
 

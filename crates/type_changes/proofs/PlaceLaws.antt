@@ -95,6 +95,10 @@ parts_some start t parts is = by (is_definition t) refl
         record { defines = e; size = ap (λ p. p.size) same; head = ap (λ p. p.head) same; lines = ap (λ p. p.lines) same }
     by false e = absurd (let none = rw e at is in cc)
 
+-- what stands behind a text: a name, and the text of a definition
+pub grown_by : (text name middle now : List ℕ) (t : Tree) → middle ≡ text ++ name → now ≡ middle ++ definition_text t → now ≡ text ++ (name ++ definition_text t)
+grown_by text name middle now t named is = is ∙ ap (λ (xs : List ℕ). xs ++ definition_text t) named ∙ append_assoc text name (definition_text t)
+
 -- what stands where a definition was told, behind the name by which it is known
 pub told_here : (old name now : List ℕ) (t : Tree) (place : Place) → now ≡ (old ++ name) ++ definition_text t → AreParts (length (old ++ name)) t place.parts
     → place.name ≡ length old → place.start ≡ length (old ++ name) → place.end ≡ length now

@@ -15,12 +15,14 @@ use Rattle.type_difference.specs.declared.standing.Standing.{Standing}
 use Rattle.type_difference.specs.declared.standing.Standing.TheVariants.{Shared}
 use Rattle.type_texts.specs.Asked.{AreTrees}
 use Rattle.type_texts.specs.Definition.{defined_words, is_definition}
+use Rattle.type_texts.proofs.AskedLaws.{all_trees}
 use Rattle.type_texts.proofs.DefinitionLaws.{defines, tree_undefined}
 use Rattle.type_texts.proofs.LinesLaws.{stands_inside}
 use Rattle.type_changes.specs.Changes.{changes_text}
 use Rattle.type_changes.specs.Definition.{Definition, defined_by, definition_of, definitions, is_whole, key_of}
 use Rattle.type_changes.specs.Lone.{has}
 use Rattle.type_changes.specs.Seen.{is_noted}
+use Rattle.type_changes.specs.Tells.{TellsChanges}
 use Rattle.type_changes.proofs.ChangeLaws.{found, nothing_changed, there}
 use Rattle.type_changes.proofs.KeyLaws.{key_same}
 
@@ -62,6 +64,23 @@ pub same_types : (records others : List (List ℕ)) (trees other_trees : List Tr
 same_types records others trees other_trees are other_are types =
     (nothing_changed (definitions trees) (definitions other_trees)).1
     (λ d. (types_have_definitions records others trees other_trees are other_are (λ t. (types t).0) d, types_have_definitions others records other_trees trees other_are are (λ t. (types t).1) d))
+
+-- a text that tells it of all trees tells it
+pub tells_changes : (records others : List (List ℕ)) (text : List ℕ) → AreTypes records → AreTypes others
+    → ((trees other_trees : List Tree) → AreTrees records trees → AreTrees others other_trees → text ≡ changes_text (definitions trees) (definitions other_trees)) → TellsChanges records others text
+tells_changes records others text types other_types tells =
+    let all = all_trees records types in
+    let other_all = all_trees others other_types in
+    let is = tells all.0 other_all.0 all.1 other_all.1 in
+    let empty = nothing_changed (definitions all.0) (definitions other_all.0) in record {
+      trees = all.0;
+      other_trees = other_all.0;
+      are_trees = all.1;
+      others_are_trees = other_all.1;
+      tells = is;
+      empty = rw is empty;
+      same = λ same. is ∙ same_types records others all.0 other_all.0 all.1 other_all.1 same;
+    }
 
 -- ---- the names that are noted
 

@@ -1,11 +1,11 @@
 -- Laws of what changed between two lists of definitions.
-use Rattle.std.specs.Prelude.{ℕ, ◌≡◌, ◌↔◌, List, [], ◌++◌}
+use Rattle.std.specs.Prelude.{ℕ, ◌≡◌, ◌↔◌, ◌⊎◌, List, [], ◌++◌, codes}
 use Rattle.std.specs.List.{Contains}
 use Rattle.closed_trees.specs.Tree.{Tree, IsType}
 use Rattle.type_texts.specs.Asked.{AreTrees}
 use Rattle.type_changes.specs.Definition.{Definition, definitions}
 use Rattle.type_changes.specs.Lone.{lone}
-use Rattle.type_changes.specs.Changes.{changes_text, gone_text}
+use Rattle.type_changes.specs.Changes.{changed, changes_text, gone_text, whole}
 
 -- nothing is shown exactly where both lists have the same definitions
 abbrev pub NothingChanged : Type 0
@@ -28,3 +28,12 @@ LoneIsShown =
     → (before after : List ℕ)
     × (changes_text ours theirs
     ≡ before ++ gone_text (lone ours theirs) (lone theirs ours) d ++ after)
+
+-- each definition that only their list has is shown, as what came or as what one of ours is now
+abbrev pub CameIsShown : Type 0
+CameIsShown =
+    (ours theirs : List Definition) (d : Definition) → Contains theirs d → (Contains ours d → ⊥)
+    → (before shown after : List ℕ)
+    × (changes_text ours theirs ≡ before ++ shown ++ after)
+    × ((shown ≡ whole (codes "+ ") d)
+    ⊎ ((old : Definition) × Contains (lone ours theirs) old × (shown ≡ changed old d)))

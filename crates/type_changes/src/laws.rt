@@ -2,7 +2,7 @@
 //!
 //! Each function here does nothing: its contract is the law.
 
-ghost use Rattle.type_changes.specs.Laws.{LoneIsShown, NothingChanged, TypesHaveDefinitions};
+ghost use Rattle.type_changes.specs.Laws.{CameIsShown, LoneIsShown, NothingChanged, TypesHaveDefinitions};
 
 /// Nothing is shown exactly where both lists have the same definitions.
 pub fn nothing_changed()
@@ -12,6 +12,11 @@ pub fn nothing_changed()
 /// Each definition that only our list has is shown, as what changed or as what went.
 pub fn lone_is_shown()
     ensures { LoneIsShown }
+{}
+
+/// Each definition that only their list has is shown, as what came or as what one of ours is now.
+pub fn came_is_shown()
+    ensures { CameIsShown }
 {}
 
 /// Where other records have all types of some records, they have all definitions of them.

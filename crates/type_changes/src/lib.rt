@@ -9,7 +9,8 @@
 //!
 //! What is proved: nothing is shown exactly where both lists have the same definitions
 //! ([`laws::nothing_changed`]). Each definition that only one list has is shown
-//! ([`laws::lone_is_shown`]); a line of a member is shown exactly where the other side lacks it.
+//! ([`laws::lone_is_shown`], [`laws::came_is_shown`]); a line of a member is shown exactly where the
+//! other side lacks it.
 //! Lists with the same types have the same definitions ([`laws::types_have_definitions`]). The text
 //! is a function of the trees alone (`changes_text`), so it depends on no index and on no hash.
 //!

@@ -1,6 +1,6 @@
 use Rattle.std.proofs.Common.{◌∙◌, sym}
 use Rattle.std.proofs.lemmas.Result.{err_from_is_err_and}
-use Rattle.type_texts.proofs.AskedLaws.{all_trees}
+use Rattle.type_changes.proofs.TypeLaws.{tells_changes}
 use Rattle.pdb_commands.proofs.ChangesLaws.{shows_changes}
 use Rattle.pdb_commands.proofs.DifferenceLaws.{both_read, one_accepted_before, refuses_inside, of_reading}
 use Rattle.pdb_commands.proofs.changes.changes_text.Goals as goal
@@ -24,10 +24,11 @@ returns-clause-value g c =
     let known = g.I.Inputs.known c.args.inputs.now in
     let types = rw c.first.view_is at c.first.invariant.types in
     let other_types = rw c.second.view_is at c.second.invariant.types in
-    let all = all_trees c.in_ok-first.first types in
-    let others = all_trees c.in_ok-second.second other_types in
-    shows_changes known c.in_ok-first.first c.in_ok-second.second all.0 others.0 c.push_changes.new.text.items types other_types all.1 others.1 c.in_ok-first.ensures.value c.in_ok-second.ensures.value
-    (rw c.new-text.ensures.items at (c.in_ok-push_changes.ensures all.0 others.0 all.1 others.1))
+    let records = c.in_ok-first.first in
+    let others = c.in_ok-second.second in
+    let text = c.push_changes.new.text.items in
+    shows_changes known records others text types other_types c.in_ok-first.ensures.value c.in_ok-second.ensures.value
+    (tells_changes records others text types other_types (rw c.new-text.ensures.items at c.in_ok-push_changes.ensures))
 
 pub returns-clause-read : goal.returns-clause-read
 returns-clause-read g c = both_read (g.I.Inputs.known c.args.inputs.now) c.requires c.in_ok-second.ensures.read

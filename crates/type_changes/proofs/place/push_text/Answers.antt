@@ -10,7 +10,7 @@ use Rattle.type_changes.specs.Definition.{Definition, Key, key_of}
 use Rattle.type_changes.specs.Seen.{is_noted, seen_at}
 use Rattle.type_changes.specs.declared.place.Place.{Place}
 use Rattle.type_changes.proofs.ListLaws.{map_append}
-use Rattle.type_changes.proofs.PlaceLaws.{all_added, all_inside, all_kept, none_declared, none_defined, none_passes, one_defined, parts_none, parts_some, told_here}
+use Rattle.type_changes.proofs.PlaceLaws.{all_added, all_inside, all_kept, grown_by, none_declared, none_defined, none_passes, one_defined, parts_none, parts_some, told_here}
 use Rattle.type_changes.proofs.place.push_text.Goals as goal
 
 pub push_definition-requires-clause-lists : goal.push_definition-requires-clause-lists
@@ -65,29 +65,20 @@ pub returns-in_default-2-clause-inside : goal.returns-in_default-2-clause-inside
 returns-in_default-2-clause-inside g c =
     let t = c.requires.there.0 in
     let stands = c.requires.there.1 in
-    let records = c.args.types.now in
     let text = c.args.text.now.items in
     let name = c.of-key.result.name.now in
-    let middle = text ++ name in
     let now = c.push_definition.new.text.items in
-    let named : c.extend_from_slice.new.self.items ≡ middle = c.in_ok-extend_from_slice.ensures.items in
-    let grown : now ≡ middle ++ definition_text t = rw (← named) (c.in_ok-parts.ensures.value t stands) in
-    let more : now ≡ text ++ (name ++ definition_text t) = grown ∙ append_assoc text name (definition_text t) in
+    let more = grown_by text name c.extend_from_slice.new.self.items now t c.in_ok-extend_from_slice.ensures.items (c.in_ok-parts.ensures.value t stands) in
     all_inside (length text) (length now) c.args.places.now.items (omega (arith, ap length more, length-append text (name ++ definition_text t))) c.requires.inside
 
 pub returns-in_default-2-clause-kept : goal.returns-in_default-2-clause-kept
 returns-in_default-2-clause-kept g c =
     let t = c.requires.there.0 in
     let stands = c.requires.there.1 in
-    let records = c.args.types.now in
     let text = c.args.text.now.items in
     let name = c.of-key.result.name.now in
-    let middle = text ++ name in
     let now = c.push_definition.new.text.items in
-    let named : c.extend_from_slice.new.self.items ≡ middle = c.in_ok-extend_from_slice.ensures.items in
-    let grown : now ≡ middle ++ definition_text t = rw (← named) (c.in_ok-parts.ensures.value t stands) in
-    let more : now ≡ text ++ (name ++ definition_text t) = grown ∙ append_assoc text name (definition_text t) in
-    (name ++ definition_text t, more)
+    (name ++ definition_text t, grown_by text name c.extend_from_slice.new.self.items now t c.in_ok-extend_from_slice.ensures.items (c.in_ok-parts.ensures.value t stands))
 
 pub returns-clause-value : goal.returns-clause-value
 returns-clause-value g c = λ t stands.
@@ -152,12 +143,7 @@ pub returns-clause-kept : goal.returns-clause-kept
 returns-clause-kept g c =
     let t = c.requires.there.0 in
     let stands = c.requires.there.1 in
-    let records = c.args.types.now in
     let text = c.args.text.now.items in
     let name = c.of-key.result.name.now in
-    let middle = text ++ name in
     let now = c.push_definition.new.text.items in
-    let named : c.extend_from_slice.new.self.items ≡ middle = c.in_ok-extend_from_slice.ensures.items in
-    let grown : now ≡ middle ++ definition_text t = rw (← named) (c.in_ok-parts.ensures.value t stands) in
-    let more : now ≡ text ++ (name ++ definition_text t) = grown ∙ append_assoc text name (definition_text t) in
-    (name ++ definition_text t, more)
+    (name ++ definition_text t, grown_by text name c.extend_from_slice.new.self.items now t c.in_ok-extend_from_slice.ensures.items (c.in_ok-parts.ensures.value t stands))
