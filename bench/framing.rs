@@ -58,12 +58,13 @@ fn records() -> Vec<u8> {
 
 fn main() {
     let bytes = records();
-    let ways: [(&str, fn(&[u8], usize) -> Option<Vec<u32>>, usize); 3] = [
+    let ways: [(&str, fn(&[u8], usize) -> Option<Vec<u32>>, usize); 4] = [
         ("two passes, each start", two_passes, 1),
-        ("two passes, every 64th start", two_passes, 64),
+        ("two passes, every 16th start", two_passes, 16),
         ("one pass, every 64th start", one_pass, 64),
+        ("one pass, every 16th start", one_pass, 16),
     ];
-    let mut best = [f64::MAX; 3];
+    let mut best = [f64::MAX; 4];
     for _ in 0..7 {
         for ((_, starts, stride), best) in ways.iter().zip(&mut best) {
             let begin = Instant::now();

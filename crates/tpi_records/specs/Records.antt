@@ -109,13 +109,13 @@ pub record IsFramed (bytes : List ℕ) : Type 0 where
 abbrev pub start_of : List (List ℕ) → ℕ → ℕ
 start_of records position = length (concat (take position records))
 
--- the offsets at which the first `count` of the records 0, 64, 128 and so on begin
+-- the offsets at which the first `count` of the records 0, 16, 32 and so on begin
 abbrev pub starts_below : List (List ℕ) → ℕ → List ℕ
-starts_below records count = map (λ k. start_of records (64 * k)) (range_with_len 0 count)
+starts_below records count = map (λ k. start_of records (16 * k)) (range_with_len 0 count)
 
--- how many of the records 0, 64, 128 and so on there are among this many records
+-- how many of the records 0, 16, 32 and so on there are among this many records
 abbrev pub starts_for : ℕ → ℕ
-starts_for count = (count + 63) / 64
+starts_for count = (count + 15) / 16
 
 -- this is what is kept of records that fill these bytes
 pub record AreRecords (bytes : List ℕ) (count : ℕ) (starts : List ℕ) : Type 0 where
@@ -123,5 +123,5 @@ pub record AreRecords (bytes : List ℕ) (count : ℕ) (starts : List ℕ) : Typ
   pub framed : IsFramed bytes
   -- there are `count` of them
   pub counted : count ≡ length (records_in bytes)
-  -- these are the starts of records 0, 64, 128 and so on
+  -- these are the starts of records 0, 16, 32 and so on
   pub kept : starts ≡ starts_below (records_in bytes) (starts_for count)

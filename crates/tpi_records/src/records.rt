@@ -13,9 +13,9 @@ use std::alloc::{Allocator, Global};
 use std::marker::Model;
 
 /// The last start that is kept at this position or before it: it is that of the record at this
-/// position, or of one at most 63 before it.
+/// position, or of one at most 15 before it.
 fn start_below(starts: &[u32], position: usize) -> Option<usize>
-    ensures { result ≡ slice_get starts.now (position / 64) }
+    ensures { result ≡ slice_get starts.now (position / 16) }
 {
     starts.get(position / STRIDE).map(|start| *start as usize)
 }
@@ -23,7 +23,7 @@ fn start_below(starts: &[u32], position: usize) -> Option<usize>
 /// The type records of a TPI stream, lent from it.
 ///
 /// Made by [`Records::read`]. It keeps a reference to the bytes of the records, and the starts of
-/// records 0, 64, 128 and so on, each in four bytes. A record between two of them is found by
+/// records 0, 16, 32 and so on, each in four bytes. A record between two of them is found by
 /// stepping over those before it. ("The PDB TPI and IPI Streams", "Type Records".)
 #[derive(Debug, Drop)]
 pub struct Records<'a, A: Allocator = Global> {
@@ -56,7 +56,7 @@ impl<'a, A: Allocator + Copy> Records<'a, A> {
     /// 3. `RecordCount`: the header announces another number of records.
     /// 4. `Memory`: out of memory for the starts. All checks passed.
     ///
-    /// Bytes after the records are ignored. This allocates four bytes for every 64 records, as it
+    /// Bytes after the records are ignored. This allocates four bytes for every 16 records, as it
     /// finds them. ("The PDB TPI and IPI Streams", "Type Records".)
     pub fn read(alloc: A, stream: &'a [u8]) -> Result<Records<'a, A>, TpiFault>
         ensures value { IfOk result (HasRecords stream.now) }
@@ -105,10 +105,10 @@ impl<'a, A: Allocator> Records<'a, A> {
         self.bytes.len() as u32
     }
 
-    /// How many starts are kept, each in four bytes: those of records 0, 64, 128 and so on.
+    /// How many starts are kept, each in four bytes: those of records 0, 16, 32 and so on.
     pub fn starts_len(&self) -> usize
         ensures value { result ≡ starts_for (length self.now) }
-        ensures few { result ≤ length (concat self.now) / 256 + 1 }
+        ensures few { result ≤ length (concat self.now) / 64 + 1 }
     {
         self.starts.len()
     }
@@ -122,7 +122,7 @@ impl<'a, A: Allocator> Records<'a, A> {
 
     /// The record at this position, from 0: the whole record, with its length field.
     ///
-    /// `None` where there is no such record. This steps over at most 63 records and does not
+    /// `None` where there is no such record. This steps over at most 15 records and does not
     /// allocate. A [`Cursor`] does not step where positions come one after the other.
     pub fn get(&self, position: usize) -> Option<&'a [u8]>
         ensures value { option_map (λ r. r.now) result ≡ slice_get self.now position }
