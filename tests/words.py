@@ -59,15 +59,27 @@ def kind_and_body(record):
     return number(2, record, 2), record[4:]
 
 
-def name_place(record):
-    """The name of a class, a structure, a union, an interface or an enumeration, and where it ends."""
+def name_start(record):
+    """The body of a class, a structure, a union, an interface or an enumeration, and where its name begins."""
     kind, body = kind_and_body(record)
     _, at = DEFINED[kind]
-    return name_at(body, at if kind == ENUMERATION else numeric(body, at)[1])
+    return body, at if kind == ENUMERATION else numeric(body, at)[1]
+
+
+def name_place(record):
+    """The name of such a record, and where it ends."""
+    return name_at(*name_start(record))
 
 
 def own_name(record):
     return name_place(record)[0]
+
+
+def shown_name(record):
+    """The name as an expression shows it: no NUL is looked for behind its first bytes."""
+    body, at = name_start(record)
+    name = name_at(body, at)[0]
+    return name if at is None or len(body) - at <= LONG else body[at:at + LONG].split(b'\0')[0]
 
 
 def properties_of(record):
@@ -119,7 +131,7 @@ class Expression:
     def tell_record(self, kind, body, record, deep):
         flags = number(4, body, 4)
         if kind in DEFINED:
-            self.put(quoted(own_name(record)))
+            self.put(quoted(shown_name(record)))
         elif kind == 0x1001:
             self.tell_parts(body, deep, ''.join(word * (flags >> bit & 1) for bit, word in enumerate(('const ', 'volatile ', 'unaligned '))), 0)
         elif kind == 0x1002:

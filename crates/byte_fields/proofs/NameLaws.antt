@@ -2,7 +2,6 @@
 use Rattle.std.proofs.Common.{◌≡◌, ◌<◌, ◌+◌, ℕ, suc, Bool, true, false, cond, List, [], ◌∷◌, Some, None, length, take, drop, refl, ◌∙◌, sym, arith}
 use Rattle.std.specs.Prelude.{◌==◌, ◌||◌, not, nat_lt}
 use Rattle.std.specs.List.{list_any, before_first, position_or_len}
-use Rattle.std.proofs.lemmas.List.{drop_all}
 use Rattle.std.proofs.lemmas.List.Sums.{position_or_len_is}
 use Rattle.std.proofs.lemmas.Bool.{lt-ltb, le-ltb, false_from_ne_true}
 use Rattle.bstr.specs.Find.{IsFirstByte, is_byte}
@@ -32,11 +31,6 @@ unfolding name_at has_name
 no_name_here bytes rest offset is none =
     let len = name_len-none (drop offset bytes) (rw is at none) in
     rw (len, le-ltb (length (drop offset bytes)) (length (drop offset bytes)) (omega arith)) refl
-
--- the offset lies past the end
-pub no_name_past : (bytes : List ℕ) (offset : ℕ) → length bytes < offset → name_at bytes offset ≡ None
-unfolding name_at has_name
-no_name_past bytes offset past = let none : drop offset bytes ≡ [] = drop_all offset bytes (omega arith) in rw none refl
 
 -- ---- the same by a test of each byte
 

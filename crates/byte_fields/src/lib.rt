@@ -5,6 +5,7 @@
 //!   [`push_u32`] appends a number in four bytes.
 //! - [`fits`] tells whether a field lies within the bytes.
 //! - [`name_at`] reads a name that a NUL ends. The value is `name_at` of `specs/Name`.
+//!   [`rest_from`] lends the bytes from an offset on.
 //! - `specs/Check` says what "the first check that fails" means. The contract of a reader lists its
 //!   checks in the order in which they are made, and the reader returns the fault of the first
 //!   check that fails. It returns out of memory only where no check fails.
@@ -30,5 +31,5 @@ mod name;
 mod number;
 
 pub use field::fits;
-pub use name::name_at;
+pub use name::{name_at, rest_from};
 pub use number::{push_u32, u16_at, u32_at};

@@ -1,7 +1,9 @@
 //! The rows of a level, each with the bytes by which it is sorted next.
 
-ghost use Rattle.std.specs.Prelude.{◌≡◌, ◌<◌, ◌↔◌, ℕ, IsTrue, drop, get_or};
+ghost use Rattle.std.specs.Prelude.{◌≡◌, ◌<◌, ◌↔◌, ℕ, IsTrue, get_or};
 ghost use Rattle.canonical_list.specs.Rows.{IsKeyed, AreTied, head, key};
+
+use byte_fields::rest_from;
 
 /// How many bytes the head and the key of a row are made of.
 pub const KEYED_BYTES: usize = 12;
@@ -43,13 +45,6 @@ impl Row {
     {
         self.head == other.head && self.key == other.key
     }
-}
-
-/// The bytes from an offset on. There are none past the end.
-fn rest_from(bytes: &[u8], from: usize) -> &[u8]
-    ensures { result.now ≡ drop from bytes.now }
-{
-    &bytes[from.min(bytes.len())..]
 }
 
 /// The first 12 bytes of a text. Zeros stand for the bytes that it lacks.

@@ -1,13 +1,11 @@
 -- Texts that are cut at an end, and grow.
-use Rattle.std.proofs.Common.{◌≡◌, ◌≤◌, ◌<◌, ◌+◌, ◌-◌, ◌^◌, ◌∙◌, ℕ, zero, suc, List, [], ◌∷◌, ◌++◌, length, take, drop, refl, sym, ap, arith, codes}
+use Rattle.std.proofs.Common.{◌≡◌, ◌≤◌, ◌<◌, ◌+◌, ◌-◌, ◌^◌, ◌∙◌, ℕ, zero, suc, List, [], ◌∷◌, ◌++◌, length, take, refl, sym, ap, arith, codes}
 use Rattle.std.proofs.lemmas.Bool.{le-leb, lt-leb}
 use Rattle.std.proofs.Math.Seq.{take-append-add}
-use Rattle.type_texts.specs.Text.{cut}
-use Rattle.std.specs.Prelude.{Result, Ok, Err, OnOk}
+use Rattle.command_texts.specs.Bounded.{cut}
 use Rattle.std.specs.List.{flat_map}
-use Rattle.std.proofs.lemmas.Grind.{flat_map-append}
 use Rattle.command_texts.specs.Text.{quoted, quoted_byte}
-use Rattle.std.proofs.lemmas.List.{take-append-drop, take-append-le, take_all, length-take, length-append, append_assoc}
+use Rattle.std.proofs.lemmas.List.{take_all, length-take, length-append, append_assoc}
 
 -- what is cut, and then grows and is cut again, may as well grow first
 pub take_again : (end : ℕ) (xs ys : List ℕ) → take end (take end xs ++ ys) ≡ take end (xs ++ ys)
@@ -17,6 +15,10 @@ take_again (suc n) (x ∷ xs) ys = ap (λ (zs : List ℕ). x ∷ zs) (take_again
 
 not_below : (n : ℕ) → suc n ≤ 0 → ⊥
 not_below n h = omega (arith, h)
+
+-- a short text is whole
+pub take_whole : (end : ℕ) (xs : List ℕ) → length xs ≤ end → xs ≡ take end xs
+take_whole end xs short = sym (take_all end xs short)
 
 -- as many bytes as there is room for
 pub take_room : (end : ℕ) (xs ys : List ℕ) → length xs ≤ end → xs ++ take (end - length xs) ys ≡ take end (xs ++ ys)
@@ -44,23 +46,6 @@ take_none end old short = sym (take_all end (old ++ []) (omega (arith, short, le
     nothing_more [] = refl
     nothing_more (x ∷ xs) = ap (λ (ys : List ℕ). x ∷ ys) (nothing_more xs)
 
--- a text that has no more room stays as it is
-pub take_full : (end : ℕ) (old a b now : List ℕ) → now ≡ take end (old ++ a) → end ≤ length now → now ≡ take end (old ++ (a ++ b))
-take_full end old a b now is full =
-    is ∙ ap (λ (xs : List ℕ). xs) (sym (take-append-le end (old ++ a) b long)) ∙ ap (λ (xs : List ℕ). take end xs) (append_assoc old a b)
-  where
-    long : end ≤ length (old ++ a)
-    long = omega (arith, full, ap (λ (xs : List ℕ). length xs) is, length-take end (old ++ a))
-
--- the name is cut in its quotes
-pub quoted_full : (end i : ℕ) (old name now : List ℕ) → now ≡ take end (old ++ (34 ∷ flat_map quoted_byte (take i name))) → end ≤ length now → now ≡ take end (old ++ quoted name)
-unfolding quoted
-quoted_full end i old name now is full =
-    take_full end old (34 ∷ flat_map quoted_byte (take i name)) (flat_map quoted_byte (drop i name) ++ 34 ∷ []) now is full
-    ∙ ap (λ (xs : List ℕ). take end (old ++ (34 ∷ xs)))
-    (sym (append_assoc (flat_map quoted_byte (take i name)) (flat_map quoted_byte (drop i name)) (34 ∷ []))
-    ∙ ap (λ (xs : List ℕ). xs ++ 34 ∷ []) (sym (flat_map-append quoted_byte (take i name) (drop i name)) ∙ ap (flat_map quoted_byte) (take-append-drop i name)))
-
 -- the name is whole
 pub quoted_whole : (end : ℕ) (old name now new : List ℕ) → now ≡ take end (old ++ (34 ∷ flat_map quoted_byte name)) → new ≡ take end (now ++ 34 ∷ []) → new ≡ take end (old ++ quoted name)
 unfolding quoted
@@ -75,11 +60,6 @@ pub four_more : (end : ℕ) (old a b c d one two three four : List ℕ) → one 
     → four ≡ take end (old ++ (a ++ b ++ c ++ d))
 four_more end old a b c d one two three four p q r s =
     take_more end old (a ++ b ++ c) d three four (take_more end old (a ++ b) c two three (take_more end old a b one two p q) r) s
-
--- what holds after Ok has what follows from it
-pub on_ok : {A E : Type 0} (P Q : Type 0) (r : Result A E) → (P → Q) → OnOk r P → OnOk r Q
-on_ok P Q (Ok value) from holds = from holds
-on_ok P Q (Err e) from holds = tt
 
 -- the same with more texts
 pub five_more : (end : ℕ) (old a b c d e one two three four five : List ℕ) → one ≡ take end (old ++ a) → two ≡ take end (one ++ b) → three ≡ take end (two ++ c) → four ≡ take end (three ++ d) → five ≡ take end (four ++ e)

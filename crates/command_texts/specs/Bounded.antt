@@ -1,5 +1,11 @@
 -- Texts of bounded length.
-use Rattle.std.specs.Prelude.{ℕ, nat_le, if◌then◌else◌, List, ◌++◌, length, take, codes}
+use Rattle.std.specs.Prelude.{ℕ, ◌≡◌, nat_le, if◌then◌else◌, List, ◌++◌, length, take, codes}
+use Rattle.std.specs.List.{flat_map}
+use Rattle.command_texts.specs.Text.{quoted_byte}
+
+-- these bytes are printed as themselves within quotes
+abbrev pub ArePlain : List ℕ → Type 0
+ArePlain bytes = flat_map quoted_byte bytes ≡ bytes
 
 -- the text as it is shown: whole where it has at most `many` bytes, otherwise its first `many`
 -- bytes and two points

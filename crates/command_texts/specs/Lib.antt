@@ -1,3 +1,4 @@
+pub mod Bounded
 pub mod Check
 pub mod Difference
 pub mod Info

@@ -1,10 +1,13 @@
 //! Texts of bounded length.
 
-ghost use Rattle.std.specs.Prelude.{◌≡◌, ◌≤◌, ◌<◌, ◌++◌, OnOk, length, take};
+ghost use Rattle.std.specs.Prelude.{◌≡◌, ◌≤◌, ◌<◌, ◌++◌, OnOk, IfOk, IsTrue, length, take};
+ghost use Rattle.std.specs.List.{flat_map};
 ghost use Rattle.std.specs.Fmt.{decimal};
 ghost use Rattle.command_texts.specs.Text.{digit, quoted_byte, quoted};
+ghost use Rattle.command_texts.specs.Bounded.{ArePlain};
 
-use command_texts::is_plain;
+use crate::text::is_plain;
+use byte_fields::rest_from;
 use itoa::Buffer;
 use std::alloc::{AllocError, Allocator};
 
@@ -66,7 +69,76 @@ fn push_quoted_byte<A: Allocator>(
     }
 }
 
-/// Appends a text in quotes. It stops as soon as there is no more room.
+/// How many bytes are tested at once.
+const BLOCK: usize = 16;
+
+/// Whether all bytes of a block are printed as themselves within quotes.
+fn is_plain_block(block: &[u8; BLOCK]) -> bool
+    ensures { IsTrue result → ArePlain block.now }
+{
+    let mut plain = true;
+    for byte in block {
+        plain &= is_plain(*byte);
+    }
+    plain
+}
+
+/// How many bytes at the head are printed as themselves within quotes, by whole blocks.
+fn plain_blocks(bytes: &[u8]) -> usize
+    ensures inside { result ≤ length bytes.now }
+    ensures plain { ArePlain (take result bytes.now) }
+{
+    let mut count = 0;
+    'tested: while let Some(block) = rest_from(bytes, count).first_chunk::<BLOCK>() {
+        if !is_plain_block(block) {
+            return count;
+        }
+        count += BLOCK;
+    }
+    count
+}
+
+/// How many bytes at the head are printed as themselves within quotes.
+fn plain_run(bytes: &[u8]) -> usize
+    ensures inside { result ≤ length bytes.now }
+    ensures plain { ArePlain (take result bytes.now) }
+{
+    let blocks = plain_blocks(bytes);
+    let mut count = blocks;
+    for byte in rest_from(bytes, blocks) {
+        if !is_plain(*byte) {
+            return count;
+        }
+        count += 1;
+    }
+    count
+}
+
+/// Appends the plain bytes at the head of a text as they are printed within quotes, and the byte
+/// behind them. The answer is what is left of the text.
+fn push_run<'a, A: Allocator>(
+    text: &mut Vec<u8, A>,
+    end: usize,
+    bytes: &'a [u8],
+) -> Result<&'a [u8], AllocError>
+    requires room { length text.old.items ≤ end }
+    requires some { 0 < length bytes.now }
+    ensures value { IfOk result (λ rest.
+        take end (text.new.items ++ flat_map quoted_byte rest.now)
+        ≡ take end (text.old.items ++ flat_map quoted_byte bytes.now)) }
+    ensures less { IfOk result (λ rest. length rest.now < length bytes.now) }
+    ensures short { OnOk result (length text.new.items ≤ end) }
+{
+    let (plain, rest) = bytes.split_at(plain_run(bytes));
+    push(text, end, plain)?;
+    let Some((byte, rest)) = rest.split_first() else {
+        return Ok(rest);
+    };
+    push_quoted_byte(text, end, *byte)?;
+    Ok(rest)
+}
+
+/// Appends a text in quotes.
 pub fn push_quoted<A: Allocator>(
     text: &mut Vec<u8, A>,
     end: usize,
@@ -77,11 +149,9 @@ pub fn push_quoted<A: Allocator>(
     ensures short { OnOk result (length text.new.items ≤ end) }
 {
     push(text, end, b"\"")?;
-    for byte in name {
-        if text.len() >= end {
-            return Ok(());
-        }
-        push_quoted_byte(text, end, *byte)?;
+    let mut rest = name;
+    'runs: while !rest.is_empty() {
+        rest = push_run(text, end, rest)?;
     }
     push(text, end, b"\"")?;
     Ok(())

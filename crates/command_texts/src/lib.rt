@@ -11,8 +11,8 @@
 //!
 //! Here nothing is read and nothing is refused. The crate `pdb_commands` does both.
 //!
-//! `text` prints numbers and names. Each other module is named for the command whose lines it
-//! makes.
+//! `text` prints numbers and names. [`bounded`] appends them to a text of bytes, as far as it stays
+//! within an end. Each other module is named for the command whose lines it makes.
 //!
 //! # Example
 //!
@@ -30,6 +30,7 @@
 //! ```
 #![tactic(auto)]
 
+pub mod bounded;
 mod check;
 mod difference;
 mod info;

@@ -40,7 +40,7 @@ pub fn push_named<A: Allocator>(
 pub fn is_plain(byte: u8) -> bool
     ensures { result ≡ is_plain byte }
 {
-    (0x20..=0x7E).contains(&byte) && byte != b'"' && byte != b'\\'
+    (0x20 <= byte) & (byte <= 0x7E) & (byte != b'"') & (byte != b'\\')
 }
 
 /// Appends a byte as it is printed within quotes.

@@ -13,7 +13,8 @@
 //! - [`list_places`] checks a record and lists those of its places at which it names another
 //!   record, and not a simple type, in one walk.
 //! - [`type_name`] returns the name of the type, where it has one that can be read. A name that
-//!   can't be read is not a fault.
+//!   can't be read is not a fault. [`from_name`] lends the bytes from where it begins, and looks at
+//!   none of them.
 //! - [`members`] returns the members of a field list, each with its padding.
 //! - [`kind_of`] returns the kind, [`body_of`] the body, and [`leaf_text`] the name of its leaf.
 //! - [`after_numeric`] returns where a numeric leaf ends. [`introduces`] and [`points_to_member`]
@@ -75,7 +76,7 @@ pub use checks::{body_of, check, kind_of};
 pub use fault::LeafFault;
 pub use field_list::{FieldMembers, members};
 pub use leaf::leaf_text;
-pub use name::type_name;
+pub use name::{from_name, type_name};
 pub use named::list_places;
 pub use numeric::after_numeric;
 pub use part::{introduces, points_to_member};

@@ -4,14 +4,15 @@ use Rattle.std.proofs.lemmas.List.{length-append, length-take, length-drop, get_
 use Rattle.std.proofs.lemmas.Slice.{drop-append-drop}
 use Rattle.std.proofs.lemmas.Bool.{cases_eq, eq-eqb, ne_eqb}
 use Rattle.std.proofs.Common.{nat_le, ◌&&◌, codes}
-use Rattle.std.specs.Prelude.{Some}
+use Rattle.std.specs.Prelude.{Option, Some, None}
+use Rattle.std.specs.Option.{option_map_or}
 use Rattle.std.specs.Fmt.{decimal}
 use Rattle.std.proofs.lemmas.Bool.{cases_Bool, leb-true}
 use Rattle.byteorder.specs.Endian.{little_number}
 use Rattle.byte_fields.specs.Name.{name_at, has_name}
 use Rattle.cv_leaves.specs.Attributes.{points_to_member}
 use Rattle.cv_leaves.specs.Leaf.{Leaf, leaf_of, leaves}
-use Rattle.cv_leaves.specs.Name.{name_in, name_of}
+use Rattle.cv_leaves.specs.Name.{name_in, rest_in, from_name, name_of}
 use Rattle.cv_leaves.specs.Numeric.{numeric_len, has_numeric, numeric_end}
 use Rattle.cv_leaves.specs.Part.{part_places, part_end}
 use Rattle.cv_leaves.specs.Checks.{rest_places, places_from}
@@ -32,9 +33,10 @@ use Rattle.cv_leaves.specs.Place.{IsChecked}
 use Rattle.cv_leaves.specs.References.{blanked}
 use Rattle.cv_leaves.proofs.PutLaws.{put_len}
 use Rattle.cv_leaves.proofs.FillLaws.{Fits, fits}
+use Rattle.cv_leaves.proofs.NameLaws.{name_in_rest, name_of_is}
 use Rattle.cv_leaves.proofs.PlaceLaws.{ends_behind}
 use Rattle.cv_leaves.proofs.FilledLaws.{blanked_places, blanked_len, blanked_kind, own_places}
-use Rattle.type_texts.specs.Field.{number_in, numeric_text, own_name}
+use Rattle.type_texts.specs.Field.{number_in, numeric_text, shown_name, told_name, own_name}
 use Rattle.type_texts.specs.Told.{plain_words, told, modifier_words, pointer_words, bit_words}
 
 -- ---- bytes
@@ -164,47 +166,63 @@ pub name_same : (x y : List ℕ) (k : ℕ) → drop k x ≡ drop k y → name_at
 unfolding name_at has_name
 name_same x y k d = rw d refl
 
-pub named_same : (naming : NamePlace) (x y : List ℕ) (k : ℕ) → length x ≡ length y → drop k x ≡ drop k y → name_in (AfterNumeric k) x ≡ name_in (AfterNumeric k) y
-unfolding name_in has_numeric numeric_end number_at
-named_same naming x y k len d =
+-- so do the bytes from where the name begins
+rest_same : (x y : List ℕ) (k : ℕ) → length x ≡ length y → drop k x ≡ drop k y → rest_in (AfterNumeric k) x ≡ rest_in (AfterNumeric k) y
+unfolding rest_in has_numeric numeric_end number_at
+rest_same x y k len d =
     let n = numeric_len (little_number 2 (drop k y)) in
     let later : drop (k + n) x ≡ drop (k + n) y = further x n ∙ ap (λ (xs : List ℕ). drop n xs) d ∙ sym (further y n) in
-    rw (len, d, name_same x y (k + n) later) refl
+    rw (len, d, later) refl
   where
     further : (z : List ℕ) (n : ℕ) → drop (k + n) z ≡ drop n (drop k z)
     further z n = ap (λ (m : ℕ). drop m z) (omega arith) ∙ sym (drop-drop n k z)
 
-same_name_by : (r : List ℕ) (l : Leaf) (naming : NamePlace) → IsChecked r → Some l ≡ leaf_of (kind_of r) → names_behind naming l.rest l.places ≡ true → name_in naming (body_of (blanked r)) ≡ name_in naming (body_of r)
-unfolding name_in
-same_name_by r l Unnamed checked is behind = refl
-same_name_by r l (At k) checked is behind =
-    let both = and_both (is_nothing l.rest) (ends_before k l.places) behind in
-    let ps = first_only r l is (nothing_is l.rest both.0) in
-    name_same (body_of (blanked r)) (body_of r) k (same_rest r k checked (rw ps (all_before k l.places both.1)))
-same_name_by r l (AfterNumeric k) checked is behind =
-    let both = and_both (is_nothing l.rest) (ends_before k l.places) behind in
-    let ps = first_only r l is (nothing_is l.rest both.0) in
-    named_same (AfterNumeric k) (body_of (blanked r)) (body_of r) k (body_len (blanked r) r (blanked_len r checked)) (same_rest r k checked (rw ps (all_before k l.places both.1)))
+-- the name at the head of them, if there are any
+abbrev name_first : Option (List ℕ) → Option (List ℕ)
+name_first from = option_map_or (λ rest. name_at rest 0) from None
 
-name_is : (r : List ℕ) (l : Leaf) → Some l ≡ leaf_of (kind_of r) → name_of r ≡ name_in l.naming (body_of r)
-unfolding name_of
-name_is r l is = rw (← is) refl
+pub named_same : (x y : List ℕ) (k : ℕ) → length x ≡ length y → drop k x ≡ drop k y → name_in (AfterNumeric k) x ≡ name_in (AfterNumeric k) y
+named_same x y k len d = name_in_rest (AfterNumeric k) x ∙ ap name_first (rest_same x y k len d) ∙ sym (name_in_rest (AfterNumeric k) y)
+
+same_from_by : (r : List ℕ) (l : Leaf) (naming : NamePlace) → IsChecked r → Some l ≡ leaf_of (kind_of r) → names_behind naming l.rest l.places ≡ true → rest_in naming (body_of (blanked r)) ≡ rest_in naming (body_of r)
+unfolding rest_in
+same_from_by r l Unnamed checked is behind = refl
+same_from_by r l (At k) checked is behind =
+    let both = and_both (is_nothing l.rest) (ends_before k l.places) behind in
+    let ps = first_only r l is (nothing_is l.rest both.0) in
+    ap (λ (xs : List ℕ). Some xs) (same_rest r k checked (rw ps (all_before k l.places both.1)))
+same_from_by r l (AfterNumeric k) checked is behind =
+    let both = and_both (is_nothing l.rest) (ends_before k l.places) behind in
+    let ps = first_only r l is (nothing_is l.rest both.0) in
+    rest_same (body_of (blanked r)) (body_of r) k (body_len (blanked r) r (blanked_len r checked)) (same_rest r k checked (rw ps (all_before k l.places both.1)))
+
+from_is : (r : List ℕ) (l : Leaf) → Some l ≡ leaf_of (kind_of r) → from_name r ≡ rest_in l.naming (body_of r)
+unfolding from_name
+from_is r l is = rw (← is) refl
 
 behind_told : (kind : ℕ) (l : Leaf) → leaf_of kind ≡ Some l → names_behind l.naming l.rest l.places ≡ true
 unfolding leaf_of
 behind_told kind l is = found_passes (λ k l. names_behind l.naming l.rest l.places) leaves kind l refl is
 
-pub same_named : (r : List ℕ) → IsChecked r → name_of (blanked r) ≡ name_of r
-same_named r checked =
+-- the bytes from where the name begins are those of the record
+same_from : (r : List ℕ) → IsChecked r → from_name (blanked r) ≡ from_name r
+same_from r checked =
     let has = own_places r checked in
     let l = has.leaf in
     let is : Some l ≡ leaf_of (kind_of r) = sym has.kind in
     let blank_is : Some l ≡ leaf_of (kind_of (blanked r)) = is ∙ ap leaf_of (sym (blanked_kind r checked)) in
-    name_is (blanked r) l blank_is ∙ same_name_by r l l.naming checked is (behind_told (kind_of r) l has.kind) ∙ sym (name_is r l is)
+    from_is (blanked r) l blank_is ∙ same_from_by r l l.naming checked is (behind_told (kind_of r) l has.kind) ∙ sym (from_is r l is)
+
+pub same_named : (r : List ℕ) → IsChecked r → name_of (blanked r) ≡ name_of r
+same_named r checked = name_of_is (blanked r) ∙ ap name_first (same_from r checked) ∙ sym (name_of_is r)
 
 pub same_name : (r : List ℕ) → IsChecked r → own_name (blanked r) ≡ own_name r
 unfolding own_name
 same_name r checked = ap name_text (same_named r checked)
+
+same_told_name : (r : List ℕ) → IsChecked r → told_name (blanked r) ≡ told_name r
+unfolding told_name
+same_told_name r checked = ap (λ (from : Option (List ℕ)). name_text (option_map_or shown_name from None)) (same_from r checked)
 
 one_place : (r : List ℕ) → (kind_of r ≡ 0x1001) ⊎ (kind_of r ≡ 0x1205) → places_of r ≡ 0 ∷ []
 unfolding places_of leaf_of rest_places
@@ -258,7 +276,7 @@ choose k n a b c d here other = elim (cases_eq k n) [
   | inr differ ↦ rw (ne_eqb k n differ) other
 ]
 
-plain_same : (x y : List ℕ) → kind_of x ≡ kind_of y → (kind_of y ≡ 0x000A → number_in 2 (body_of x) 0 ≡ number_in 2 (body_of y) 0) → own_name x ≡ own_name y → plain_words x ≡ plain_words y
+plain_same : (x y : List ℕ) → kind_of x ≡ kind_of y → (kind_of y ≡ 0x000A → number_in 2 (body_of x) 0 ≡ number_in 2 (body_of y) 0) → told_name x ≡ told_name y → plain_words x ≡ plain_words y
 unfolding plain_words
 plain_same x y kinds shape name =
     rw kinds
@@ -299,4 +317,4 @@ told_blank r at checked =
     (λ kind. numeric_same (body_of x) (body_of r) 8 len (same_rest r 8 checked (rw (array_places r kind) (omega arith, (omega arith, tt)))))
     (plain_same x r (blanked_kind r checked)
     (λ kind. two_same (body_of x) (body_of r) 0 len (λ k below. same_in_body r 0 k checked (rw (no_place r kind) tt)))
-    (same_name r checked))
+    (same_told_name r checked))

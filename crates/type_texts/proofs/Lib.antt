@@ -1,4 +1,3 @@
-pub mod TakeLaws
 pub mod BranchLaws
 pub mod BlankLaws
 pub mod KindLaws

@@ -9,7 +9,6 @@ use Rattle.byte_fields.specs.Number.{number_at}
 use Rattle.cv_leaves.specs.Numeric.{numeric_len, has_numeric, numeric_end}
 use Rattle.cv_leaves.specs.Member.{Member, members, member_of, member_places}
 use Rattle.cv_leaves.specs.FieldList.{indices_of, IsWholeMember, DifferInIndices}
-use Rattle.cv_leaves.specs.declared.leaf.NamePlace.TheVariants.{Unnamed}
 use Rattle.cv_leaves.proofs.TestLaws.{found_passes}
 use Rattle.command_texts.specs.Types.{quoted_name}
 use Rattle.type_texts.specs.Field.{number_in, numeric_text}
@@ -103,8 +102,8 @@ member_name_same : (m o : List ℕ) → DifferInIndices m o → member_name o �
 unfolding member_name member_of
 member_name_same m o d =
     rw (kind_same m o d, attributes_same m o d)
-    (choose (member_kind m) 0x1502 _ _ _ _ (λ is. named_same Unnamed o m 4 d.long (rest_same m o 0x1502 4 d (λ e. cc) is (omega arith)))
-    (choose (member_kind m) 0x150D _ _ _ _ (λ is. named_same Unnamed o m 8 d.long (rest_same m o 0x150D 8 d (λ e. cc) is (omega arith)))
+    (choose (member_kind m) 0x1502 _ _ _ _ (λ is. named_same o m 4 d.long (rest_same m o 0x1502 4 d (λ e. cc) is (omega arith)))
+    (choose (member_kind m) 0x150D _ _ _ _ (λ is. named_same o m 8 d.long (rest_same m o 0x150D 8 d (λ e. cc) is (omega arith)))
     (choose (member_kind m) 0x150E _ _ _ _ (λ is. name_same o m 8 (rest_same m o 0x150E 8 d (λ e. cc) is (omega arith)))
     (choose (member_kind m) 0x150F _ _ _ _ (λ is. name_same o m 8 (rest_same m o 0x150F 8 d (λ e. cc) is (omega arith)))
     (choose (member_kind m) 0x1510 _ _ _ _ (λ is. name_same o m 8 (rest_same m o 0x1510 8 d (λ e. cc) is (omega arith)))

@@ -1,4 +1,5 @@
 -- The words of a type depend on nothing but the type, and there are words.
+use Rattle.std.specs.Prelude.{Result, Ok, Err, OnOk}
 use Rattle.std.proofs.Common.{◌≡◌, codes, ◌+◌, ◌-◌, ◌∙◌, ℕ, List, refl, sym, ap, subst, arith, inl, inr}
 use Rattle.std.proofs.lemmas.Bool.{cases_lt}
 use Rattle.tpi_records.specs.Header.{first_index}
@@ -25,3 +26,8 @@ words_exist records deep to types inside = elim (cases_lt to first_index) [
       let t = one_tree_each records types (to - first_index) (omega (arith, large, inside)) in
       (expression deep t.0, inr (large, t.0, t.2, refl))
 ]
+
+-- what holds after Ok has what follows from it
+pub on_ok : {A E : Type 0} (P Q : Type 0) (r : Result A E) → (P → Q) → OnOk r P → OnOk r Q
+on_ok P Q (Ok value) from holds = from holds
+on_ok P Q (Err e) from holds = tt

@@ -1,9 +1,11 @@
 -- The fields of a record that its text shows. An offset is one in the body of the record.
-use Rattle.std.specs.Prelude.{ℕ, ◌+◌, ◌-◌, ◌==◌, nat_le, nat_lt, if◌then◌else◌, List, ◌∷◌, Option, Some, None, length, codes}
+use Rattle.std.specs.Prelude.{ℕ, ◌+◌, ◌-◌, ◌==◌, nat_le, nat_lt, if◌then◌else◌, List, ◌∷◌, Option, Some, None, length, take, codes}
+use Rattle.std.specs.Option.{option_map_or, option_or}
 use Rattle.std.specs.Fmt.{decimal}
+use Rattle.byte_fields.specs.Name.{name_at}
 use Rattle.byte_fields.specs.Number.{number_at}
 use Rattle.cv_leaves.specs.Numeric.{has_numeric}
-use Rattle.cv_leaves.specs.Name.{name_of}
+use Rattle.cv_leaves.specs.Name.{from_name, name_of}
 use Rattle.command_texts.specs.Text.{quoted}
 
 -- the number of `count` bytes at an offset of a body, or 0 where it does not fit
@@ -36,6 +38,17 @@ unfoldable pub name_text : Option (List ℕ) → List ℕ
 name_text None = codes "?"
 name_text (Some name) = quoted name
 
--- the name of the type that a record describes, in quotes
+-- the name at the head of these bytes, as far as it is shown: where the first 400 have no NUL,
+-- and more follow, it is these 400
+unfoldable pub shown_name : List ℕ → Option (List ℕ)
+shown_name bytes =
+    option_or (name_at (take 400 bytes) 0)
+    (if nat_lt 400 (length bytes) then Some (take 400 bytes) else None)
+
+-- the name of the type that a record describes, as far as it is shown, in quotes
+unfoldable pub told_name : List ℕ → List ℕ
+told_name r = name_text (option_map_or shown_name (from_name r) None)
+
+-- the whole name of the type that a record describes, in quotes
 unfoldable pub own_name : List ℕ → List ℕ
 own_name r = name_text (name_of r)

@@ -1,4 +1,3 @@
-pub mod Text
 pub mod Field
 pub mod Simple
 pub mod Told

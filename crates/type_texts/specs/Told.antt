@@ -3,7 +3,7 @@ use Rattle.std.specs.Prelude.{ℕ, ◌+◌, ◌-◌, ◌/◌, ◌%◌, ◌==◌,
 use Rattle.std.specs.Fmt.{decimal}
 use Rattle.cv_leaves.specs.Attributes.{points_to_member}
 use Rattle.cv_leaves.specs.Checks.{kind_of, places_of, body_of}
-use Rattle.type_texts.specs.Field.{number_in, numeric_text, own_name}
+use Rattle.type_texts.specs.Field.{number_in, numeric_text, told_name}
 
 -- texts one after the other: the first one after `before`, each other one after the separator
 abbrev pub strung : List ℕ → List ℕ → List (List ℕ) → List ℕ
@@ -56,7 +56,7 @@ plain_words b =
     else if kind == 0x000E then codes "label"
     else if kind == 0x1203 then codes "fields"
     else if kind == 0x151D then codes "virtual table"
-    else own_name b
+    else told_name b
 
 -- the words of a record, where `at` gives the text at each of its places
 unfoldable pub told : List ℕ → (ℕ → List ℕ) → List ℕ

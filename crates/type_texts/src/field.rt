@@ -1,13 +1,13 @@
 //! The fields of a body that a text shows.
 
-ghost use Rattle.std.specs.Prelude.{◌≡◌, ◌≤◌, ◌<◌, ◌+◌, ◌^◌, ◌++◌, OnOk, length, take};
+ghost use Rattle.std.specs.Prelude.{◌≡◌, ◌≤◌, ◌<◌, ◌+◌, ◌^◌, ◌++◌, OnOk, length, take, option_map};
 ghost use Rattle.tpi_records.specs.Records.{IsRecord};
-ghost use Rattle.type_texts.specs.Field.{number_in, numeric_text, own_name, signed};
+ghost use Rattle.type_texts.specs.Field.{number_in, numeric_text, name_text, shown_name, told_name, own_name, signed};
 
-use crate::text::{FREE, push, push_number, push_quoted};
-use byte_fields::{fits, u16_at, u32_at};
+use byte_fields::{fits, name_at, u16_at, u32_at};
 use byteorder::{ByteOrder, LittleEndian};
-use cv_leaves::type_name;
+use command_texts::bounded::{FREE, push, push_number, push_quoted};
+use cv_leaves::{from_name, type_name};
 use std::alloc::{AllocError, Allocator};
 
 /// The byte at an offset, or 0 where it does not fit.
@@ -56,7 +56,7 @@ pub fn u64_in(body: &[u8], at: usize) -> u64
 
 /// Appends a number in two's complement. `half` is the lowest number that stands for a negative
 /// one.
-#[tactic(auto, using(crate::proofs::TakeLaws::take_more), unfolding(crate::specs::Field::signed))]
+#[tactic(auto, using(command_texts::proofs::TakeLaws::take_more), unfolding(crate::specs::Field::signed))]
 fn push_signed<A: Allocator>(
     text: &mut Vec<u8, A>,
     end: usize,
@@ -117,9 +117,55 @@ pub fn push_numeric<A: Allocator>(
     }
 }
 
-/// Appends the name of the type that a record describes, in quotes, or a question mark.
-#[tactic(auto, unfolding(crate::specs::Field::own_name, crate::specs::Field::name_text))]
-pub fn push_own_name<A: Allocator>(
+/// Appends a name in quotes, or a question mark.
+#[tactic(auto, unfolding(crate::specs::Field::name_text))]
+fn push_name<A: Allocator>(
+    text: &mut Vec<u8, A>,
+    end: usize,
+    name: Option<&[u8]>,
+) -> Result<(), AllocError>
+    requires { length text.old.items ≤ end }
+    ensures value { OnOk result
+        (text.new.items
+        ≡ take end (text.old.items ++ name_text (option_map (λ bytes. bytes.now) name.entry))) }
+    ensures short { OnOk result (length text.new.items ≤ end) }
+{
+    match name {
+        Some(name) => push_quoted(text, end, name),
+        None => push(text, end, b"?"),
+    }
+}
+
+/// How many bytes of a name are shown.
+const SHOWN: usize = 400;
+
+/// The bytes that are looked at for a name.
+fn first_bytes(bytes: &[u8]) -> &[u8]
+    ensures { result.now ≡ take 400 bytes.now }
+{
+    match bytes.first_chunk::<SHOWN>() {
+        Some(first) => first,
+        None => bytes,
+    }
+}
+
+/// The name at the head of these bytes, as far as it is shown.
+#[tactic(auto, unfolding(crate::specs::Field::shown_name))]
+fn shown_name(bytes: &[u8]) -> Option<&[u8]>
+    ensures { option_map (λ name. name.now) result ≡ shown_name bytes.now }
+{
+    let first = first_bytes(bytes);
+    match name_at(first, 0) {
+        Some(name) => Some(name),
+        None if SHOWN < bytes.len() => Some(first),
+        None => None,
+    }
+}
+
+/// Appends the name of the type that a record describes, as far as it is shown, in quotes, or a
+/// question mark. It looks at no byte of a name behind those.
+#[tactic(auto, unfolding(crate::specs::Field::told_name))]
+pub fn push_told_name<A: Allocator>(
     text: &mut Vec<u8, A>,
     end: usize,
     record: &[u8],
@@ -127,13 +173,14 @@ pub fn push_own_name<A: Allocator>(
     requires room { length text.old.items ≤ end }
     requires framed { IsRecord «record».now }
     ensures value { OnOk result
-        (text.new.items ≡ take end (text.old.items ++ own_name «record».now)) }
+        (text.new.items ≡ take end (text.old.items ++ told_name «record».now)) }
     ensures short { OnOk result (length text.new.items ≤ end) }
 {
-    match type_name(record) {
-        Some(name) => push_quoted(text, end, name),
-        None => push(text, end, b"?"),
-    }
+    let name = match from_name(record) {
+        Some(bytes) => shown_name(bytes),
+        None => None,
+    };
+    push_name(text, end, name)
 }
 
 /// Appends the whole value of the numeric leaf at an offset of a body, or a question mark.
@@ -150,10 +197,11 @@ pub fn add_numeric<A: Allocator>(
 }
 
 /// Appends the whole name of the type that a record describes, in quotes, or a question mark.
+#[tactic(auto, unfolding(crate::specs::Field::own_name))]
 pub fn add_own_name<A: Allocator>(text: &mut Vec<u8, A>, record: &[u8]) -> Result<(), AllocError>
     requires { IsRecord «record».now }
     ensures { OnOk result (text.new.items ≡ text.old.items ++ own_name «record».now) }
 {
-    push_own_name(text, FREE, record)?;
+    push_name(text, FREE, type_name(record))?;
     Ok(())
 }

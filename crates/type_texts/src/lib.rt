@@ -47,7 +47,6 @@ mod lines;
 mod lists;
 mod member;
 mod simple;
-mod text;
 mod told;
 
 pub use asked::{Asked, Found, Query};

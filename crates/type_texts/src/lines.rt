@@ -11,12 +11,12 @@ ghost use Rattle.type_texts.specs.Expression.{IsTold};
 ghost use Rattle.type_texts.specs.Field.{number_in};
 ghost use Rattle.type_texts.specs.Lines.{GoOn, lines_text, own_lines, rest_lines};
 ghost use Rattle.type_texts.specs.Member.{member_line, names_type};
-ghost use Rattle.type_texts.specs.Text.{cut};
+ghost use Rattle.command_texts.specs.Bounded.{cut};
 
 use crate::field::{u16_in, u32_in};
 use crate::member::push_member;
-use crate::text::add;
 use checked_types::Types;
+use command_texts::bounded::add;
 use cv_leaves::members;
 use std::alloc::{AllocError, Allocator};
 use tpi_records::FIRST_INDEX;

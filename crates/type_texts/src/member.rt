@@ -5,13 +5,13 @@ ghost use Rattle.command_texts.specs.Types.{quoted_name};
 ghost use Rattle.type_texts.specs.Expression.{IsTold};
 ghost use Rattle.type_texts.specs.Field.{number_in};
 ghost use Rattle.type_texts.specs.Member.{access_words, method_words, second_numeric, place_words, what_words, member_name, names_type, member_line};
-ghost use Rattle.type_texts.specs.Text.{cut};
+ghost use Rattle.command_texts.specs.Bounded.{cut};
 
 use crate::expression::push_type;
 use crate::field::{add_numeric, u16_in, u32_in};
-use crate::text::{add, add_number, add_quoted};
 use byte_fields::name_at;
 use checked_types::Types;
+use command_texts::bounded::{add, add_number, add_quoted};
 use cv_leaves::{after_numeric, introduces};
 use std::alloc::{AllocError, Allocator};
 

@@ -1,9 +1,12 @@
-use Rattle.std.proofs.Common.{rules, ◌<◌, ◌-◌, ◌^◌, ◌++◌, length}
-use Rattle.type_texts.specs.Field.{own_name}
-use Rattle.type_texts.proofs.TakeLaws.{free}
+use Rattle.std.proofs.Common.{rules, ◌<◌, ◌-◌, ◌^◌, ◌++◌, ◌∙◌, length, ap}
+use Rattle.std.specs.Prelude.{option_map}
+use Rattle.type_texts.specs.Field.{name_text, own_name}
+use Rattle.command_texts.proofs.TakeLaws.{free}
 use Rattle.type_texts.proofs.field.add_own_name.Goals as goal
 
 pub returns : goal.returns
+unfolding own_name
 returns g c =
-    let short : length c.push_own_name.new.text.items < 2 ^ 64 - 1 = search rules in
-    free c.push_own_name.new.text.items (c.args.text.now.items ++ own_name c.args.record.now) short c.in_ok-push_own_name.ensures.value
+    let short : length c.push_name.new.text.items < 2 ^ 64 - 1 = search rules in
+    free c.push_name.new.text.items (c.args.text.now.items ++ name_text (option_map (λ bytes. bytes.now) c.type_name.result)) short c.in_ok-push_name.ensures.value
+    ∙ ap (λ name. c.args.text.now.items ++ name_text name) c.type_name.ensures

@@ -1,8 +1,8 @@
 use Rattle.std.proofs.Common.{rules, ◌≡◌, true}
-use Rattle.type_texts.specs.Text.{cut}
+use Rattle.command_texts.specs.Bounded.{cut}
 use Rattle.type_texts.specs.Member.{names_type}
 use Rattle.type_texts.specs.Expression.{IsTold}
-use Rattle.type_texts.proofs.TakeLaws.{on_ok}
+use Rattle.type_texts.proofs.TellLaws.{on_ok}
 use Rattle.type_texts.proofs.MemberLaws.{lined}
 use Rattle.type_texts.proofs.member.push_member.Goals as goal
 

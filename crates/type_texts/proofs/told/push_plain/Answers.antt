@@ -3,7 +3,8 @@ use Rattle.std.specs.Fmt.{decimal}
 use Rattle.cv_leaves.specs.Checks.{kind_of, body_of}
 use Rattle.type_texts.specs.Field.{number_in}
 use Rattle.type_texts.proofs.KindLaws.{plain-shape, plain-label, plain-table}
-use Rattle.type_texts.proofs.TakeLaws.{take_more, on_ok}
+use Rattle.command_texts.proofs.TakeLaws.{take_more}
+use Rattle.type_texts.proofs.TellLaws.{on_ok}
 use Rattle.type_texts.proofs.told.push_plain.Goals as goal
 
 pub returns-in_ok-push-in-10-clause-value : goal.returns-in_ok-push-in-10-clause-value

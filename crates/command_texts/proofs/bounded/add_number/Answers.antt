@@ -1,7 +1,7 @@
 use Rattle.std.proofs.Common.{rules, ◌<◌, ◌-◌, ◌^◌, ◌++◌, length}
 use Rattle.std.specs.Fmt.{decimal}
-use Rattle.type_texts.proofs.TakeLaws.{free}
-use Rattle.type_texts.proofs.text.add_number.Goals as goal
+use Rattle.command_texts.proofs.TakeLaws.{free}
+use Rattle.command_texts.proofs.bounded.add_number.Goals as goal
 
 pub returns : goal.returns
 returns g c =

@@ -1,0 +1,37 @@
+-- Bytes that are printed as themselves within quotes.
+use Rattle.std.proofs.Common.{◌≡◌, ◌≤◌, ◌+◌, ◌∙◌, ℕ, List, [], ◌∷◌, ◌++◌, length, take, drop, refl, sym, ap, arith}
+use Rattle.std.specs.List.{flat_map}
+use Rattle.std.proofs.lemmas.Grind.{flat_map-append}
+use Rattle.std.proofs.lemmas.List.{take-append-drop, append_assoc}
+use Rattle.std.proofs.Math.Seq.{take-add}
+use Rattle.command_texts.specs.Text.{quoted_byte}
+use Rattle.command_texts.specs.Bounded.{ArePlain}
+use Rattle.command_texts.proofs.TakeLaws.{take_again, take_none, take_more}
+
+-- a block more is plain
+pub block_more : (bytes rest block : List ℕ) (count many : ℕ) → rest ≡ drop count bytes → block ≡ take many rest → ArePlain (take count bytes) → ArePlain block → ArePlain (take (count + many) bytes)
+block_more bytes rest block count many from first before plain =
+    let is : take (count + many) bytes ≡ take count bytes ++ block = take-add count many bytes ∙ ap (λ (xs : List ℕ). take count bytes ++ xs) (sym (first ∙ ap (take many) from)) in
+    rw is (flat_map-append quoted_byte (take count bytes) block ∙ rw (before, plain) refl)
+
+-- the plain bytes at the head are appended, and the byte behind them; what is left of the text
+-- would be cut alike
+pub run_pushed : (end k byte : ℕ) (old bytes plain rest one two : List ℕ) → plain ≡ take k bytes → drop k bytes ≡ byte ∷ rest → ArePlain (take k bytes) → one ≡ take end (old ++ plain) → two ≡ take end (one ++ quoted_byte byte)
+    → take end (two ++ flat_map quoted_byte rest) ≡ take end (old ++ flat_map quoted_byte bytes)
+run_pushed end k byte old bytes plain rest one two front back are first second =
+    let quote : List ℕ → List ℕ = flat_map quoted_byte in
+    let both : two ≡ take end (old ++ (plain ++ quoted_byte byte)) = take_more end old plain (quoted_byte byte) one two first second in
+    let text : (plain ++ quoted_byte byte) ++ quote rest ≡ quote bytes =
+    append_assoc plain (quoted_byte byte) (quote rest)
+    ∙ ap (λ (xs : List ℕ). xs ++ (quoted_byte byte ++ quote rest)) (front ∙ sym are)
+    ∙ ap (λ (xs : List ℕ). quote (take k bytes) ++ quote xs) (sym back)
+    ∙ sym (flat_map-append quoted_byte (take k bytes) (drop k bytes))
+    ∙ ap quote (take-append-drop k bytes) in
+    ap (λ (xs : List ℕ). take end (xs ++ quote rest)) both
+    ∙ take_again end (old ++ (plain ++ quoted_byte byte)) (quote rest)
+    ∙ ap (λ (xs : List ℕ). take end xs) (append_assoc old (plain ++ quoted_byte byte) (quote rest) ∙ ap (λ (xs : List ℕ). old ++ xs) text)
+
+-- nothing is left of the text
+pub none_left : (end : ℕ) (now rest whole : List ℕ) → length now ≤ end → length rest ≡ 0 → take end (now ++ flat_map quoted_byte rest) ≡ take end whole → now ≡ take end whole
+none_left end now [] whole short none left = take_none end now short ∙ left
+none_left end now (byte ∷ rest) whole short none left = absurd (omega (arith, none))
