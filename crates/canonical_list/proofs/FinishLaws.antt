@@ -1,14 +1,11 @@
 -- How a table's canonical list is made, level by level.
-use Rattle.std.proofs.Common.{◌≡◌, ◌≢◌, ◌≤◌, ◌<◌, ◌%◌, ◌^◌, ◌+◌, ◌-◌, ℕ, true, zero, suc, Option, Some, None, List, [], ◌∷◌, ◌++◌, length, map, take, drop, get_or, refl, sym, ap, ◌∙◌, subst, arith, inl, inr, length-append}
-use Rattle.std.proofs.lemmas.Bool.{cases_lt, cases_order}
-use Rattle.std.proofs.lemmas.List.{get_or_default, get_or_append_left, drop_more, drop-drop, ext_get_or, take-append-drop, take_at, map-append, map-id, map_push, length-map, get_or-map}
-use Rattle.std.proofs.lemmas.List.FromFn.{get_or-map-range_with_len, get_or-range_with_len, length-map-range_with_len, length-range_with_len, map-range_with_len_more}
-use Rattle.std.proofs.lemmas.List.Elements.{All-head, All-tail, Contains-get_or, Contains-append_left, Contains-append_right}
+use Rattle.std.proofs.Common.{◌≡◌, ◌≢◌, ◌≤◌, ◌<◌, ◌^◌, ◌+◌, ◌-◌, ℕ, suc, Option, Some, None, List, [], ◌∷◌, ◌++◌, length, map, set, take, get_or, refl, sym, ap, ◌∙◌, subst, arith, append_assoc, inl, inr, length-append}
+use Rattle.std.proofs.lemmas.Bool.{cases_eq, cases_lt, cases_order}
+use Rattle.std.proofs.lemmas.List.{get_or_default, get_or_append_left, ext_get_or, length-take-le, map-append, map_push, take_more, length-map, length-set, get_or-map, get_or-set_same, get_or-set_other}
+use Rattle.std.proofs.lemmas.List.Elements.{All-append, All-push, Contains-get_or, Contains-append_left, Contains-append_right}
 use Rattle.std.proofs.lemmas.List.Quantifiers.{all_pairs_push}
-use Rattle.std.proofs.lemmas.List.Sorted.{Contains-permutation, IsPermutation-map, IsPermutation-sym}
+use Rattle.std.proofs.lemmas.List.Sorted.{All-permutation, Contains-permutation, IsPermutation-sym}
 use Rattle.std.proofs.lemmas.Map.Keys.{IsDistinct-IsPermutation}
-use Rattle.std.proofs.lemmas.Map.Steps.{length-le_from_distinct_below}
-use Rattle.std.proofs.lemmas.Map.Views.{Contains-from_any}
 use Rattle.std.proofs.lemmas.Map.Made.{AllPairs-from_IsDistinct, IsDistinct-from_AllPairs}
 use Rattle.std.proofs.lemmas.Bool.Decides.{Decides-eqb, eqb_tells}
 use Rattle.std.specs.declared.cmp.Ordering.TheVariants.{Greater}
@@ -16,24 +13,37 @@ use Rattle.std.specs.Ordering.{nat_cmp}
 use Rattle.std.specs.Cmp.Lexicographic.{slice_cmp}
 use Rattle.std.proofs.Math.Seq.{get_or-append_seam}
 use Rattle.std.specs.Prelude.{IfSome, IfNone, ◌==◌}
-use Rattle.std.specs.List.{All, AllByRecursion, AllPairs, Contains, concat, range_with_len}
+use Rattle.std.specs.List.{All, AllByRecursion, AllPairs, Contains, concat}
 use Rattle.std.specs.List.Sorted.{IsPermutation}
+use Rattle.packed_texts.specs.PackedTexts.{texts_at, IsOrder}
 use Rattle.text_set.proofs.TextSetLaws.{four_each}
+use Rattle.record_set.specs.RecordSet.{HasNamedPlaces}
+use Rattle.record_set.proofs.PlaceLaws.{places_at}
+use Rattle.cv_leaves.specs.Place.{IsChecked}
+use Rattle.cv_leaves.specs.References.{references}
 use Rattle.closed_trees.specs.Tree.{Tree, IsType, NamesLower}
 use Rattle.closed_trees.specs.Depth.{AreDepths, HasLevels}
 use Rattle.closed_trees.specs.Canon.{text, texts, Canonical}
-use Rattle.closed_trees.specs.Table.{IsTable, AreNumbered, renumbered, HoldsBelow}
+use Rattle.closed_trees.specs.Table.{IsTable, AreNumbered, renumbered}
 use Rattle.canonical_list.specs.Links.{NoneFrom}
 use Rattle.canonical_list.specs.declared.row.Row.{Row}
-use Rattle.canonical_list.specs.Rows.{row, nths, row_bytes, row_positions, AreInOrder, Numbers}
-use Rattle.canonical_list.specs.Finish.{ListsBelow, AtLevel, Numbered, IsCanonOf}
-use Rattle.closed_trees.proofs.WeightLaws.{concat_push, weight-none, weight_of_texts}
+use Rattle.canonical_list.specs.Rows.{row, positions, AreInOrder, HasHead, HaveHeads}
+use Rattle.canonical_list.specs.Finish.{AtLevel, Numbered, CanRenumber, RowsMade, IsCanonOf}
+use Rattle.closed_trees.proofs.WeightLaws.{weight-none, weight_of_texts}
 use Rattle.closed_trees.proofs.RenumberLaws.{renumbered_long}
-use Rattle.closed_trees.proofs.NextLaws.{in_range}
+use Rattle.closed_trees.proofs.NextLaws.{HoldsBelow, in_range, table_weighs_all}
 use Rattle.canonical_list.proofs.LinkLaws.{bound}
-use Rattle.canonical_list.proofs.RowLaws.{rows_continue, numbers_continue, AreRows, LevelOf}
+use Rattle.canonical_list.proofs.RowLaws.{rows_continue, numbers_continue, AreRows, LevelOf, Numbers}
 use Rattle.closed_trees.proofs.ReadLaws.{weight-many}
 use Rattle.tpi_records.specs.Header.{first_index}
+
+-- `out` is the canonical list of those types of r that are less deep than d, and f gives the position of each in it
+pub record ListsBelow (r : List (List ℕ)) (d : ℕ) (out : List (List ℕ)) (f : ℕ → ℕ) : Type 0 where
+  pub trees : List Tree
+  pub canonical : Canonical trees
+  pub holds : HoldsBelow r d trees
+  pub are : out ≡ texts trees
+  pub numbers : Numbers r d trees f
 
 -- a table of fewer than 2^32 bytes has few records
 pub table_small : (r : List (List ℕ)) → IsTable r → length (concat r) < 2 ^ 32 → length r < 2 ^ 30
@@ -95,42 +105,84 @@ all_collected depths d ps h = record {
   distinct = h.distinct;
 }
 
--- ---- The bytes of rows
+-- ---- Records that become rows where they lie
 
-drop_none : (n : ℕ) → drop {A = List ℕ} n [] ≡ []
-drop_none zero = refl
-drop_none (suc n) = refl
+pub row_is : (r : List (List ℕ)) (f : ℕ → ℕ) (i : ℕ) → row r f i ≡ renumbered f (get_or r i [])
+unfolding row
+row_is r f i = refl
 
-shorter : (r : List (List ℕ)) (more : ℕ) → length (concat (drop more r)) ≤ length (concat r)
-shorter [] more = rw (drop_none more) (omega arith)
-shorter (x ∷ r) zero = omega arith
-shorter (x ∷ r) (suc more) = omega (arith, shorter r more, length-append x (concat r))
+-- nothing is done yet
+pub rows_none : (r : List (List ℕ)) (f : ℕ → ℕ) → RowsMade r r f []
+rows_none r f = record {
+  rows = λ k d inside. absurd (omega (arith, inside));
+  others = λ k none. refl;
+  many = refl;
+  long = λ k. refl;
+}
 
--- the records from a later position on have no more bytes
-later_short : (r : List (List ℕ)) (from position : ℕ) → from ≤ position → length (concat (drop position r)) ≤ length (concat (drop from r))
-later_short r from position le =
-    let far : position ≡ from + (position - from) = omega (arith, le) in
-    let same : drop position r ≡ drop (position - from) (drop from r) = ap (λ (n : ℕ). drop n r) far ∙ sym (drop-drop (position - from) from r) in
-    omega (arith, shorter (drop from r) (position - from), ap (λ (x : List (List ℕ)). length (concat x)) same)
+-- a record before those that are done is as it was
+pub row_untouched : (before now : List (List ℕ)) (f : ℕ → ℕ) (ps : List ℕ) (position : ℕ) → RowsMade before now f ps → ((k : ℕ) → k < length ps → position < get_or ps k 0) → get_or now position [] ≡ get_or before position []
+row_untouched before now f ps position made later = made.others position (λ c.
+    let at : get_or ps c.0 0 ≡ position = get_or_default ps c.0 0 position c.1 ∙ c.2 in
+    omega (arith, later c.0 c.1, at))
 
-concat_both : (xs ys : List (List ℕ)) → length (concat (xs ++ ys)) ≡ length (concat xs) + length (concat ys)
-concat_both [] ys = omega arith
-concat_both (x ∷ xs) ys = omega (arith, length-append x (concat (xs ++ ys)), length-append x (concat xs), concat_both xs ys)
+-- a record that becomes its row now
+pub row_put : (before now : List (List ℕ)) (f : ℕ → ℕ) (ps : List ℕ) (position : ℕ) → RowsMade before now f ps → position < length before → ((k : ℕ) → k < length ps → position < get_or ps k 0)
+    → get_or (set now position (renumbered f (get_or now position []))) position [] ≡ row before f position
+row_put before now f ps position made inside later =
+    let x : List ℕ = renumbered f (get_or now position []) in
+    get_or-set_same now position x [] (omega (arith, inside, made.many)) ∙ ap (renumbered f) (row_untouched before now f ps position made later) ∙ sym (row_is before f position)
 
--- the rows have no more bytes than the records that are collected, when a row is added
-pub rows_short : (r rows : List (List ℕ)) (y : List ℕ) (from position : ℕ) → length (concat rows) ≤ length (concat (drop (position + 1) r)) → from ≤ position → position < length r → length y ≡ length (get_or r position [])
-    → length (concat (rows ++ y ∷ [])) ≤ length (concat (drop from r))
-rows_short r rows y from position short low inside same =
-    let here : length (concat (drop position r)) ≡ length (get_or r position []) + length (concat (drop (position + 1) r)) =
-    ap (λ (x : List (List ℕ)). length (concat x)) (drop_more r position [] inside) ∙ length-append (get_or r position []) (concat (drop (position + 1) r)) in
-    omega (arith, concat_push rows y, short, same, here, later_short r from position low)
+-- one more record becomes its row
+pub rows_more : (before now : List (List ℕ)) (f : ℕ → ℕ) (ps : List ℕ) (position : ℕ) → RowsMade before now f ps → position < length before → ((k : ℕ) → k < length ps → position < get_or ps k 0) → IsChecked (get_or before position [])
+    → RowsMade before (set now position (renumbered f (get_or now position []))) f (ps ++ position ∷ [])
+rows_more before now f ps position made inside later checked =
+    let still : get_or now position [] ≡ get_or before position [] = row_untouched before now f ps position made later in
+    let x : List ℕ = renumbered f (get_or now position []) in
+    let after : List (List ℕ) = set now position x in
+    let here : get_or after position [] ≡ x = get_or-set_same now position x [] (omega (arith, inside, made.many)) in
+    record {
+      rows = All-push (λ p. get_or after p [] ≡ row before f p) ps position
+          (λ k d k_in.
+          let p : ℕ = get_or ps k d in
+          let same : p ≡ get_or ps k 0 = get_or_default ps k d 0 k_in in
+          get_or-set_other now position p x [] (λ e. omega (arith, later k k_in, e, same)) ∙ made.rows k d k_in)
+          (row_put before now f ps position made inside later);
+      others = λ k none.
+          get_or-set_other now position k x [] (λ e. none (Contains-append_right ps (position ∷ []) k (0, omega arith, sym e)))
+          ∙ made.others k (λ c. none (Contains-append_left ps (position ∷ []) k c));
+      many = length-set now position x ∙ made.many;
+      long = λ k. elim (cases_eq k position) [
+        | inl same ↦ rw (same, here) (renumbered_long f (get_or now position []) (rw still checked) ∙ ap length still)
+        | inr apart ↦ ap length (get_or-set_other now position k x [] apart) ∙ made.long k
+      ];
+    }
 
--- the rows have space for the next one
-pub rows_few : (r rows : List (List ℕ)) (position : ℕ) → length (concat rows) ≤ length (concat (drop (position + 1) r)) → length (concat r) < 2 ^ 32 → position < length r → length (concat rows) + length (get_or r position []) < 2 ^ 34
-rows_few r rows position short small inside =
-    let here : length (concat (drop position r)) ≡ length (get_or r position []) + length (concat (drop (position + 1) r)) =
-    ap (λ (x : List (List ℕ)). length (concat x)) (drop_more r position [] inside) ∙ length-append (get_or r position []) (concat (drop (position + 1) r)) in
-    omega (arith, short, small, here, shorter r position)
+-- a record that is as it was can still become its row
+pub still_ready : (before now places : List (List ℕ)) (numbers : List ℕ) (k : ℕ) → get_or now k [] ≡ get_or before k [] → CanRenumber before places numbers k → CanRenumber now places numbers k
+still_ready before now places numbers k still ready = record { framed = rw still ready.framed; checked = rw still ready.checked; listed = rw still ready.listed; named = rw still ready.named }
+
+-- all positions that are collected come after the next one
+pub later_than : (depths : List ℕ) (d k : ℕ) (ps : List ℕ) → Collected depths d (k + 1) ps → (j : ℕ) → j < length ps → k < get_or ps j 0
+later_than depths d k ps found j inside = omega (arith, (found.within j inside).1)
+
+-- rows that have the heads of what their records become have the heads of their bytes
+pub heads_made : (before after : List (List ℕ)) (f : ℕ → ℕ) (rows : List Row) → RowsMade before after f (positions rows) → All (λ p. HasHead 0 p.head (row before f p.position)) rows → HaveHeads 0 after rows
+heads_made before after f rows made heads k d inside =
+    let at : get_or (positions rows) k 0 ≡ (get_or rows k d).position = get_or-map (λ p. p.position) rows k d 0 inside in
+    let made_there : get_or after (get_or rows k d).position [] ≡ row before f (get_or rows k d).position =
+    subst (λ (i : ℕ). get_or after i [] ≡ row before f i) at (made.rows k 0 (omega (arith, inside, length-map rows (λ p. p.position)))) in
+    rw made_there (heads k d inside)
+
+-- one row more
+pub positions_more : (rows : List Row) (p : Row) → positions (rows ++ p ∷ []) ≡ positions rows ++ p.position ∷ []
+positions_more rows p = map_push (λ p. p.position) rows p
+
+-- the rows of a level are those of records that are there
+pub level_inside : (depths : List ℕ) (d n : ℕ) (rows : List Row) → AtLevel depths d (positions rows) → length depths ≡ n → All (λ p. p.position < n) rows
+level_inside depths d n rows level many k e inside =
+    let at = get_or-map (λ p. p.position) rows k e 0 inside in
+    omega (arith, at, (level.within k (omega (arith, inside, length-map rows (λ p. p.position)))).0, many)
 
 -- ---- What records name has numbers
 
@@ -139,22 +191,7 @@ names_numbered r numbers i [] many bounded lower = tt
 names_numbered r numbers i (n ∷ ns) many bounded lower =
     (elim lower.0 [ inl small ↦ inl small | inr low ↦ inr (omega (arith, low.0, many), bounded (n - first_index)) ], names_numbered r numbers i ns many bounded lower.1)
 
-pub row_is : (r : List (List ℕ)) (f : ℕ → ℕ) (i : ℕ) → row r f i ≡ renumbered f (get_or r i [])
-unfolding row
-row_is r f i = refl
-
-pub rows_more : (r rows : List (List ℕ)) (f : ℕ → ℕ) (ps : List ℕ) (position : ℕ) → rows ≡ map (row r f) ps → rows ++ renumbered f (get_or r position []) ∷ [] ≡ map (row r f) (ps ++ position ∷ [])
-rows_more r rows f ps position are = rw are (sym (map-append (row r f) ps (position ∷ []) ∙ ap (λ (x : List ℕ). map (row r f) ps ++ x ∷ []) (row_is r f position)))
-
 -- ---- Rows in order
-
--- the list has space for the next row
-pub rows_fit : (out before xs : List (List ℕ)) (k : ℕ) → out ≡ before ++ take k xs → k < length xs → length (concat before) + length (concat xs) < 2 ^ 34 → length (concat out) + length (get_or xs k []) < 2 ^ 34
-rows_fit out before xs k is inside few =
-    let here : length (concat (drop k xs)) ≡ length (get_or xs k []) + length (concat (drop (k + 1) xs)) =
-    ap (λ (x : List (List ℕ)). length (concat x)) (drop_more xs k [] inside) ∙ length-append (get_or xs k []) (concat (drop (k + 1) xs)) in
-    let whole : length (concat (take k xs)) + length (concat (drop k xs)) ≡ length (concat xs) = sym (concat_both (take k xs) (drop k xs)) ∙ ap (λ (x : List (List ℕ)). length (concat x)) (take-append-drop k xs) in
-    omega (arith, few, here, whole, ap (λ (x : List (List ℕ)). length (concat x)) is, concat_both before (take k xs))
 
 -- the next position is numbered
 pub numbered_more : (ps : List ℕ) (first end : ℕ) (before numbers after : List ℕ) (position number : ℕ) → Numbered ps first end before numbers → end < length ps → position ≡ get_or ps end 0 → number ≡ first + end
@@ -173,53 +210,18 @@ bounded_put numbers after position number bounded small here others k = elim (ca
   | inr w ↦ rw (others k (λ e. elim w [ inl less ↦ omega (arith, less, e) | inr more ↦ omega (arith, more, e) ])) (bounded k)
 ]
 
+-- how many positions the order has, when some rows are in it
+pub order_long : (rows : List Row) (before order : List ℕ) (k : ℕ) → order ≡ before ++ positions (take k rows) → k < length rows → length order ≡ length before + k
+order_long rows before order k is inside =
+    omega (arith, ap length is, length-append before (positions (take k rows)), length-map (take k rows) (λ p. p.position), length-take-le k rows (omega (arith, inside)))
+
+-- the next row is in it
+pub order_more : (rows : List Row) (before order : List ℕ) (k : ℕ) (d : Row) → order ≡ before ++ positions (take k rows) → k < length rows → order ++ (get_or rows k d).position ∷ [] ≡ before ++ positions (take (k + 1) rows)
+order_more rows before order k d is inside =
+    let last : positions (take (k + 1) rows) ≡ positions (take k rows) ++ (get_or rows k d).position ∷ [] = ap positions (take_more rows k d inside) ∙ positions_more (take k rows) (get_or rows k d) in
+    ap (λ (x : List ℕ). x ++ (get_or rows k d).position ∷ []) is ∙ append_assoc before (positions (take k rows)) ((get_or rows k d).position ∷ []) ∙ ap (λ (x : List ℕ). before ++ x) (sym last)
+
 -- ---- Rows that are ready for the list
-
-range_more : (n : ℕ) → range_with_len 0 (n + 1) ≡ range_with_len 0 n ++ n ∷ []
-range_more n = sym (map-id (range_with_len 0 (n + 1))) ∙ map-range_with_len_more (λ k. k) 0 n n (omega arith) ∙ ap (λ (x : List ℕ). x ++ n ∷ []) (map-id (range_with_len 0 n))
-
--- one more row in the order in which they came
-pub nths_more : (ps : List Row) (p : Row) (n : ℕ) → nths ps ≡ range_with_len 0 n → p.nth ≡ n → nths (ps ++ p ∷ []) ≡ range_with_len 0 (n + 1)
-nths_more ps p n are is = map_push (λ p. p.nth) ps p ∙ rw (are, is) (sym (range_more n))
-
-pub nths_inside : (ps : List Row) (n : ℕ) → nths ps ≡ range_with_len 0 n → All (λ p. p.nth < n) ps
-nths_inside ps n are k d inside =
-    let many : length ps ≡ n = sym (length-map ps (λ p. p.nth)) ∙ ap length are ∙ length-range_with_len 0 n in
-    let at : (get_or ps k d).nth ≡ 0 + k = sym (get_or-map (λ p. p.nth) ps k d 0 inside) ∙ ap (λ (x : List ℕ). get_or x k 0) are ∙ get_or-range_with_len 0 n k 0 (omega (arith, inside, many)) in
-    omega (arith, at, inside, many)
-
-positions_by_nths : (positions : List ℕ) (ps : List Row) → map (λ k. get_or positions k 0) (nths ps) ≡ row_positions positions ps
-positions_by_nths positions [] = refl
-positions_by_nths positions (p ∷ ps) = ap (λ (x : List ℕ). get_or positions p.nth 0 ∷ x) (positions_by_nths positions ps)
-
-all_positions : (positions : List ℕ) (n : ℕ) → length positions ≡ n → map (λ k. get_or positions k 0) (range_with_len 0 n) ≡ positions
-all_positions positions n many =
-    let g : ℕ → ℕ = λ k. get_or positions k 0 in
-    let long : length (map g (range_with_len 0 n)) ≡ n = length-map-range_with_len g 0 n in
-    ext_get_or 0 (map g (range_with_len 0 n)) positions (long ∙ sym many) (λ i inside. get_or-map-range_with_len g 0 n i i 0 (omega (arith, inside, long)) (omega arith))
-
--- all rows in another order have all positions in another order
-pub positions_moved : (positions : List ℕ) (before ps : List Row) (n : ℕ) → length positions ≡ n → nths before ≡ range_with_len 0 n → IsPermutation (nths before) (nths ps) → IsPermutation positions (row_positions positions ps)
-positions_moved positions before ps n many are moved =
-    let g : ℕ → ℕ = λ k. get_or positions k 0 in
-    let first : map g (nths before) ≡ positions = ap (map g) are ∙ all_positions positions n many in
-    subst (IsPermutation positions) (positions_by_nths positions ps) (subst (λ (x : List ℕ). IsPermutation x (map g (nths ps))) first (IsPermutation-map g (nths before) (nths ps) moved))
-
--- if the bytes of all rows fit their positions, those of some rows do
-pub bytes_fit : (r : List (List ℕ)) (positions : List ℕ) (ps : List Row) (g : ℕ → List ℕ) → r ≡ map g positions → length positions ≡ length r → All (λ p. p.nth < length r) ps → row_bytes r ps ≡ map g (row_positions positions ps)
-bytes_fit r positions [] g fit many inside = refl
-bytes_fit r positions (p ∷ ps) g fit many inside =
-    let low : p.nth < length r = All-head (λ p. p.nth < length r) p ps inside in
-    let first : get_or r p.nth [] ≡ g (get_or positions p.nth 0) = ap (λ (x : List (List ℕ)). get_or x p.nth []) fit ∙ get_or-map g positions p.nth 0 [] (omega (arith, low, many)) in
-    let others : row_bytes r ps ≡ map g (row_positions positions ps) = bytes_fit r positions ps g fit many (All-tail (λ p. p.nth < length r) p ps inside) in
-    rw (first, others) refl
-
--- what a vector holds after its slice was written
-pub written_whole : (old now : List Row) (len : ℕ) → length now ≡ length old → len ≡ length old → take len (now ++ drop (length now) old) ≡ now
-written_whole old now len same all = take_at now (drop (length now) old) len (omega (arith, same, all))
-
-eqb_same : (x y : ℕ) → (x == y) ≡ true → x ≡ y
-eqb_same x y same = elim (eqb_tells x y) [ inl w ↦ w.1 | inr apart ↦ absurd cc ]
 
 flips : (x y : ℕ) → (x == y) ≡ (y == x)
 flips x y = elim (eqb_tells x y) [
@@ -231,7 +233,7 @@ flips x y = elim (eqb_tells x y) [
 ]
 
 -- if positions in one order are those of a level, they are in any order
-moved_level : (depths : List ℕ) (d : ℕ) (ps qs : List ℕ) → AtLevel depths d ps → IsPermutation ps qs → AtLevel depths d qs
+pub moved_level : (depths : List ℕ) (d : ℕ) (ps qs : List ℕ) → AtLevel depths d ps → IsPermutation ps qs → AtLevel depths d qs
 moved_level depths d ps qs h moved = record {
   within = λ k inside.
       let c = Contains-permutation qs ps (get_or qs k 0) (IsPermutation-sym ps qs moved) (Contains-get_or qs k 0 inside) in
@@ -241,13 +243,6 @@ moved_level depths d ps qs h moved = record {
   all = λ j inside is. Contains-permutation ps qs j moved (h.all j inside is);
   distinct = AllPairs-from_IsDistinct Decides-eqb qs (IsDistinct-IsPermutation (λ x y. x == y) flips ps qs moved (IsDistinct-from_AllPairs Decides-eqb ps h.distinct));
 }
-
--- a level has no more positions than there are
-pub level_few : (depths : List ℕ) (d : ℕ) (ps : List ℕ) → AtLevel depths d ps → length ps ≤ length depths
-level_few depths d ps h = length-le_from_distinct_below ps (length depths) (IsDistinct-from_AllPairs Decides-eqb ps h.distinct) (λ q found.
-    let c = Contains-from_any eqb_same q ps found in
-    let at : get_or ps c.0 0 ≡ q = get_or_default ps c.0 0 q c.1 ∙ c.2 in
-    omega (arith, (h.within c.0 c.1).0, at))
 
 -- the rows are those of the level at the positions ps, in order
 pub record Ready (r : List (List ℕ)) (d : ℕ) (f : ℕ → ℕ) (rows : List (List ℕ)) (ps : List ℕ) : Type 0 where
@@ -280,30 +275,13 @@ whole_list r d out rows f ps table short l h =
     let level = level_of r d out rows f ps table short l h in
     ap (λ (x : List (List ℕ)). x ++ rows) l.are ∙ ap (λ (x : List (List ℕ)). texts l.trees ++ x) h.fit ∙ sym level.rows
 
--- the list has space for the level
-pub ready_few : (r : List (List ℕ)) (d : ℕ) (out rows : List (List ℕ)) (f : ℕ → ℕ) (ps : List ℕ) → IsTable r → length (concat r) < 2 ^ 32 → ListsBelow r d out f → Ready r d f rows ps → length (concat out) + length (concat rows) < 2 ^ 34
-ready_few r d out rows f ps table short l h =
-    let level = level_of r d out rows f ps table short l h in
-    let e = ap (λ (x : List (List ℕ)). length (concat x)) (whole_list r d out rows f ps table short l h) in
-    omega (arith, e, concat_both out rows, weight_of_texts (l.trees ++ level.trees) level.canonical, level.canonical.light)
-
+-- the list stays short
 pub ready_count : (r : List (List ℕ)) (d : ℕ) (out rows : List (List ℕ)) (f : ℕ → ℕ) (ps : List ℕ) → IsTable r → length (concat r) < 2 ^ 32 → ListsBelow r d out f → Ready r d f rows ps → length out + length ps < 2 ^ 31
 ready_count r d out rows f ps table short l h =
     let level = level_of r d out rows f ps table short l h in
     let both : List Tree = l.trees ++ level.trees in
     let a : length out ≡ length l.trees = ap length l.are ∙ length-map l.trees (text l.trees) in
     omega (arith, a, level.many, length-append l.trees level.trees, weight-many both level.canonical.closed, level.canonical.light)
-
-pub ready_padded : (r : List (List ℕ)) (d : ℕ) (f : ℕ → ℕ) (rows : List (List ℕ)) (ps : List ℕ) → IsTable r → Ready r d f rows ps → (x : List ℕ) → Contains rows x → length x % 4 ≡ 0
-ready_padded r d f rows ps table h x c =
-    let k : ℕ = c.0 in
-    let long : length rows ≡ length ps = ap length h.fit ∙ length-map ps (row r f) in
-    let inside : k < length ps = omega (arith, c.1, long) in
-    let p : ℕ = get_or ps k 0 in
-    let p_in = h.are.within k inside in
-    let at : x ≡ renumbered f (get_or r p []) = sym c.2 ∙ ap (λ (y : List (List ℕ)). get_or y k x) h.fit ∙ get_or-map (row r f) ps k 0 x inside ∙ row_is r f p in
-    let frame = table.good.framed p p_in in
-    ap (λ (y : List ℕ). length y % 4) at ∙ ap (λ (n : ℕ). n % 4) (renumbered_long f (get_or r p []) (table.good.checked p p_in)) ∙ frame.padded
 
 -- the list and the numbers are right after the level is added
 pub ready_listed : (r : List (List ℕ)) (d : ℕ) (out rows : List (List ℕ)) (ps before after : List ℕ) → IsTable r → length (concat r) < 2 ^ 32 → ListsBelow r d out (λ k. get_or before k 0) → Ready r d (λ k. get_or before k 0) rows ps
@@ -364,10 +342,123 @@ listed_all r levels out f has l = (
   ),
 )
 
--- ---- What the loops need
+-- ---- The order so far
 
-pub ready_level : (r : List (List ℕ)) (d : ℕ) (f : ℕ → ℕ) (depths : List ℕ) (rows moved_rows : List (List ℕ)) (ps qs : List ℕ) → rows ≡ map (row r f) ps → AtLevel depths d ps → length depths ≡ length r → AreDepths r depths → IsPermutation ps qs
-    → (rows ≡ map (row r f) ps → moved_rows ≡ map (row r f) qs) → AreInOrder moved_rows → Ready r d f moved_rows qs
-ready_level r d f depths rows moved_rows ps qs fit level many known moved fits sorted =
-    let same = fits fit in
-    record { fit = same; are = level_rows r d f depths moved_rows qs same (moved_level depths d ps qs level moved) many known (λ k inside. sorted k (omega (arith, inside, ap length same, length-map qs (row r f)))) }
+-- the records that are less deep than d are listed: `order` has their positions in canonical order, and `numbers` the position of each in it; they became their rows in `now`, and all others are as they are in the table r
+pub record IsListing (r now : List (List ℕ)) (depths : List ℕ) (d : ℕ) (order numbers : List ℕ) : Type 0 where
+  pub listed : ListsBelow r d (texts_at now order) (λ k. get_or numbers k 0)
+  pub below : All (λ p. (p < length r) × (get_or depths p 0 < d)) order
+  pub others : (k : ℕ) → d ≤ get_or depths k 0 → get_or now k [] ≡ get_or r k []
+  pub many : length now ≡ length r
+  pub long : (k : ℕ) → length (get_or now k []) ≡ length (get_or r k [])
+  pub numbered : length numbers ≡ length r
+  pub bounded : (k : ℕ) → get_or numbers k 0 < 2 ^ 31
+
+pub listing_none : (r : List (List ℕ)) (depths numbers : List ℕ) → length numbers ≡ length r → ((k : ℕ) → get_or numbers k 0 < 2 ^ 31) → IsListing r r depths 0 [] numbers
+listing_none r depths numbers many bounded = record {
+  listed = listed_none r (λ k. get_or numbers k 0);
+  below = λ k d inside. absurd (omega (arith, inside));
+  others = λ k deep. refl;
+  many = refl;
+  long = λ k. refl;
+  numbered = many;
+  bounded = bounded;
+}
+
+-- each record of the next level can become its row
+pub can_renumber : (r now places : List (List ℕ)) (depths : List ℕ) (d : ℕ) (order numbers : List ℕ) (k : ℕ) → IsTable r → HasNamedPlaces r places → IsListing r now depths d order numbers → k < length now → get_or depths k 0 ≡ d → CanRenumber now places numbers k
+can_renumber r now places depths d order numbers k table has l k_in deep =
+    let inside : k < length r = omega (arith, k_in, l.many) in
+    let still : get_or now k [] ≡ get_or r k [] = l.others k (omega (arith, deep)) in
+    record {
+      framed = rw still (table.good.framed k inside);
+      checked = rw still (table.good.checked k inside);
+      listed = rw still (places_at r places k has inside);
+      named = rw still (names_numbered r numbers k (references (get_or r k [])) l.numbered l.bounded (table.lower k inside));
+    }
+
+-- two functions that are the same at these positions
+same_at : (g h : ℕ → List ℕ) (ps : List ℕ) → ((k : ℕ) → k < length ps → g (get_or ps k 0) ≡ h (get_or ps k 0)) → map g ps ≡ map h ps
+same_at g h ps same = ext_get_or [] (map g ps) (map h ps) (length-map ps g ∙ sym (length-map ps h)) (λ k inside.
+    let k_in : k < length ps = omega (arith, inside, length-map ps g) in
+    get_or-map g ps k 0 [] k_in ∙ same k k_in ∙ sym (get_or-map h ps k 0 [] k_in))
+
+-- the records of the level became its rows, and stand in the order of their bytes
+pub record LevelMade (now after : List (List ℕ)) (depths : List ℕ) (d : ℕ) (f : ℕ → ℕ) (ps qs : List ℕ) : Type 0 where
+  pub made : RowsMade now after f ps
+  pub level : AtLevel depths d ps
+  pub moved : IsPermutation ps qs
+  pub sorted : AreInOrder (texts_at after qs)
+
+level_ready : (r now after : List (List ℕ)) (depths : List ℕ) (d : ℕ) (order numbers ps qs : List ℕ) → length depths ≡ length r → AreDepths r depths → IsListing r now depths d order numbers → LevelMade now after depths d (λ k. get_or numbers k 0) ps qs
+    → Ready r d (λ k. get_or numbers k 0) (texts_at after qs) qs
+level_ready r now after depths d order numbers ps qs many known l h =
+    let f : ℕ → ℕ = λ k. get_or numbers k 0 in
+    let at_level : AtLevel depths d qs = moved_level depths d ps qs h.level h.moved in
+    let rows : All (λ p. get_or after p [] ≡ row now f p) qs = All-permutation (λ p. get_or after p [] ≡ row now f p) ps qs h.moved h.made.rows in
+    let fit : texts_at after qs ≡ map (row r f) qs = same_at (λ p. get_or after p []) (row r f) qs (λ k inside.
+    let p : ℕ = get_or qs k 0 in
+    let still : get_or now p [] ≡ get_or r p [] = l.others p (omega (arith, (at_level.within k inside).1)) in
+    rows k 0 inside ∙ row_is now f p ∙ ap (renumbered f) still ∙ sym (row_is r f p)) in
+    record {
+      fit = fit;
+      are = level_rows r d f depths (texts_at after qs) qs fit at_level many known (λ k inside. h.sorted k (omega (arith, inside, length-map qs (λ p. get_or after p []))));
+    }
+
+-- the order stays short
+pub listing_few : (r now after : List (List ℕ)) (depths : List ℕ) (d : ℕ) (order numbers ps qs : List ℕ) → IsTable r → length (concat r) < 2 ^ 32 → length depths ≡ length r → AreDepths r depths
+    → IsListing r now depths d order numbers → LevelMade now after depths d (λ k. get_or numbers k 0) ps qs → length order + length qs < 2 ^ 31
+listing_few r now after depths d order numbers ps qs table short many known l h =
+    let few = ready_count r d (texts_at now order) (texts_at after qs) (λ k. get_or numbers k 0) qs table short l.listed (level_ready r now after depths d order numbers ps qs many known l h) in
+    omega (arith, few, length-map order (λ p. get_or now p []))
+
+-- the level is listed
+pub listing_more : (r now after : List (List ℕ)) (depths : List ℕ) (d : ℕ) (order numbers numbers_after ps qs : List ℕ) → IsTable r → length (concat r) < 2 ^ 32 → length depths ≡ length r → AreDepths r depths
+    → IsListing r now depths d order numbers → LevelMade now after depths d (λ k. get_or numbers k 0) ps qs → Numbered qs (length order) (length qs) numbers numbers_after
+    → length numbers_after ≡ length numbers → ((k : ℕ) → get_or numbers_after k 0 < 2 ^ 31) → IsListing r after depths (d + 1) (order ++ qs) numbers_after
+listing_more r now after depths d order numbers numbers_after ps qs table short many known l h numbered same bounded =
+    let ready = level_ready r now after depths d order numbers ps qs many known l h in
+    let at_level : AtLevel depths d qs = moved_level depths d ps qs h.level h.moved in
+    let apart : (p : ℕ) → (get_or depths p 0 ≡ d → ⊥) → ¬ Contains ps p = λ p other c.
+    let at : get_or ps c.0 0 ≡ p = get_or_default ps c.0 0 p c.1 ∙ c.2 in
+    other (ap (λ (i : ℕ). get_or depths i 0) (sym at) ∙ (h.level.within c.0 c.1).1) in
+    let kept : texts_at after order ≡ texts_at now order = same_at (λ p. get_or after p []) (λ p. get_or now p []) order (λ k inside.
+    h.made.others (get_or order k 0) (apart (get_or order k 0) (λ e. omega (arith, e, (l.below k 0 inside).1)))) in
+    let whole : texts_at after (order ++ qs) ≡ texts_at now order ++ texts_at after qs =
+    map-append (λ p. get_or after p []) order qs ∙ ap (λ (x : List (List ℕ)). x ++ texts_at after qs) kept in
+    let first : length (texts_at now order) ≡ length order = length-map order (λ p. get_or now p []) in
+    record {
+      listed = rw whole (ready_listed r d (texts_at now order) (texts_at after qs) qs numbers numbers_after table short l.listed ready (rw first numbered));
+      below = All-append (λ p. (p < length r) × (get_or depths p 0 < d + 1)) order qs
+          (λ k e inside. let b = l.below k e inside in (b.0, omega (arith, b.1)))
+          (λ k e inside. let same_at_k : get_or qs k e ≡ get_or qs k 0 = get_or_default qs k e 0 inside in let w = at_level.within k inside in rw same_at_k (omega (arith, w.0, many), omega (arith, w.1)));
+      others = λ k deep. h.made.others k (apart k (λ e. omega (arith, deep, e))) ∙ l.others k (omega (arith, deep));
+      many = h.made.many ∙ l.many;
+      long = λ k. h.made.long k ∙ l.long k;
+      numbered = same ∙ l.numbered;
+      bounded = bounded;
+    }
+
+-- ---- The whole order
+
+-- the canonical list has as many bytes as the table
+pub canon_weighs : (r out : List (List ℕ)) → IsTable r → IsCanonOf out (IsType r) → length (concat out) ≡ length (concat r)
+canon_weighs r out table c =
+    ap (λ (x : List (List ℕ)). length (concat x)) c.2 ∙ weight_of_texts c.0 c.1 ∙ table_weighs_all r c.0 table c.1.distinct c.3
+
+-- texts that are as long have as many bytes together
+as_many : (xs ys : List (List ℕ)) → length xs ≡ length ys → ((k : ℕ) → length (get_or xs k []) ≡ length (get_or ys k [])) → length (concat xs) ≡ length (concat ys)
+as_many [] [] many long = refl
+as_many [] (y ∷ ys) many long = absurd (omega (arith, many))
+as_many (x ∷ xs) [] many long = absurd (omega (arith, many))
+as_many (x ∷ xs) (y ∷ ys) many long =
+    omega (arith, length-append x (concat xs), length-append y (concat ys), long 0, as_many xs ys (omega (arith, many)) (λ k. long (suc k)))
+
+pub listing_canon : (r now : List (List ℕ)) (depths : List ℕ) (levels : ℕ) (order numbers : List ℕ) → HasLevels r levels → IsListing r now depths levels order numbers → IsCanonOf (texts_at now order) (IsType r)
+listing_canon r now depths levels order numbers has l = listed_all r levels (texts_at now order) (λ k. get_or numbers k 0) has l.listed
+
+pub listing_order : (r now : List (List ℕ)) (depths : List ℕ) (levels : ℕ) (order numbers : List ℕ) → IsTable r → HasLevels r levels → IsListing r now depths levels order numbers → IsOrder now order
+listing_order r now depths levels order numbers table has l = record {
+  inside = λ k d inside. let b = l.below k d inside in omega (arith, b.0, l.many);
+  whole = canon_weighs r (texts_at now order) table (listing_canon r now depths levels order numbers has l) ∙ sym (as_many now r l.many l.long);
+}

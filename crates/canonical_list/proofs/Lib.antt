@@ -1,5 +1,5 @@
 pub mod RowLaws
-pub mod KeyLaws
+pub mod HeadLaws
 pub mod SortLaws
 pub mod LinkLaws
 pub mod FinishLaws

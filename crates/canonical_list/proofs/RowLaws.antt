@@ -14,8 +14,8 @@ use Rattle.cv_leaves.specs.References.{references}
 use Rattle.closed_trees.specs.Tree.{Tree, Branches, tree, no_branch, simple, branch, nothing, branches_of, trees_in, IsClosed, IsTreeAt, AreBranches}
 use Rattle.closed_trees.specs.Depth.{depth, depth_over}
 use Rattle.closed_trees.specs.Canon.{position_in, text, Canonical, texts, HoldsBranches}
-use Rattle.closed_trees.specs.Table.{IsTable, renumbered, HoldsBelow}
-use Rattle.canonical_list.specs.Rows.{Numbers, row}
+use Rattle.closed_trees.specs.Table.{IsTable, renumbered}
+use Rattle.canonical_list.specs.Rows.{row}
 use Rattle.closed_trees.proofs.TreeLaws.{one, standing_is_closed}
 use Rattle.closed_trees.proofs.SameLaws.{position_in-get_or, position_in-lt-length}
 use Rattle.closed_trees.proofs.TextLaws.{texts_differ}
@@ -23,9 +23,13 @@ use Rattle.closed_trees.proofs.ReadLaws.{few, holds, text-at}
 use Rattle.closed_trees.proofs.LevelLaws.{text-more}
 use Rattle.closed_trees.proofs.CanonLaws.{position_in-below}
 use Rattle.closed_trees.proofs.TableLaws.{table_is_set, branches_stand, renumbered_is_text, EachNamed}
-use Rattle.closed_trees.proofs.NextLaws.{trees_of_table, next_level, branches_less_deep, all_held, IsLevelOf}
+use Rattle.closed_trees.proofs.NextLaws.{HoldsBelow, trees_of_table, next_level, branches_less_deep, all_held, IsLevelOf}
 use Rattle.tpi_records.specs.Header.{first_index}
 use Rattle.std.specs.Prelude.{suc}
+
+-- f gives the position in l of each tree of r that is less deep than d
+abbrev pub Numbers : List (List ℕ) → ℕ → List Tree → (ℕ → ℕ) → Type 0
+Numbers r d l f = (k : ℕ) (t : Tree) → IsTreeAt r k t → depth t < d → f k ≡ position_in l t
 
 -- ps are the positions of r whose trees have depth d, each once, in the order of their rows
 pub record AreRows (r : List (List ℕ)) (d : ℕ) (f : ℕ → ℕ) (ps : List ℕ) : Type 0 where

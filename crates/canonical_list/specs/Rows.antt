@@ -1,19 +1,12 @@
 -- How the records of a level continue a canonical list, once they are renumbered and sorted.
 use Rattle.std.specs.Prelude.{ℕ, zero, suc, ◌≡◌, ◌≢◌, ◌+◌, ◌*◌, ◌^◌, ◌<◌, ◌≤◌, List, [], ◌∷◌, length, map, drop, get_or}
 use Rattle.std.specs.Cmp.Lexicographic.{slice_cmp}
-use Rattle.std.specs.List.{Contains}
+use Rattle.std.specs.List.{All, Contains}
 use Rattle.std.specs.Ordering.{nat_cmp}
 use Rattle.std.specs.declared.cmp.Ordering.TheVariants.{Greater}
 use Rattle.byte_fields.specs.Bytes.{AreBytes}
-use Rattle.closed_trees.specs.Tree.{Tree, IsTreeAt}
-use Rattle.closed_trees.specs.Depth.{depth}
-use Rattle.closed_trees.specs.Canon.{position_in}
 use Rattle.closed_trees.specs.Table.{renumbered}
 use Rattle.canonical_list.specs.declared.row.Row.{Row}
-
--- f gives the position in l of each tree of r that is less deep than d
-abbrev pub Numbers : List (List ℕ) → ℕ → List Tree → (ℕ → ℕ) → Type 0
-Numbers r d l f = (k : ℕ) (t : Tree) → IsTreeAt r k t → depth t < d → f k ≡ position_in l t
 
 -- the row of the record at i: the record, renumbered by f
 unfoldable pub row : List (List ℕ) → (ℕ → ℕ) → ℕ → List ℕ
@@ -29,39 +22,31 @@ first_bytes (suc n) (b ∷ x) = b * 256 ^ n + first_bytes n x
 unfoldable pub head : ℕ → List ℕ → ℕ
 head from x = first_bytes 8 (drop from x)
 
--- the key of a row at an offset: the 4 bytes after its head as one number
-unfoldable pub key : ℕ → List ℕ → ℕ
-key from x = first_bytes 4 (drop (from + 8) x)
-
--- at this offset, h is the head of x, which is made of bytes, and k its key
-pub record IsKeyed (from h k : ℕ) (x : List ℕ) : Type 0 where
+-- at this offset, h is the head of x, which is made of bytes
+pub record HasHead (from h : ℕ) (x : List ℕ) : Type 0 where
   pub is_head : h ≡ head from x
-  pub is_key : k ≡ key from x
   pub bytes : AreBytes x
 
--- two rows have the same head and the same key
-abbrev pub AreTied : Row → Row → Type 0
-AreTied a b = (a.head ≡ b.head) × (a.key ≡ b.key)
-
--- the rows from start up to end have one head and one key, and the row at end, if there is one,
--- has another head or another key
+-- the rows from start up to end have one head, and the row at end, if there is one, has another
 pub record IsStretch (run : List Row) (start end : ℕ) : Type 0 where
   pub after : start < end
   pub within : end ≤ length run
-  pub tied : (k : ℕ) (d : Row) → start ≤ k → k < end → AreTied (get_or run k d) (get_or run start d)
-  pub last : (d : Row) → end < length run → ¬ AreTied (get_or run end d) (get_or run start d)
+  pub tied :
+      (k : ℕ) (d : Row) → start ≤ k → k < end
+      → (get_or run k d).head ≡ (get_or run start d).head
+  pub last : (d : Row) → end < length run → (get_or run end d).head ≢ (get_or run start d).head
 
--- which rows of their level these are
-abbrev pub nths : List Row → List ℕ
-nths ps = map (λ p. p.nth) ps
+-- the positions of the records of these rows
+abbrev pub positions : List Row → List ℕ
+positions ps = map (λ p. p.position) ps
 
--- the bytes of these rows, where r has the bytes of all rows of the level
+-- the bytes of these rows, where r has those of all records
 abbrev pub row_bytes : List (List ℕ) → List Row → List (List ℕ)
-row_bytes r ps = map (λ p. get_or r p.nth []) ps
+row_bytes r ps = map (λ p. get_or r p.position []) ps
 
--- the positions in the table of these rows, where `positions` has those of all rows of the level
-abbrev pub row_positions : List ℕ → List Row → List ℕ
-row_positions positions ps = map (λ p. get_or positions p.nth 0) ps
+-- at this offset, each row has the head of its bytes
+abbrev pub HaveHeads : ℕ → List (List ℕ) → List Row → Type 0
+HaveHeads from r ps = All (λ p. HasHead from p.head (get_or r p.position [])) ps
 
 -- the first `from` bytes of all xs make the same number
 abbrev pub AreAlike : ℕ → List (List ℕ) → Type 0

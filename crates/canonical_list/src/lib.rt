@@ -1,12 +1,12 @@
-//! The canonical list of the types of a table, which is made level by level.
+//! The canonical order of the types of a table, which is found level by level.
 //!
-//! A *table* is distinct records, each of which names only earlier ones. [`canonical_list()`] puts
+//! A *table* is distinct records, each of which names only earlier ones. [`canonical_order`] puts
 //! its types in the order of their depths, and at one depth in the order of the bytes of the
-//! records. The records of the list name each other by their positions there.
+//! records. The records stay where they lie, and name each other by their positions in that order.
 //!
-//! What is proved: the list is the canonical list of exactly the types of the table (`IsCanonOf`),
-//! unless this runs out of memory. Nothing recurses along references: the records of one depth are
-//! renumbered once all types below them have their numbers.
+//! What is proved: in this order the records are the canonical list of exactly the types of the
+//! table (`IsCanonOf`), unless this runs out of memory. Nothing recurses along references: the
+//! records of one depth are renumbered once all types below them have their numbers.
 //!
 //! # Example
 //!
@@ -35,9 +35,9 @@
 //! ```
 #![tactic(auto)]
 
-mod finish;
 mod levels;
+mod order;
 mod row;
 mod sort;
 
-pub use finish::canonical_list;
+pub use order::canonical_order;

@@ -1,145 +1,134 @@
 //! Rows in the order of their bytes.
 //!
-//! Rows are sorted by 12 bytes, those that are equal there by the next 12, and so on. These bytes
-//! stand in the rows as numbers, so that comparing two rows waits for no memory. Where this takes
-//! too many rounds, or few rows are left, the bytes of the rows are compared as they are.
+//! Rows are sorted by 8 bytes, those that are equal there by 8 later ones, and so on. Bytes that all
+//! of them share are passed over. The 8 bytes stand in the rows as a number, so that comparing two
+//! rows waits for no memory. Where this takes too many rounds, or few rows are left, the bytes of the
+//! rows are compared as they lie.
 
-ghost use Rattle.std.specs.Prelude.{◌≡◌, [], ◌+◌, ◌*◌, ◌^◌, ◌<◌, get_or, length, map, IfOk};
-ghost use Rattle.std.specs.List.{All};
-ghost use Rattle.std.specs.List.Sorted.{IsPermutation, IsNonDecreasingBy};
+ghost use Rattle.std.specs.Prelude.{◌≡◌, [], ◌+◌, ◌*◌, ◌^◌, ◌<◌, get_or, length};
+ghost use Rattle.std.specs.List.Sorted.{IsPermutation};
 ghost use Rattle.canonical_list.specs.declared.row.Row.{Row};
-ghost use Rattle.canonical_list.specs.Rows.{IsKeyed, IsStretch, AreAlike, AreInOrder, nths, row_bytes};
+ghost use Rattle.canonical_list.specs.Rows.{HaveHeads, IsStretch, AreAlike, AreInOrder, positions, row_bytes};
 
-use crate::row::{KEYED_BYTES, Row};
+use crate::row::{HEAD_BYTES, Row};
 use packed_texts::PackedTexts;
-use std::alloc::{AllocError, Allocator};
+use std::alloc::Allocator;
 
-/// In how many rounds rows are sorted by 12 bytes before all their bytes are compared.
+/// In how many rounds rows are sorted by 8 bytes before all their bytes are compared.
 pub const ROUNDS: u32 = 6;
 
+// How many bytes that all rows share are passed over in one round. A record has few more.
+const SHARED: usize = 1 << 16;
+
 // So few rows are not worth a round: their bytes are compared at once.
-const FEW: usize = 4;
+const FEW: usize = 3;
 
-/// The bytes of a row, and which row of the level it is.
-#[derive(Clone, Copy, PartialEq, Eq, PartialOrd, Ord)]
-pub struct Tied<'a> {
-    bytes: &'a [u8],
-    nth: u32,
-}
-
-/// Puts the rows of a run, with their bytes, in place of what `ties` had.
-fn collect_tied<'a, A: Allocator + Copy>(
-    rows: &'a PackedTexts<A>,
-    run: &[Row],
-    ties: &mut Vec<Tied<'a>, A>,
-) -> Result<(), AllocError>
-    requires inside { All (λ p. p.nth < length rows.now) run.now }
-    ensures nths { IfOk result (λ _. map (λ p. p.nth) ties.new.items ≡ nths run.now) }
-    ensures bytes { IfOk result (λ _.
-        All (λ p. p.bytes.now ≡ get_or rows.now p.nth []) ties.new.items) }
+/// The bytes of a row. There are none if its record is not there.
+fn bytes_of<A: Allocator>(rows: &PackedTexts<A>, position: usize) -> &[u8]
+    ensures { result.now ≡ get_or rows.now position [] }
 {
-    ties.clear();
-    for row in run {
-        ties.push(Tied {
-            bytes: rows.get(row.nth as usize),
-            nth: row.nth,
-        })?;
-    }
-    Ok(())
-}
-
-/// Makes the rows of a run those of `ties`, in this order. Their heads and keys mean nothing then.
-fn put_back(ties: &[Tied<'_>], run: &mut [Row])
-    requires many { length ties.now ≡ length run.old }
-    ensures { nths run.new ≡ map (λ p. p.nth) ties.now }
-{
-    for (k, tied) in ties.iter().enumerate() {
-        run[k].nth = tied.nth;
+    if position < rows.len() {
+        rows.get(position)
+    } else {
+        &[]
     }
 }
 
-/// Sorts rows by their bytes, which are compared as they are.
-fn sort_by_bytes<'a, A: Allocator + Copy>(
-    rows: &'a PackedTexts<A>,
-    run: &mut [Row],
-    ties: &mut Vec<Tied<'a>, A>,
-) -> Result<(), AllocError>
-    requires inside { All (λ p. p.nth < length rows.now) run.old }
-    ensures moved { IsPermutation (nths run.old) (nths run.new) }
-    ensures sorted { IfOk result (λ _. AreInOrder (row_bytes rows.now run.new)) }
+/// Sorts rows by their bytes, which are compared as they lie.
+fn sort_by_bytes<A: Allocator>(rows: &PackedTexts<A>, run: &mut [Row])
+    ensures moved { IsPermutation (positions run.old) (positions run.new) }
+    ensures sorted { AreInOrder (row_bytes rows.now run.new) }
 {
-    collect_tied(rows, run, ties)?;
-    ties.sort_unstable();
-    put_back(ties, run);
-    Ok(())
+    run.sort_unstable_by(|one, other| {
+        bytes_of(rows, one.position).cmp(bytes_of(rows, other.position))
+    });
 }
 
-/// Gives each row the head and the key of its bytes from an offset on.
-fn set_keys<A: Allocator>(rows: &PackedTexts<A>, run: &mut [Row], from: usize)
-    requires inside { All (λ p. p.nth < length rows.now) run.old }
-    ensures same { nths run.new ≡ nths run.old }
-    ensures keyed { All (λ p. IsKeyed from p.head p.key (get_or rows.now p.nth [])) run.new }
-{
-    for row in run.iter_mut() {
-        *row = Row::new(rows.get(row.nth as usize), from, row.nth);
-    }
-}
-
-/// Sorts rows by 12 of their bytes, from an offset on.
-fn sort_by_keys<A: Allocator>(rows: &PackedTexts<A>, run: &mut [Row], from: usize)
-    requires inside { All (λ p. p.nth < length rows.now) run.old }
-    ensures moved { IsPermutation (nths run.old) (nths run.new) }
-    ensures keyed { All (λ p. IsKeyed from p.head p.key (get_or rows.now p.nth [])) run.new }
-    ensures rising { IsNonDecreasingBy (λ p. p.head * 2 ^ 32 + p.key) run.new }
-{
-    set_keys(rows, run, from);
-    run.sort_unstable();
-}
-
-/// The end of the rows from `start` on that have the head and the key of the first of them.
+/// The end of the rows from `start` on that have the head of the first of them.
 fn run_end(run: &[Row], start: usize) -> usize
     requires inside { start < length run.now }
     ensures { IsStretch run.now start result }
 {
     for end in start + 1..run.len() {
-        if !run[end].is_tied(&run[start]) {
+        if run[end].head != run[start].head {
             return end;
         }
     }
     run.len()
 }
 
+/// Gives each row its head at an offset.
+fn set_heads<A: Allocator>(rows: &PackedTexts<A>, run: &mut [Row], from: usize)
+    ensures same { positions run.new ≡ positions run.old }
+    ensures heads { HaveHeads from rows.now run.new }
+{
+    for row in run.iter_mut() {
+        *row = Row::new(bytes_of(rows, row.position), from, row.position);
+    }
+}
+
+/// Gives each row its head behind the bytes that all of them share. Returns at which offset.
+///
+/// The first `from` bytes are the same in all rows, and shared bytes are looked for from there on,
+/// 8 at a time.
+fn pass_shared<A: Allocator>(rows: &PackedTexts<A>, run: &mut [Row], from: usize) -> usize
+    requires some { 0 < length run.old }
+    requires alike { AreAlike from (row_bytes rows.now run.old) }
+    requires small { from < 2 ^ 62 }
+    ensures same { positions run.new ≡ positions run.old }
+    ensures alike { AreAlike result (row_bytes rows.now run.new) }
+    ensures heads { HaveHeads result rows.now run.new }
+    ensures near { result < from + 65544 }
+{
+    let mut at = from;
+    set_heads(rows, run, at);
+    while at < from + SHARED && run_end(run, 0) == run.len() {
+        at += HEAD_BYTES;
+        set_heads(rows, run, at);
+    }
+    at
+}
+
 /// Sorts rows by their bytes, of which the first `from` are the same in all rows.
 ///
-/// There are at most `rounds` rounds of 12 bytes each. If memory runs out, the rows are left in
-/// some order.
-pub fn sort_run<'a, A: Allocator + Copy>(
-    rows: &'a PackedTexts<A>,
-    run: &mut [Row],
-    from: usize,
-    rounds: u32,
-    ties: &mut Vec<Tied<'a>, A>,
-) -> Result<(), AllocError>
-    requires inside { All (λ p. p.nth < length rows.now) run.old }
+/// There are at most `rounds` more rounds.
+#[cycle(sort_rows)]
+fn sort_tied<A: Allocator>(rows: &PackedTexts<A>, run: &mut [Row], from: usize, rounds: u32)
     requires alike { AreAlike from (row_bytes rows.now run.old) }
-    requires small { from + 12 * rounds < 2 ^ 32 }
-    ensures moved { IsPermutation (nths run.old) (nths run.new) }
-    ensures sorted { IfOk result (λ _. AreInOrder (row_bytes rows.now run.new)) }
+    requires small { from + 65552 * rounds < 2 ^ 62 }
+    ensures moved { IsPermutation (positions run.old) (positions run.new) }
+    ensures sorted { AreInOrder (row_bytes rows.now run.new) }
 {
     // Most stretches are one row, which is in order.
     if run.len() < 2 {
-        return Ok(());
+        return;
     }
     if rounds == 0 || run.len() <= FEW {
-        return sort_by_bytes(rows, run, ties);
+        sort_by_bytes(rows, run);
+        return;
     }
-    sort_by_keys(rows, run, from);
-    let next = from + KEYED_BYTES;
+    let at = pass_shared(rows, run, from);
+    sort_rows(rows, run, at, rounds - 1);
+}
+
+/// Sorts rows by their bytes, of which the first `at` are the same in all rows. Each row has its
+/// head at this offset.
+///
+/// There are at most `rounds` more rounds of 8 bytes each.
+#[cycle(sort_rows)]
+pub fn sort_rows<A: Allocator>(rows: &PackedTexts<A>, run: &mut [Row], at: usize, rounds: u32)
+    requires alike { AreAlike at (row_bytes rows.now run.old) }
+    requires heads { HaveHeads at rows.now run.old }
+    requires small { at + 8 + 65552 * rounds < 2 ^ 62 }
+    ensures moved { IsPermutation (positions run.old) (positions run.new) }
+    ensures sorted { AreInOrder (row_bytes rows.now run.new) }
+{
+    run.sort_unstable_by_key(|row| row.head);
+    let next = at + HEAD_BYTES;
     let mut start = 0;
     while start < run.len() {
         let end = run_end(run, start);
-        sort_run(rows, &mut run[start..end], next, rounds - 1, ties)?;
+        sort_tied(rows, &mut run[start..end], next, rounds);
         start = end;
     }
-    Ok(())
 }

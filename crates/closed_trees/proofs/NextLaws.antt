@@ -9,7 +9,7 @@ use Rattle.std.proofs.Math.Seq.{get_or-append_seam}
 use Rattle.closed_trees.specs.Tree.{Tree, Branches, tree, no_branch, simple, branch, nothing, blank_of, branches_of, trees_in, IsTreeAt, IsType}
 use Rattle.closed_trees.specs.Depth.{depth, depth_over}
 use Rattle.closed_trees.specs.Canon.{weight, text, Canonical}
-use Rattle.closed_trees.specs.Table.{IsTable, HoldsBelow}
+use Rattle.closed_trees.specs.Table.{IsTable}
 use Rattle.closed_trees.proofs.TreeLaws.{one, tree_there, standing_is_closed}
 use Rattle.closed_trees.proofs.WeightLaws.{weight_grows, weight-cons, weight-none}
 use Rattle.closed_trees.proofs.TableLaws.{table_is_set, branches_stand}
@@ -37,6 +37,10 @@ abbrev pub TableWeighsAll : Type 0
 TableWeighsAll =
     (r : List (List ℕ)) (l : List Tree) → IsTable r → AllPairs (λ t u. t ≢ u) l → ((t : Tree) → Contains l t ↔ IsType r t)
     → weight l ≡ length (concat r)
+
+-- l holds the trees of r that are less deep than d
+abbrev pub HoldsBelow : List (List ℕ) → ℕ → List Tree → Type 0
+HoldsBelow r d l = (t : Tree) → Contains l t ↔ (IsType r t × (depth t < d))
 
 -- m holds the trees of r of depth d, in the order of their texts, where l numbers the trees
 pub record IsLevelOf (r : List (List ℕ)) (d : ℕ) (l m : List Tree) : Type 0 where

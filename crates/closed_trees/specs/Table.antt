@@ -5,7 +5,6 @@ use Rattle.byte_fields.specs.Bytes.{AreBytes}
 use Rattle.cv_leaves.specs.References.{references, filled}
 use Rattle.cv_leaves.specs.Place.{IsChecked}
 use Rattle.closed_trees.specs.Tree.{Tree, IsType, IsRanked}
-use Rattle.closed_trees.specs.Depth.{depth}
 use Rattle.tpi_records.specs.Records.{IsRecord}
 use Rattle.tpi_records.specs.Header.{first_index}
 
@@ -50,7 +49,3 @@ AreNumbered numbers ns = AllByRecursion (IsNumbered numbers) ns
 pub record IsUnion (l : List Tree) (r s : List (List ℕ)) : Type 0 where
   pub distinct : AllPairs (λ t u. t ≢ u) l
   pub members : (t : Tree) → Contains l t ↔ (IsType r t ⊎ IsType s t)
-
--- l holds the trees of r that are less deep than d
-abbrev pub HoldsBelow : List (List ℕ) → ℕ → List Tree → Type 0
-HoldsBelow r d l = (t : Tree) → Contains l t ↔ (IsType r t × (depth t < d))

@@ -1,9 +1,9 @@
 -- The parts of an image before its streams, number by number.
 use Rattle.std.proofs.Common.{◌≡◌, ℕ, ◌+◌, ◌*◌, ◌<◌, ◌≤◌, ◌^◌, List, [], ◌∷◌, ◌++◌, length, map, take, get_or, refl, sym, ap, ◌∙◌, arith}
 use Rattle.std.specs.Prelude.{All}
-use Rattle.std.proofs.lemmas.List.Elements.{All-push, All-map, All-get_or}
+use Rattle.std.proofs.lemmas.List.Elements.{All-push, All-map}
 use lib.ListN.{set}
-use Rattle.std.proofs.lemmas.List.{take_more, take_more_set, take_all, map-append, length-map, get_or-map}
+use Rattle.std.proofs.lemmas.List.{take_more, take_more_set, take_all, map-append}
 use Rattle.byte_fields.specs.Number.{u32s}
 use Rattle.msf_superblock.specs.BlockNumber.{blocks_for, nth_block}
 use Rattle.msf_superblock.specs.Superblock.{magic}
@@ -55,10 +55,3 @@ short_pushed f xs i size d so_far lt is small = rw (take_more xs i d lt) (All-pu
 -- all streams are short
 pub all_short : {X : Type 0} (f : X → List ℕ) (xs : List X) (i : ℕ) → length xs ≤ i → All (λ x. length (f x) < 2 ^ 32) (take i xs) → All (λ bytes. length bytes < 2 ^ 32) (map f xs)
 all_short f xs i le so_far = All-map (λ bytes. length bytes < 2 ^ 32) f xs (rw (take_all i xs le) at so_far)
-
--- one stream is not short
-pub not_short : {X : Type 0} (f : X → List ℕ) (xs : List X) (i : ℕ) (d : X) → i < length xs → 2 ^ 32 ≤ length (f (get_or xs i d)) → All (λ bytes. length bytes < 2 ^ 32) (map f xs) → ⊥
-not_short f xs i d lt long short =
-    let here = All-get_or (λ bytes. length bytes < 2 ^ 32) (map f xs) i (f d) (rw (length-map xs f) lt) short in
-    let same : get_or (map f xs) i (f d) ≡ f (get_or xs i d) = get_or-map f xs i d (f d) lt in
-    omega (arith, long, rw same at here)

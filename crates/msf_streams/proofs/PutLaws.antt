@@ -1,22 +1,23 @@
 -- What a sink took of the data with its map blocks, and what is still to be written.
-use Rattle.std.proofs.Common.{◌≡◌, Bor, ℕ, ◌+◌, ◌-◌, ◌*◌, ◌/◌, ◌%◌, ◌<◌, ◌≤◌, ◌^◌, min, List, [], ◌∷◌, ◌++◌, Option, length, map, take, drop, get_or, refl, sym, ap, ◌∙◌, arith, append_assoc, inl, inr}
-use Rattle.std.specs.List.{flat_map}
+use Rattle.std.proofs.Common.{◌≡◌, Bor, ℕ, ◌+◌, ◌-◌, ◌*◌, ◌/◌, ◌%◌, ◌<◌, ◌≤◌, ◌≢◌, ◌^◌, min, set, List, [], ◌∷◌, ◌++◌, Option, length, map, take, drop, get_or, refl, sym, ap, ◌∙◌, arith, append_assoc, inl, inr}
+use Rattle.std.specs.List.{concat, flat_map}
 use Rattle.std.proofs.lemmas.Grind.{flat_map-append}
 use Rattle.std.specs.Prelude.{Result, Ok, Err, OnOk, OnErr}
 use Rattle.std.specs.Io.KnownBytes.{Appends}
 use Rattle.std.proofs.KnownBytes.{Appends-nil, Appends-trans}
 use Rattle.std.proofs.Math.Seq.{take-append-add}
 use Rattle.std.proofs.lemmas.Nat.{div-add-mod', mod_below, mul-le}
-use Rattle.std.proofs.lemmas.Bool.{cases_lt}
-use Rattle.std.proofs.lemmas.List.{append-nil, length-append, length-take, length-drop, take-append-drop, take_rest, take-append-le, drop_more, take_more, drop_all}
+use Rattle.std.proofs.lemmas.Bool.{cases_eq, cases_lt}
+use Rattle.std.proofs.lemmas.List.{append-nil, length-append, length-take, length-drop, take-append-drop, take_rest, take-append-le, drop_more, take_more, drop_all, get_or-map, get_or-set_same, get_or-set_other, length-map, length-set, set-get_or}
 use Rattle.msf_superblock.specs.BlockNumber.{IsBlockSize, blocks_for}
 use Rattle.msf_superblock.proofs.SizeLaws.{size_facts, some_bytes, big_enough, next_row, ceil_is}
-use Rattle.msf_streams.specs.Image.{joined, padded, superblock_part, block_map_part, directory_part, parts, image, image_blocks, data_count}
+use Rattle.msf_streams.specs.Image.{joined, joined_of, padded, superblock_part, block_map_part, directory_part, parts, image, image_blocks, data_count}
 use Rattle.msf_streams.specs.Put.{WriterView, IsSameImage, maps_before, woven, woven_from, room, AppendsPart, IsImageFront}
 use Rattle.msf_blocks.proofs.RangeLaws.{next_block, first_block}
 use Rattle.msf_streams.proofs.ImageLaws.{length_parts}
 use Rattle.msf_streams.proofs.BackLaws.{all_blocks, bounds}
 use Rattle.msf_streams.proofs.WovenLaws.{woven_parts, some_room, woven_run, some_stretch, image_woven}
+use Rattle.msf_streams.specs.Write.{with_texts}
 use lib.ListN.{replicate}
 
 -- a sink took the first of all these bytes; the others are the rest of the data, from the position of the writer on, with its map blocks
@@ -189,14 +190,14 @@ pub still_same : (first second third : WriterView) → IsSameImage first second 
 still_same first second third before after = record { block_size = after.block_size ∙ before.block_size; num_blocks = after.num_blocks ∙ before.num_blocks }
 
 -- the first of the remaining data was not taken as a whole
-first_fails : (old between new : Option (List ℕ)) (w : WriterView) (all first rest : List ℕ) → Halfway old between w all (first ++ rest)
+pub first_fails : (old between new : Option (List ℕ)) (w : WriterView) (all first rest : List ℕ) → Halfway old between w all (first ++ rest)
     → AppendsPart between new (woven_from w first) → AppendsPart old new all
 first_fails old between new w all first rest so_far h =
     rw (so_far.split, woven_parts w.block_size w.num_blocks w.position first rest)
     (part_second old between new so_far.taken _ so_far.appends (part_first between new (woven_from w first) _ h))
 
 -- the first of the remaining data was taken as a whole
-first_taken : (old between new : Option (List ℕ)) (w v : WriterView) (all first rest : List ℕ) → Halfway old between w all (first ++ rest)
+pub first_taken : (old between new : Option (List ℕ)) (w v : WriterView) (all first rest : List ℕ) → Halfway old between w all (first ++ rest)
     → Appends between new (woven_from w first) → IsSameImage w v → v.position ≡ w.position + length first → Halfway old new v all rest
 first_taken old between new w v all first rest so_far h same is =
     let put = woven_from w first in
@@ -375,3 +376,46 @@ pub length_all : (ps : List (Bor (List ℕ))) (i : ℕ) → length (joined (take
 length_all ps i =
     let split : joined ps ≡ joined (take i ps) ++ joined (drop i ps) = ap joined (sym (take-append-drop i ps)) ∙ flat_map-append (λ part. part.now) (take i ps) (drop i ps) in
     omega (arith, ap length split, length-append (joined (take i ps)) (joined (drop i ps)))
+
+-- ---- texts, collected in a chunk
+
+-- a part without texts
+pub part_alone : (part : Bor (List ℕ)) (none : List (List ℕ)) → none ≡ [] → joined (part ∷ []) ++ concat none ≡ part.now
+part_alone part none is = rw is (append-nil (joined (part ∷ [])) ∙ joined_one part)
+
+-- streams without texts are just their parts
+pub without_texts : (streams : List (Bor (List (Bor (List ℕ))))) (none : List (List ℕ)) → none ≡ [] → with_texts streams none ≡ joined_of streams
+without_texts streams none is = rw is (ap (λ (x : List ℕ). set (joined_of streams) 2 x) (append-nil (get_or (joined_of streams) 2 [])) ∙ set-get_or (joined_of streams) 2 [])
+
+-- the contents of the next stream
+pub contents_at : (streams : List (Bor (List (Bor (List ℕ))))) (texts none : List (List ℕ)) (s : ℕ) (d : Bor (List (Bor (List ℕ)))) (after : List (List ℕ)) → none ≡ [] → s < length streams → (s ≡ 2 → after ≡ texts) → (s ≢ 2 → after ≡ none)
+    → get_or (with_texts streams texts) s [] ≡ joined (get_or streams s d).now ++ concat after
+contents_at streams texts none s d after nothing inside here elsewhere =
+    let at : get_or (joined_of streams) s [] ≡ joined (get_or streams s d).now = get_or-map (λ parts. joined parts.now) streams s d [] inside in
+    elim (cases_eq s 2) [
+      | inl same ↦
+          let last : 2 < length (joined_of streams) = omega (arith, inside, same, length-map streams (λ parts. joined parts.now)) in
+          rw (same, get_or-set_same (joined_of streams) 2 (get_or (joined_of streams) 2 [] ++ concat texts) [] last, here same, rw same at at) refl
+      | inr apart ↦
+          get_or-set_other (joined_of streams) 2 s (get_or (joined_of streams) 2 [] ++ concat texts) [] apart ∙ at ∙ rw (elsewhere apart, nothing) (sym (append-nil (joined (get_or streams s d).now)))
+    ]
+
+-- there are as many contents as streams
+pub contents_many : (streams : List (Bor (List (Bor (List ℕ))))) (texts : List (List ℕ)) → length (with_texts streams texts) ≡ length streams
+contents_many streams texts = length-set (joined_of streams) 2 (get_or (joined_of streams) 2 [] ++ concat texts) ∙ length-map streams (λ parts. joined parts.now)
+
+-- nothing was put yet
+pub nothing_put : (old : Option (List ℕ)) (w : WriterView) (left : List ℕ) → Halfway old old w (woven_from w left) left
+nothing_put old w left = record { taken = []; split = refl; appends = Appends-nil old }
+
+-- the texts that are left are the next one and those after it
+pub text_here : (texts : List (List ℕ)) (k : ℕ) → k < length texts → concat (drop k texts) ≡ get_or texts k [] ++ concat (drop (k + 1) texts)
+text_here texts k inside = ap (λ (xs : List (List ℕ)). concat xs) (drop_more texts k [] inside)
+
+-- the next text waits in the chunk
+pub text_waits : (chunk : List ℕ) (texts : List (List ℕ)) (k : ℕ) → k < length texts → (chunk ++ get_or texts k []) ++ concat (drop (k + 1) texts) ≡ chunk ++ concat (drop k texts)
+text_waits chunk texts k inside = append_assoc chunk (get_or texts k []) (concat (drop (k + 1) texts)) ∙ ap (λ (x : List ℕ). chunk ++ x) (sym (text_here texts k inside))
+
+-- after the last text the chunk is left
+pub chunk_left : (chunk : List ℕ) (texts : List (List ℕ)) (k : ℕ) → length texts ≤ k → chunk ++ concat (drop k texts) ≡ chunk
+chunk_left chunk texts k past = ap (λ (xs : List (List ℕ)). chunk ++ concat xs) (drop_all k texts past) ∙ append-nil chunk

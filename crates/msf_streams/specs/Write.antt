@@ -1,10 +1,17 @@
 -- How a call that writes an image leaves its sink.
-use Rattle.std.specs.Prelude.{ℕ, ◌≡◌, ◌≢◌, ◌⊎◌, true, Bool, List, Option, Result, Err, OnOk, IfErr}
+use Rattle.std.specs.Prelude.{ℕ, ◌≡◌, ◌≢◌, ◌⊎◌, true, Bool, List, [], ◌++◌, get_or, set, Option, Result, Err, OnOk, IfErr}
+use Rattle.std.specs.Borrow.{Bor}
+use Rattle.std.specs.List.{concat}
 use Rattle.std.specs.Io.KnownBytes.{Appends}
-use Rattle.msf_streams.specs.Image.{Writable, image}
+use Rattle.msf_streams.specs.Image.{Writable, image, joined_of}
 use Rattle.msf_streams.specs.Put.{AppendsPart}
 use Rattle.msf_streams.specs.declared.fault.WriteFault.{WriteFault}
 use Rattle.msf_streams.specs.declared.fault.WriteFault.TheVariants as writes
+
+-- the contents of streams that are lent in parts, with texts after the parts of stream 2
+abbrev pub with_texts : List (Bor (List (Bor (List ℕ)))) → List (List ℕ) → List (List ℕ)
+with_texts streams texts =
+    set (joined_of streams) 2 (get_or (joined_of streams) 2 [] ++ concat texts)
 
 -- the sink took the image of these contents, or the call was refused
 pub record WritesImage {W T : Type 0} (block_size : ℕ) (contents : List (List ℕ))

@@ -5,17 +5,19 @@
 //! and two map blocks come before the first byte of each stretch. They are put right before that
 //! byte, so no map blocks come after the last byte of the data.
 
-ghost use Rattle.std.specs.Prelude.{◌≡◌, ◌<◌, ◌≤◌, ◌^◌, ◌+◌, ◌*◌, ◌-◌, true, length, take, IfOk, OnOk, OnErr};
-ghost use Rattle.std.specs.List.{flat_map};
+ghost use Rattle.std.specs.Prelude.{◌≡◌, ◌≢◌, ◌⊎◌, ◌<◌, ◌≤◌, ◌^◌, ◌+◌, ◌*◌, ◌-◌, ◌++◌, [], true, length, take, IsTrue, IfOk, OnOk, OnErr};
+ghost use Rattle.std.specs.List.{concat, flat_map};
 ghost use lib.ListN.{replicate};
 ghost use Rattle.std.specs.Io.KnownBytes.{Appends};
 ghost use Rattle.msf_superblock.specs.BlockNumber.{blocks_for};
 ghost use Rattle.msf_blocks.specs.FreeMap.{map_block};
-ghost use Rattle.msf_streams.specs.Image.{padded, joined, joined_of};
+ghost use Rattle.msf_streams.specs.Image.{padded, joined};
+ghost use Rattle.msf_streams.specs.Write.{with_texts};
 ghost use Rattle.msf_streams.specs.Put.{WriterView, IsSameImage, stretch, maps_of, maps_before, woven_from, room, AppendsPart};
 
 use byte_io::{NotTaken, Sink, put_all};
 use msf_blocks::{BlockSize, fill_map_block};
+use packed_texts::OrderedTexts;
 use std::alloc::{AllocError, Allocator};
 use std::marker::Model;
 
@@ -47,6 +49,9 @@ fn room(block_size: BlockSize, position: usize) -> usize
 /// As many zeros as the largest block has bytes.
 const ZEROS: [u8; 32768] = [0; 32768];
 
+// So many texts ahead, a text is loaded: far enough that it is there in time.
+const AHEAD: usize = 12;
+
 /// `count` zeros.
 fn zeros(count: usize) -> &'static [u8]
     requires { count ≤ 32768 }
@@ -64,6 +69,42 @@ fn fill_len(block_size: BlockSize, len: usize) -> usize
 {
     let size = block_size.bytes() as usize;
     (size - len % size) % size
+}
+
+/// Appends a text to a chunk if there is room for it. Returns whether there was.
+fn collect<A: Allocator>(chunk: &mut Vec<u8, A>, text: &[u8]) -> bool
+    ensures fits { IsTrue result → chunk.new.items ≡ chunk.old.items ++ text.now }
+    ensures full { IsTrue result ⊎ (chunk.new.items ≡ chunk.old.items) }
+{
+    text.len() <= chunk.capacity() - chunk.len() && chunk.extend_from_slice(text).is_ok()
+}
+
+/// Loads the front of a text that will be collected soon, so that no one waits for it then.
+///
+/// The chunk stays as it is. The byte is put there and taken away again, since a byte that is never
+/// stored need not be loaded.
+fn load<A: Allocator>(texts: &OrderedTexts<A>, position: usize, chunk: &mut Vec<u8, A>)
+    ensures { chunk.new.items ≡ chunk.old.items }
+{
+    if position < texts.len() && chunk.len() < chunk.capacity() {
+        if let Some(first) = texts.get(position).first() {
+            if chunk.push(*first).is_ok() {
+                chunk.pop();
+            }
+        }
+    }
+}
+
+/// The texts that follow the parts of the `s`-th stream: these after stream 2, and none elsewhere.
+pub(crate) fn texts_after<'t, A: Allocator>(
+    texts: &'t OrderedTexts<A>,
+    none: &'t OrderedTexts<A>,
+    s: usize,
+) -> &'t OrderedTexts<A>
+    ensures here { s ≡ 2 → result.now ≡ texts.now }
+    ensures elsewhere { s ≢ 2 → result.now ≡ none.now }
+{
+    if s == 2 { texts } else { none }
 }
 
 /// Puts the parts of an image into a sink, one after the other. Made by [`ImageWriter::new`].
@@ -223,28 +264,98 @@ impl<A: Allocator> ImageWriter<A> {
         Ok(())
     }
 
-    /// Puts a stream that is lent in parts, padded with zeros to whole blocks.
-    fn put_stream<W: Sink>(&mut self, parts: &[&[u8]], out: &mut W) -> Result<(), NotTaken>
-        requires few { self.old.position + length (padded self.old.block_size (joined parts.now))
-            < 2 ^ 33 }
+    /// Puts texts in their order, with the map blocks before and between their bytes.
+    ///
+    /// The texts are collected in a chunk, so that the sink takes many of them at once. One that
+    /// has no room there is put by itself.
+    fn put_texts<W: Sink>(
+        &mut self,
+        texts: &OrderedTexts<A>,
+        chunk: &mut Vec<u8, A>,
+        out: &mut W,
+    ) -> Result<(), NotTaken>
+        requires few { self.old.position + length (concat texts.now) < 2 ^ 33 }
         ensures same { IsSameImage self.old self.new }
-        ensures end { OnOk result (self.new.position
-            ≡ self.old.position + length (padded self.old.block_size (joined parts.now))) }
+        ensures end { OnOk result
+            (self.new.position ≡ self.old.position + length (concat texts.now)) }
         ensures ok { OnOk result (Appends (W.taken out.old) (W.taken out.new)
-            (woven_from self.old (padded self.old.block_size (joined parts.now)))) }
+            (woven_from self.old (concat texts.now))) }
         ensures broken { OnErr result (W.is_broken out.new ≡ true) }
         ensures prefix { OnErr result (AppendsPart (W.taken out.old) (W.taken out.new)
-            (woven_from self.old (padded self.old.block_size (joined parts.now)))) }
+            (woven_from self.old (concat texts.now))) }
+    {
+        chunk.clear();
+        for position in 0..texts.len() {
+            load(texts, position.saturating_add(AHEAD), chunk);
+            let text = texts.get(position);
+            if !collect(chunk, text) {
+                self.put_bytes(chunk, out)?;
+                chunk.clear();
+                self.put_bytes(text, out)?;
+            }
+        }
+        self.put_bytes(chunk, out)
+    }
+
+    /// Puts the bytes of parts and then those of texts, with the map blocks before and between
+    /// them.
+    fn put_contents<W: Sink>(
+        &mut self,
+        parts: &[&[u8]],
+        texts: &OrderedTexts<A>,
+        chunk: &mut Vec<u8, A>,
+        out: &mut W,
+    ) -> Result<(), NotTaken>
+        requires few { self.old.position + length (joined parts.now ++ concat texts.now) < 2 ^ 33 }
+        ensures same { IsSameImage self.old self.new }
+        ensures end { OnOk result (self.new.position
+            ≡ self.old.position + length (joined parts.now ++ concat texts.now)) }
+        ensures ok { OnOk result (Appends (W.taken out.old) (W.taken out.new)
+            (woven_from self.old (joined parts.now ++ concat texts.now))) }
+        ensures broken { OnErr result (W.is_broken out.new ≡ true) }
+        ensures prefix { OnErr result (AppendsPart (W.taken out.old) (W.taken out.new)
+            (woven_from self.old (joined parts.now ++ concat texts.now))) }
+    {
+        self.put_joined(parts, out)?;
+        self.put_texts(texts, chunk, out)
+    }
+
+    /// Puts a stream of parts and then texts, padded with zeros to whole blocks.
+    fn put_stream<W: Sink>(
+        &mut self,
+        parts: &[&[u8]],
+        texts: &OrderedTexts<A>,
+        chunk: &mut Vec<u8, A>,
+        out: &mut W,
+    ) -> Result<(), NotTaken>
+        requires few { self.old.position
+            + length (padded self.old.block_size (joined parts.now ++ concat texts.now)) < 2 ^ 33 }
+        ensures same { IsSameImage self.old self.new }
+        ensures end { OnOk result (self.new.position ≡ self.old.position
+            + length (padded self.old.block_size (joined parts.now ++ concat texts.now))) }
+        ensures ok { OnOk result (Appends (W.taken out.old) (W.taken out.new) (woven_from self.old
+            (padded self.old.block_size (joined parts.now ++ concat texts.now)))) }
+        ensures broken { OnErr result (W.is_broken out.new ≡ true) }
+        ensures prefix { OnErr result (AppendsPart (W.taken out.old) (W.taken out.new)
+            (woven_from self.old
+            (padded self.old.block_size (joined parts.now ++ concat texts.now)))) }
     {
         let start = self.position;
-        self.put_joined(parts, out)?;
+        self.put_contents(parts, texts, chunk, out)?;
         let fill = zeros(fill_len(self.block_size, self.position - start));
         self.put_bytes(fill, out)
     }
 
-    /// Puts a part of the image, padded with zeros to whole blocks.
-    #[tactic(auto, using(crate::proofs::PutLaws::joined_one))]
-    pub(crate) fn put_part<W: Sink>(&mut self, part: &[u8], out: &mut W) -> Result<(), NotTaken>
+    /// Puts a part of the image, padded with zeros to whole blocks. `none` has no texts.
+    #[tactic(auto, using(crate::proofs::PutLaws::part_alone))]
+    pub(crate) fn put_part<W: Sink>(
+        &mut self,
+        part: &[u8],
+        none: &OrderedTexts<A>,
+        chunk: &mut Vec<u8, A>,
+        out: &mut W,
+    ) -> Result<(), NotTaken>
+        requires none { none.now ≡ [] }
         requires few { self.old.position + length (padded self.old.block_size part.now) < 2 ^ 33 }
         ensures same { IsSameImage self.old self.new }
         ensures end { OnOk result
@@ -255,26 +366,33 @@ impl<A: Allocator> ImageWriter<A> {
         ensures prefix { OnErr result (AppendsPart (W.taken out.old) (W.taken out.new)
             (woven_from self.old (padded self.old.block_size part.now))) }
     {
-        self.put_stream(&[part], out)
+        self.put_stream(&[part], none, chunk, out)
     }
 
-    /// Puts streams one after the other, each padded with zeros to whole blocks.
+    /// Puts streams one after the other, each padded with zeros to whole blocks. The texts come
+    /// after the parts of stream 2, and `none` has no texts.
     pub(crate) fn put_streams<W: Sink>(
         &mut self,
         streams: &[&[&[u8]]],
+        texts: &OrderedTexts<A>,
+        none: &OrderedTexts<A>,
+        chunk: &mut Vec<u8, A>,
         out: &mut W,
     ) -> Result<(), NotTaken>
+        requires none { none.now ≡ [] }
         requires few { self.old.position
-            + length (flat_map (padded self.old.block_size) (joined_of streams.now)) < 2 ^ 33 }
+            + length (flat_map (padded self.old.block_size) (with_texts streams.now texts.now))
+            < 2 ^ 33 }
         ensures same { IsSameImage self.old self.new }
-        ensures ok { OnOk result (Appends (W.taken out.old) (W.taken out.new)
-            (woven_from self.old (flat_map (padded self.old.block_size) (joined_of streams.now)))) }
+        ensures ok { OnOk result (Appends (W.taken out.old) (W.taken out.new) (woven_from self.old
+            (flat_map (padded self.old.block_size) (with_texts streams.now texts.now)))) }
         ensures broken { OnErr result (W.is_broken out.new ≡ true) }
         ensures prefix { OnErr result (AppendsPart (W.taken out.old) (W.taken out.new)
-            (woven_from self.old (flat_map (padded self.old.block_size) (joined_of streams.now)))) }
+            (woven_from self.old
+            (flat_map (padded self.old.block_size) (with_texts streams.now texts.now)))) }
     {
-        for parts in streams {
-            self.put_stream(parts, out)?;
+        for s in 0..streams.len() {
+            self.put_stream(streams[s], texts_after(texts, none, s), chunk, out)?;
         }
         Ok(())
     }

@@ -14,7 +14,8 @@
 //! - A [`Container`] is a file with its layout, as one value.
 //! - [`write_image`] writes the *image* of five streams: the container that holds just these
 //!   streams. [`write_parts`] does the same for streams that are lent in several parts, and
-//!   [`write_parts_len`] also returns the length of the image.
+//!   [`write_streams`] goes on with texts in an order of their own, and returns the length of the
+//!   image.
 //! - [`image_len`] computes the length of an image, or says that there is none.
 //! - [`laws`] says what holds of every image and of every stream. For example, an image reads back
 //!   as the streams that it was made of.
@@ -71,4 +72,4 @@ pub use container::Container;
 pub use fault::{StreamFault, WriteFault};
 pub use image::image_len;
 pub use streams::{StreamPieces as Pieces, gather, pieces};
-pub use write::{write_image, write_parts, write_parts_len};
+pub use write::{write_image, write_parts, write_streams};

@@ -1,5 +1,7 @@
 -- Texts that lie one after the other in one list of bytes.
-use Rattle.std.specs.Prelude.{ℕ, ◌≡◌, ◌-◌, ◌*◌, ◌%◌, ◌^◌, ◌<◌, ◌≤◌, List, [], ◌∷◌, length, map, take, drop}
+use Rattle.std.specs.Prelude.{ℕ, ◌≡◌, ◌-◌, ◌*◌, ◌%◌, ◌^◌, ◌<◌, ◌≤◌, List, [], ◌∷◌, length, map, take, drop, get_or}
+use Rattle.std.specs.List.{All, concat}
+use Rattle.packed_texts.specs.declared.ordered.Span.{Span}
 
 -- the texts that end at these offsets; the bytes begin at the offset `from`,
 -- and so does the first text
@@ -25,3 +27,30 @@ pub record ArePacked (bytes ends : List ℕ) : Type 0 where
   pub short : length bytes < 2 ^ 34
   -- the bytes are whole groups
   pub padded : length bytes % 4 ≡ 0
+
+-- the texts at these positions, in this order
+abbrev pub texts_at : List (List ℕ) → List ℕ → List (List ℕ)
+texts_at texts order = map (λ p. get_or texts p []) order
+
+-- the bytes of a span
+unfoldable pub part : List ℕ → Span → List ℕ
+part bytes span = take (4 * span.end - 4 * span.start) (drop (4 * span.start) bytes)
+
+-- these bytes have this span
+pub record HasSpan (bytes : List ℕ) (span : Span) : Type 0 where
+  pub forward : span.start ≤ span.end
+  pub inside : 4 * span.end ≤ length bytes
+
+-- the texts that have these spans
+abbrev pub parts : List ℕ → List Span → List (List ℕ)
+parts bytes spans = map (part bytes) spans
+
+-- the bytes have all of these spans, and no others
+pub record AreSpans (bytes : List ℕ) (spans : List Span) : Type 0 where
+  pub has : All (HasSpan bytes) spans
+  pub whole : length (concat (parts bytes spans)) ≡ length bytes
+
+-- there is a text at each of these positions, and the texts have no other bytes
+pub record IsOrder (texts : List (List ℕ)) (order : List ℕ) : Type 0 where
+  pub inside : All (λ p. p < length texts) order
+  pub whole : length (concat (texts_at texts order)) ≡ length (concat texts)

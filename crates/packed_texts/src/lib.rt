@@ -4,6 +4,9 @@
 //! which it ends. The length of each text is a multiple of four bytes. So these offsets count
 //! groups of four bytes, and 32 bits are enough for 16 GB of text.
 //!
+//! An [`OrderedTexts`] is such a list with an order of its own: the texts are not moved, and a list of
+//! their positions says which comes where.
+//!
 //! [`row_start`] and [`row_end`] say where a row of such a vector begins and ends. The lists of
 //! other crates, whose items are numbers, use them too.
 //!
@@ -23,11 +26,15 @@
 //! ```
 #![tactic(auto)]
 
-ghost use Rattle.std.specs.Prelude.{◌≡◌, ◌+◌, ◌-◌, ◌*◌, ◌%◌, ◌^◌, ◌<◌, ◌≤◌, ◌++◌, ◌↔◌, [], ◌∷◌, ℕ, length, get_or, take, IsTrue, IfOk, IfErr};
+ghost use Rattle.std.specs.Prelude.{◌≡◌, ◌+◌, ◌-◌, ◌*◌, ◌%◌, ◌^◌, ◌<◌, ◌≤◌, ◌++◌, ◌↔◌, [], ◌∷◌, ℕ, length, get_or, set, take, IsTrue, IfOk, IfErr};
 ghost use Rattle.std.specs.List.{concat};
+ghost use Rattle.packed_texts.specs.PackedTexts.{part, HasSpan};
 
+mod ordered;
 mod rows;
 
+pub use ordered::OrderedTexts;
+use ordered::Span;
 pub use rows::{row_end, row_start};
 use std::alloc::{AllocError, Allocator, Global};
 use std::marker::Model;
@@ -64,6 +71,17 @@ impl<A: Allocator + Copy> PackedTexts<A> {
             bytes: Vec::new(alloc),
             ends: Vec::new(alloc),
         }
+    }
+
+    /// A copy of all texts.
+    pub fn copy(&self, alloc: A) -> Result<PackedTexts<A>, AllocError>
+        ensures { IfOk result (λ copy. copy ≡ self.now) }
+    {
+        let mut bytes = Vec::new(alloc);
+        bytes.extend_from_slice(&self.bytes)?;
+        let mut ends = Vec::new(alloc);
+        ends.extend_from_slice(&self.ends)?;
+        Ok(PackedTexts { bytes, ends })
     }
 }
 
@@ -102,6 +120,31 @@ impl<A: Allocator> PackedTexts<A> {
         let start = 4 * row_start(&self.ends, position);
         let end = 4 * row_end(&self.ends, position);
         &self.bytes[start..end]
+    }
+
+    /// Where the text at a position lies.
+    #[tactic(auto, using(crate::proofs::PackedLaws::many_texts, crate::proofs::PackedLaws::whole, crate::proofs::PackedLaws::text_at, crate::proofs::PackedLaws::text_inside, crate::proofs::PackedLaws::text_forward), unfolding(crate::specs::PackedTexts::part))]
+    pub(crate) fn span(&self, position: usize) -> Span
+        requires inside { position < length self.now }
+        ensures has { HasSpan (concat self.now) result }
+        ensures text { part (concat self.now) result ≡ get_or self.now position [] }
+    {
+        Span {
+            start: row_start(&self.ends, position) as u32,
+            end: row_end(&self.ends, position) as u32,
+        }
+    }
+
+    /// Puts a text in the place of one that is as long.
+    #[tactic(auto, using(crate::proofs::PackedLaws::many_texts, crate::proofs::PackedLaws::text_inside, crate::proofs::PackedLaws::text_forward))]
+    pub fn put(&mut self, position: usize, text: &[u8])
+        requires inside { position < length self.old }
+        requires same { length text.now ≡ length (get_or self.old position []) }
+        ensures { self.new ≡ set self.old position text.now }
+    {
+        let start = 4 * row_start(&self.ends, position);
+        let end = 4 * row_end(&self.ends, position);
+        self.bytes[start..end].copy_from_slice(text);
     }
 
     /// Appends a text after the others.

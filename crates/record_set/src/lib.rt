@@ -2,9 +2,7 @@
 //!
 //! [`RecordSet`] finds a record by its bytes, as a [`TextSet`](text_set::TextSet) does. Beside each
 //! record it keeps the places of its references, without those of simple types. So code that
-//! follows the references of a record need not look at its leaf. [`Listed`] lends the records and
-//! their places. They are those of a set, or of a set that was taken apart because no record is
-//! looked up any more.
+//! follows the references of a record need not look at its leaf.
 //!
 //! # Example
 //!
@@ -28,10 +26,8 @@
 //! ```
 #![tactic(auto)]
 
-mod listed;
 mod lists;
 mod set;
 
-pub use listed::Listed;
 pub use lists::PlaceLists;
 pub use set::RecordSet;

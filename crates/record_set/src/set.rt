@@ -6,7 +6,6 @@ ghost use Rattle.text_set.specs.TextSet.{AreDistinct, Holds};
 ghost use Rattle.cv_leaves.specs.Named.{named_places};
 ghost use Rattle.record_set.specs.RecordSet.{HasNamedPlaces};
 
-use crate::listed::Listed;
 use crate::lists::PlaceLists;
 use packed_texts::PackedTexts;
 use std::alloc::{AllocError, Allocator, Global};
@@ -66,11 +65,12 @@ impl<S: BuildHasher, A: Allocator> RecordSet<S, A> {
         self.records.is_empty()
     }
 
-    /// The records with their places, without what serves to find one.
-    pub fn listed(&self) -> Listed<'_, A>
-        ensures { result ≡ self.now }
+    /// The records, and for each the places at which it names others.
+    pub fn parts(&self) -> (&PackedTexts<A>, &PlaceLists<A>)
+        ensures records { result.0.now ≡ self.now }
+        ensures places { HasNamedPlaces self.now result.1.now }
     {
-        Listed::new(self.records.texts(), &self.places)
+        (self.records.texts(), &self.places)
     }
 
     /// The records, and for each the places at which it names others. The memory that serves to

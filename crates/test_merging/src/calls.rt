@@ -111,7 +111,9 @@ pub fn finish<S: BuildHasher, A: Allocator + Copy>(
 /// The bytes of a list, copied into other memory.
 pub fn copied<A: Allocator>(alloc: Global, canon: &Canon<A>) -> Result<Vec<u8>, Fail> {
     let mut bytes = Vec::new(alloc);
-    bytes.extend_from_slice(canon.bytes())?;
+    for record in canon.records() {
+        bytes.extend_from_slice(record)?;
+    }
     Ok(bytes)
 }
 

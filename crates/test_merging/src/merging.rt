@@ -105,8 +105,8 @@ pub(super) fn wanted(alloc: Global, records: &[&[u8]]) -> Result<Want, Fail> {
 }
 
 /// Whether a list is the one that is wanted.
-pub(super) fn is_listed(canon: &Canon, want: &Want) -> bool {
-    canon.bytes() == want.list.as_slice() && canon.len() == want.said.types as usize
+pub(super) fn is_listed(alloc: Global, canon: &Canon, want: &Want) -> Result<bool, Fail> {
+    Ok(copied(alloc, canon)? == want.list && canon.len() == want.said.types as usize)
 }
 
 /// Whether the list of files, by this hasher, is the one that is wanted.
@@ -118,7 +118,7 @@ fn lists<S: BuildHasher + Drop>(
     want: &Want,
 ) -> Result<bool, Fail> {
     match list_of(alloc, files, settings, hasher) {
-        Ok(canon) => Ok(is_listed(&canon, want)),
+        Ok(canon) => is_listed(alloc, &canon, want),
         Err(fault) => Err(fault.to_string(alloc)?.into()),
     }
 }

@@ -3,6 +3,7 @@
 
 ghost use Rattle.std.specs.Prelude.{None};
 
+use super::calls::copied;
 use super::merging::{ROWS, is_listed, wanted, zeros};
 use byte_io::{InputFault, Inputs, Opened};
 use pdb_info::Settings;
@@ -100,7 +101,8 @@ fn each_type_once_by_position(rt: HostRuntime) -> Result<(), Fail> {
         let want = wanted(rt.alloc(), all)?;
         let files = [first.as_slice(), second.as_slice(), first.as_slice()];
         let list = parts_alone(rt.alloc(), &files, usize::MAX, &settings);
-        assert!(rt; list.is_ok_and(|canon| is_listed(&canon, &want)));
+        let canon = list.ok().ok_or("the files are refused")?;
+        assert!(rt; is_listed(rt.alloc(), &canon, &want)?);
     }
     Ok(())
 }
@@ -111,7 +113,7 @@ fn after_a_read_that_fails_the_file_is_read_whole(rt: HostRuntime) -> Result<(),
     let files = [file.as_slice(), file.as_slice()];
     let settings = settings(LIMIT, 4096)?;
     let want = merge_files(rt.alloc(), &files[..], &settings, folding());
-    let want = want.ok().ok_or("the sample is refused")?;
+    let want = copied(rt.alloc(), &want.ok().ok_or("the sample is refused")?)?;
     for fails_at in 0..100usize {
         let files_at = Parts {
             files: &files,
@@ -119,10 +121,8 @@ fn after_a_read_that_fails_the_file_is_read_whole(rt: HostRuntime) -> Result<(),
             whole: true,
         };
         let list = list_at(rt.alloc(), files_at, &settings);
-        assert!(rt;
-            list.is_ok_and(|canon| canon.bytes() == want.bytes()),
-            "read {fails_at}"
-        );
+        let canon = list.ok().ok_or("the files are refused")?;
+        assert!(rt; copied(rt.alloc(), &canon)? == want, "read {fails_at}");
         match parts_alone(rt.alloc(), &files, fails_at, &settings) {
             Ok(_) => {
                 // no read has this number

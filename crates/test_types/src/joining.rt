@@ -136,7 +136,7 @@ fn is_list(canon: &Canon, want: &[&[u8]]) -> bool {
 /// Whether the canonical list of two streams, by joining, has these bytes.
 fn joins(alloc: Global, first: &[u8], second: &[u8], want: &[u8]) -> Result<bool, Fail> {
     let canon = joined(alloc, &[first, second])?;
-    Ok(canon.bytes() == want && canon.bytes_len() as usize == want.len())
+    Ok(copied(alloc, &canon)?.as_slice() == want && canon.bytes_len() as usize == want.len())
 }
 
 /// Whether the list of two streams has these bytes, whichever comes first.

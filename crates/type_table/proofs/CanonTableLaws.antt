@@ -3,14 +3,14 @@ use Rattle.std.proofs.Common.{◌≡◌, ◌≢◌, ◌≤◌, ◌<◌, ◌^◌,
 use Rattle.std.specs.Prelude.{slice_get}
 use Rattle.std.proofs.lemmas.Bool.{cases_lt}
 use Rattle.std.proofs.lemmas.List.{take_more, get_or-take, length-take-le, get_or_append_left, get_or-append-add, get_or-map, length-map}
-use Rattle.std.specs.List.{AllPairs, concat}
+use Rattle.std.specs.List.{All, AllPairs, concat}
+use Rattle.packed_texts.specs.PackedTexts.{texts_at}
 use Rattle.text_set.specs.TextSet.{Holds}
 use Rattle.closed_trees.specs.Tree.{Tree, nothing, IsType}
 use Rattle.closed_trees.specs.Canon.{text, texts, Canonical}
 use Rattle.byte_fields.specs.Bytes.{AreBytes}
 use Rattle.closed_trees.specs.Table.{IsTable}
 use Rattle.canonical_list.specs.Finish.{IsCanon, IsCanonOf}
-use Rattle.closed_trees.proofs.NextLaws.{table_weighs_all}
 use Rattle.type_table.proofs.AddLaws.{starts_same}
 use Rattle.canonical_list.proofs.FinishLaws.{nothing_listed}
 use Rattle.closed_trees.proofs.ReadLaws.{few, holds, canonical_reads_back}
@@ -44,6 +44,12 @@ bytes_each (x ∷ xs) bytes zero inside = λ k. elim (cases_lt k (length x)) [
     past (b ∷ y) (suc k) le = past y k (omega (arith, le))
 bytes_each (x ∷ xs) bytes (suc i) inside = bytes_each xs (λ k. rw (← get_or-append-add x (concat xs) k 0) (bytes (length x + k))) i (omega (arith, inside))
 
+-- in any order
+ordered_bytes : (xs : List (List ℕ)) (order : List ℕ) → All (λ p. p < length xs) order → AreBytes (concat xs) → (i : ℕ) → i < length (texts_at xs order) → AreBytes (get_or (texts_at xs order) i [])
+ordered_bytes xs order inside bytes i i_in =
+    let k_in : i < length order = omega (arith, i_in, length-map order (λ p. get_or xs p [])) in
+    rw (get_or-map (λ p. get_or xs p []) order i 0 [] k_in) (bytes_each xs bytes (get_or order i 0) (inside i 0 k_in))
+
 -- no two texts of a canonical list are equal
 distinct_texts : (l : List Tree) → Canonical l → AllPairs (λ x y. x ≢ y) (texts l)
 distinct_texts l c i j d less j_in e =
@@ -54,8 +60,8 @@ distinct_texts l c i j d less j_in e =
     c.distinct i j nothing less j_l (texts_differ l (get_or l i nothing) (get_or l j nothing) (few l c) (c.closed i i_l) (c.closed j j_l) (holds l c i i_l) (holds l c j j_l) same)
 
 -- the canonical list of a table's types is a table
-pub canon_of_table : (r out : List (List ℕ)) → IsTable r → IsCanonOf out (IsType r) → AreBytes (concat out) → IsCanon out
-canon_of_table r out table c bytes =
+pub canon_of_table : (r now : List (List ℕ)) (order : List ℕ) → IsTable r → IsCanonOf (texts_at now order) (IsType r) → All (λ p. p < length now) order → AreBytes (concat now) → IsCanon (texts_at now order)
+canon_of_table r now order table c inside bytes =
     let l : List Tree = c.0 in
     let back = canonical_reads_back l c.1 in
     record {
@@ -64,16 +70,11 @@ canon_of_table r out table c bytes =
       are = c.2;
       table = rw c.2 (record {
         good = back.good;
-        bytes = bytes_each (texts l) (rw c.2 at bytes);
+        bytes = λ i i_in. rw (← ap (λ (x : List (List ℕ)). get_or x i []) c.2) (ordered_bytes now order inside bytes i (omega (arith, i_in, ap length c.2)));
         lower = back.lower;
         distinct = distinct_texts l c.1;
       });
     }
-
--- the canonical list has as many bytes as the table
-pub canon_weighs : (r out : List (List ℕ)) → IsTable r → IsCanonOf out (IsType r) → length (concat out) ≡ length (concat r)
-canon_weighs r out table c =
-    ap (λ (x : List (List ℕ)). length (concat x)) c.2 ∙ weight_of_texts c.0 c.1 ∙ table_weighs_all r c.0 table c.1.distinct c.3
 
 -- ---- The table of a canonical list
 

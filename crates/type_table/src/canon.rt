@@ -13,7 +13,7 @@ use crate::canon_records::CanonRecords;
 use crate::fault::JoinFault;
 use crate::table::Table;
 use checked_types::Types;
-use packed_texts::PackedTexts;
+use packed_texts::OrderedTexts;
 use std::alloc::{Allocator, Global};
 use std::hash::{BuildHasherDefault, FoldHasher};
 use std::marker::Model;
@@ -23,11 +23,11 @@ use std::marker::Model;
 /// It has each type once. The types are in the order of their depths, and those of one depth are in
 /// the order of the bytes of their records. The record at position i has the type index
 /// `0x1000 + i`, and the records name each other by these type indices. So each record names only
-/// earlier records, and equal sets have equal lists. The records lie one after the other in one
-/// vector, and have fewer than 2^32 bytes together.
+/// earlier records, and equal sets have equal lists. The records lie in one vector, in any order,
+/// and have fewer than 2^32 bytes together.
 #[derive(Debug, Drop)]
 pub struct Canon<A: Allocator = Global> {
-    pub(crate) texts: PackedTexts<A>,
+    pub(crate) texts: OrderedTexts<A>,
 }
 
 impl<A: Allocator> Model for Canon<A> {
@@ -48,7 +48,7 @@ impl<A: Allocator + Copy> Canon<A> {
         ensures { result ≡ [] }
     {
         Canon {
-            texts: PackedTexts::new(alloc),
+            texts: OrderedTexts::empty(alloc),
         }
     }
 
@@ -119,11 +119,11 @@ impl<A: Allocator> Canon<A> {
         CanonRecords::new(self)
     }
 
-    /// The bytes of all records, one record after the other, with their length fields.
-    pub fn bytes(&self) -> &[u8]
-        ensures { result.now ≡ concat self.now }
+    /// The records in order, as texts.
+    pub fn texts(&self) -> &OrderedTexts<A>
+        ensures { result.now ≡ self.now }
     {
-        self.texts.bytes()
+        &self.texts
     }
 
     /// How many bytes the records have together, with their length fields.
@@ -131,7 +131,7 @@ impl<A: Allocator> Canon<A> {
     pub fn bytes_len(&self) -> u32
         ensures { result ≡ length (concat self.now) }
     {
-        self.texts.bytes().len() as u32
+        self.texts.bytes_len() as u32
     }
 }
 

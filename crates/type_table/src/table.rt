@@ -5,6 +5,7 @@ ghost use Rattle.std.specs.List.{concat};
 ghost use Rattle.closed_trees.specs.Tree.{Tree, IsType};
 ghost use Rattle.closed_trees.specs.Canon.{weight};
 ghost use Rattle.closed_trees.specs.Depth.{HasDepths};
+ghost use Rattle.record_set.specs.RecordSet.{HasNamedPlaces};
 ghost use Rattle.closed_trees.specs.Table.{IsTable, IsUnion};
 ghost use Rattle.type_table.specs.MeasuredTable.{IsMeasuredTable};
 ghost use Rattle.type_table.specs.Merge.{StartsWith, IsRecordWalk, IsAdded};
@@ -15,10 +16,11 @@ use crate::adding::{Workspace, add_in_order, are_bytes};
 use crate::canon::Canon;
 use crate::fault::JoinFault;
 use crate::table_depths::measure_new;
-use canonical_list::canonical_list;
+use canonical_list::canonical_order;
 use checked_types::{InOrder, Types, in_file_order};
 use cv_leaves::list_places;
-use record_set::{Listed, RecordSet};
+use packed_texts::{OrderedTexts, PackedTexts};
+use record_set::{PlaceLists, RecordSet};
 use std::alloc::{AllocError, Allocator, Global};
 use std::hash::BuildHasher;
 use std::marker::Model;
@@ -66,19 +68,23 @@ fn undo<S: BuildHasher, A: Allocator>(
     depths.truncate(held);
 }
 
-/// The canonical list of the types of a table whose depths are known.
+/// The canonical list of the types of a table whose depths are known. The records are not moved.
 fn list_of<A: Allocator + Copy>(
     alloc: A,
-    table: &Listed<'_, A>,
+    records: PackedTexts<A>,
+    places: &PlaceLists<A>,
     depths: &[u32],
 ) -> Result<Canon<A>, JoinFault>
-    requires { IsMeasuredTable table.now depths.now }
-    ensures value { IfOk result (λ canon. IsCanonOf canon (IsType table.now)) }
-    ensures bytes { IfOk result (λ canon. length (concat canon) ≡ length (concat table.now)) }
+    requires table { IsMeasuredTable records depths.now }
+    requires listed { HasNamedPlaces records places.now }
+    ensures value { IfOk result (λ canon. IsCanonOf canon (IsType records)) }
+    ensures bytes { IfOk result (λ canon. length (concat canon) ≡ length (concat records)) }
     ensures memory { IfErr result (λ fault. fault ≡ JoinFault.Memory) }
 {
-    let texts = canonical_list(alloc, table, depths)?;
-    are_bytes(texts.bytes());
+    let mut records = records;
+    let order = canonical_order(alloc, &mut records, places, depths)?;
+    are_bytes(records.bytes());
+    let texts = OrderedTexts::new(alloc, records, &order)?;
     Ok(Canon { texts })
 }
 
@@ -232,22 +238,23 @@ impl<S: BuildHasher, A: Allocator + Copy> Table<S, A> {
 
     /// Makes the canonical list of the types.
     ///
-    /// The only fault is `Memory`. The table stays as it is in any case. This allocates the list.
-    /// While the list is made, the number of each type and the rows of one level are allocated too.
-    /// Nothing recurses along references.
+    /// The only fault is `Memory`. The table stays as it is in any case: the list is made of a copy
+    /// of its records. While the list is made, twelve bytes for each type, and sixteen for each type
+    /// of one depth, are allocated too. Nothing recurses along references.
     pub fn finish(&self, alloc: A) -> Result<Canon<A>, JoinFault>
         ensures value { IfOk result (λ canon. IsCanonOf canon (IsType self.now)) }
         ensures bytes { IfOk result (λ canon. length (concat canon) ≡ length (concat self.now)) }
         ensures memory { IfErr result (λ fault. fault ≡ JoinFault.Memory) }
     {
-        list_of(alloc, &self.records.listed(), &self.depths)
+        let (records, places) = self.records.parts();
+        list_of(alloc, records.copy(alloc)?, places, &self.depths)
     }
 
     /// Makes the canonical list of the types, and ends the table.
     ///
     /// The only fault is `Memory`. The memory that serves to look up a type is given back before
-    /// the list is made, and all other memory of the table after that. Everything else is as in
-    /// [`Table::finish`].
+    /// the list is made. The list is made of the records where they lie, and all other memory of the
+    /// table is given back after that. Everything else is as in [`Table::finish`].
     pub fn into_canon(self, alloc: A) -> Result<Canon<A>, JoinFault>
     where
         S: Drop,
@@ -261,6 +268,6 @@ impl<S: BuildHasher, A: Allocator + Copy> Table<S, A> {
             work: _,
         } = self;
         let (records, places) = records.into_parts();
-        list_of(alloc, &Listed::new(&records, &places), &depths)
+        list_of(alloc, records, &places, &depths)
     }
 }

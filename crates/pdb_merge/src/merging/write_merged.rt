@@ -10,7 +10,8 @@ ghost use Rattle.pdb_merge.specs.Merged.{parts_contents, merged_contents, merged
 
 use byte_io::Sink;
 use msf_blocks::BlockSize;
-use msf_streams::{WriteFault, write_parts_len};
+use msf_streams::{WriteFault, write_streams};
+use packed_texts::OrderedTexts;
 use pdb_info::{Settings, info_bytes};
 use std::alloc::Allocator;
 use tpi_records::tpi_header_bytes;
@@ -27,23 +28,26 @@ fn header_of<A: Allocator>(canon: &Canon<A>) -> [u8; 56]
 
 /// Writes the file with this info stream and a TPI stream of this header and these records. Returns
 /// its length in bytes.
-fn write_streams<'a, W: Sink, A: Allocator + Copy>(
+fn write_file<'a, W: Sink, A: Allocator + Copy>(
     alloc: A,
     block_size: BlockSize,
     info: &'a [u8],
     header: &'a [u8],
-    records: &'a [u8],
+    records: &'a OrderedTexts<A>,
     out: &mut W,
 ) -> Result<u32, WriteFault>
-    ensures image { WritesImage block_size (parts_contents info.now header.now records.now) W.taken
-        W.is_broken out.old out.new result }
+    ensures image { WritesImage block_size
+        (parts_contents info.now header.now (concat records.now)) W.taken W.is_broken
+        out.old out.new result }
     ensures len { IfOk result (λ len.
-        len ≡ length (image block_size (parts_contents info.now header.now records.now))) }
+        len ≡ length (image block_size
+        (parts_contents info.now header.now (concat records.now)))) }
 {
-    write_parts_len(
+    write_streams(
         alloc,
         block_size.bytes(),
-        &[&[], &[info], &[header, records], &[], &[]],
+        &[&[], &[info], &[header], &[], &[]],
+        records,
         out,
     )
 }
@@ -69,7 +73,7 @@ pub(crate) fn write_merged_len<W: Sink, A: Allocator + Copy>(
     let block_size = BlockSize::of(settings.block_size());
     let info = info_bytes(settings);
     let header = header_of(canon);
-    write_streams(alloc, block_size, &info, &header, canon.bytes(), out)
+    write_file(alloc, block_size, &info, &header, canon.texts(), out)
 }
 
 /// Writes the file of a canonical list with these settings into a sink.

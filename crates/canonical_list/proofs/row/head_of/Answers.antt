@@ -1,5 +1,5 @@
 use Rattle.std.proofs.Common.{arith}
-use Rattle.canonical_list.proofs.KeyLaws.{head_is}
+use Rattle.canonical_list.proofs.HeadLaws.{head_is}
 use Rattle.canonical_list.proofs.row.head_of.Goals as goal
 
 pub returns : goal.returns

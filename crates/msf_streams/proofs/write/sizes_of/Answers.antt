@@ -1,29 +1,47 @@
-use Rattle.std.proofs.Common.{◌<◌, length, arith, ◌∙◌, sym}
-use Rattle.std.proofs.lemmas.List.{length-set}
-use Rattle.std.proofs.lemmas.Simd.{map-map}
-use Rattle.msf_streams.specs.Image.{joined}
-use Rattle.msf_streams.proofs.FrontLaws.{size_pushed, sizes_are, short_pushed, all_short, not_short}
+use Rattle.std.proofs.Common.{◌≡◌, ◌<◌, ◌≤◌, Bor, List, ℕ, [], ap, arith, get_or, length}
+use Rattle.std.proofs.lemmas.List.{length-set, take_all}
+use Rattle.msf_streams.specs.Write.{with_texts}
+use Rattle.msf_streams.proofs.FrontLaws.{size_pushed, sizes_are, short_pushed}
+use Rattle.msf_streams.proofs.PutLaws.{contents_at, contents_many}
 use Rattle.msf_streams.proofs.write.sizes_of.Goals as goal
 
-pub loop-i-preserved : goal.loop-i-preserved
-loop-i-preserved c =
+-- a placeholder for a position where there is no stream
+abbrev no_stream : Bor (List (Bor (List ℕ)))
+no_stream = record { ref_ptr = (0, 0); now = [] }
+
+pub loop-s-preserved : goal.loop-s-preserved
+loop-s-preserved g c =
     let size = c.in_ok-sizes.field-0 in
-    let xs = c.args.streams.now in
-    let inside : c.loop-i.i < length xs = omega (arith, c.told-streams) in
+    let s = c.loop-s.s in
+    let streams = c.args.streams.now in
+    let texts = c.args.texts.now in
+    let xs = with_texts streams texts in
+    let inside : s < length streams = omega (arith, c.told-streams) in
+    let in_xs : s < length xs = omega (arith, inside, contents_many streams texts) in
+    let at = ap length (contents_at streams texts c.args.none.now s no_stream c.texts_after.result.now c.requires inside c.texts_after.ensures.here c.texts_after.ensures.elsewhere) in
+    let is : size ≡ length (get_or xs s []) = omega (arith, at, c.in_ok-sizes.ensures.some.0) in
     record {
-      many = omega (arith, length-set c.loop-i.sizes c.loop-i.i size);
-      sizes = size_pushed (λ s. length (joined s.now)) c.loop-i.sizes xs c.loop-i.i size _ c.loop-i.invariant.sizes (omega arith) inside c.in_ok-sizes.ensures.some.0;
-      short = short_pushed (λ s. length (joined s.now)) xs c.loop-i.i size _ c.loop-i.invariant.short inside c.in_ok-sizes.ensures.some.0 (omega (arith, c.in_ok-sizes.ensures.some.0, c.in_ok-sizes.ensures.some.1));
+      many = omega (arith, length-set c.loop-s.sizes s size);
+      sizes = size_pushed length c.loop-s.sizes xs s size [] c.loop-s.invariant.sizes (omega arith) in_xs is;
+      short = short_pushed length xs s size [] c.loop-s.invariant.short in_xs is (omega (arith, c.in_ok-sizes.ensures.some.0, c.in_ok-sizes.ensures.some.1));
     }
 
 pub returns-clause-some : goal.returns-clause-some
-returns-clause-some c =
-    sizes_are (λ s. length (joined s.now)) c.loop-i.sizes c.args.streams.now c.loop-i.i c.loop-i.invariant.sizes (omega arith) (omega (arith, c.told-streams)) ∙ sym (map-map length (λ s. joined s.now) c.args.streams.now)
+returns-clause-some g c =
+    let xs = with_texts c.args.streams.now c.args.texts.now in
+    sizes_are length c.loop-s.sizes xs c.loop-s.s c.loop-s.invariant.sizes (omega arith) (omega (arith, c.told-streams, contents_many c.args.streams.now c.args.texts.now))
 
 pub returns-clause-short : goal.returns-clause-short
-returns-clause-short c =
-    all_short (λ s. joined s.now) c.args.streams.now c.loop-i.i (omega (arith, c.told-streams)) c.loop-i.invariant.short
+returns-clause-short g c =
+    let xs = with_texts c.args.streams.now c.args.texts.now in
+    let all : length xs ≤ c.loop-s.s = omega (arith, c.told-streams, contents_many c.args.streams.now c.args.texts.now) in
+    rw (take_all c.loop-s.s xs all) at c.loop-s.invariant.short
 
 pub returns-in_err-sizes-clause-none : goal.returns-in_err-sizes-clause-none
-returns-in_err-sizes-clause-none c =
-    rw c.from_residual.ensures (not_short (λ s. joined s.now) c.args.streams.now c.loop-i.i _ (omega (arith, c.told-streams)) c.in_err-sizes.ensures.none)
+returns-in_err-sizes-clause-none g c =
+    let s = c.loop-s.s in
+    let streams = c.args.streams.now in
+    let texts = c.args.texts.now in
+    let inside : s < length streams = omega (arith, c.told-streams) in
+    let at = ap length (contents_at streams texts c.args.none.now s no_stream c.texts_after.result.now c.requires inside c.texts_after.ensures.here c.texts_after.ensures.elsewhere) in
+    rw c.from_residual.ensures (λ short. let here = short s [] (omega (arith, inside, contents_many streams texts)) in omega (arith, here, at, c.in_err-sizes.ensures.none))

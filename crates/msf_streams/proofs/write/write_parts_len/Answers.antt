@@ -1,9 +1,0 @@
-use Rattle.std.proofs.Common.{◌∙◌, sym}
-use Rattle.msf_streams.specs.Image.{joined_of}
-use Rattle.msf_streams.proofs.BackLaws.{image_long_as_said}
-use Rattle.msf_streams.proofs.write.write_parts_len.Goals as goal
-
-pub returns-clause-len : goal.returns-clause-len
-returns-clause-len g c =
-    let fits = rw c.in-Some.ensures.some at c.in-Some-image_len.ensures.some in
-    fits.1 ∙ sym (image_long_as_said c.args.block_size (joined_of c.args.streams.now) c.requires fits.0)
