@@ -19,7 +19,7 @@ ghost use Rattle.canonical_list.specs.Finish.{AtLevel, Numbered, CanRenumber, Ro
 use crate::levels::Levels;
 use crate::row::Row;
 use crate::sort::{ROUNDS, sort_rows};
-use closed_trees::{levels_of, renumber_into};
+use closed_trees::{levels_of, renumber_in_place};
 use packed_texts::PackedTexts;
 use record_set::PlaceLists;
 use std::alloc::{AllocError, Allocator};
@@ -30,82 +30,53 @@ fn put_row<A: Allocator>(
     position: usize,
     places: &PlaceLists<A>,
     numbers: &[u32],
-    copy: &mut Vec<u8, A>,
-) -> Result<(), AllocError>
+)
     requires inside { position < length records.old }
     requires lists { length places.now ≡ length records.old }
     requires ready { CanRenumber records.old places.now numbers.now position }
-    ensures { IfOk result (λ _.
-        records.new ≡ set records.old position
-        (renumbered (λ k. get_or numbers.now k 0) (get_or records.old position []))) }
+    ensures { records.new ≡ set records.old position
+        (renumbered (λ k. get_or numbers.now k 0) (get_or records.old position [])) }
 {
-    let bytes = records.get(position);
-    let places = places.get(position);
-    // Many records name no other ones.
-    if !places.is_empty() {
-        renumber_into(copy, bytes, places, numbers)?;
-        records.put(position, copy);
+    renumber_in_place(records.get_mut(position), places.get(position), numbers);
+}
+
+/// Makes the records of a level their rows, and lists these in any order.
+fn collect<A: Allocator>(
+    rows: &mut Vec<Row, A>,
+    records: &mut PackedTexts<A>,
+    places: &PlaceLists<A>,
+    depths: &Levels<'_, A>,
+    level: u32,
+    numbers: &[u32],
+) -> Result<(), AllocError>
+    requires few { length records.old < 2 ^ 31 }
+    requires many { length depths.now ≡ length records.old }
+    requires lists { length places.now ≡ length records.old }
+    requires ready { (k : ℕ) → k < length records.old → get_or depths.now k 0 ≡ level →
+        CanRenumber records.old places.now numbers.now k }
+    ensures level { IfOk result (λ _. AtLevel depths.now level (positions rows.new.items)) }
+    ensures made { IfOk result (λ _. RowsMade records.old records.new
+        (λ k. get_or numbers.now k 0) (positions rows.new.items)) }
+    ensures heads { IfOk result (λ _. HaveHeads 0 records.new rows.new.items) }
+{
+    rows.clear();
+    let mut candidate = depths.newest(level);
+    while let Some(position) = candidate {
+        put_row(records, position, places, numbers);
+        let row = Row::new(records.get(position), 0, position);
+        rows.push(row)?;
+        candidate = depths.older(position);
     }
     Ok(())
 }
 
-/// The rows of a level. One value serves all levels, so that they use the same memory.
-#[derive(Drop)]
-struct Rows<A: Allocator> {
-    rows: Vec<Row, A>,
-    // in which the next row is made
-    copy: Vec<u8, A>,
-}
-
-impl<A: Allocator + Copy> Rows<A> {
-    /// No rows. This does not allocate.
-    fn new(alloc: A) -> Rows<A> {
-        Rows {
-            rows: Vec::new(alloc),
-            copy: Vec::new(alloc),
-        }
-    }
-
-    /// Makes the records of a level their rows, and lists these in any order.
-    fn collect(
-        &mut self,
-        records: &mut PackedTexts<A>,
-        places: &PlaceLists<A>,
-        depths: &Levels<'_, A>,
-        level: u32,
-        numbers: &[u32],
-    ) -> Result<(), AllocError>
-        requires few { length records.old < 2 ^ 31 }
-        requires many { length depths.now ≡ length records.old }
-        requires lists { length places.now ≡ length records.old }
-        requires ready { (k : ℕ) → k < length records.old → get_or depths.now k 0 ≡ level →
-            CanRenumber records.old places.now numbers.now k }
-        ensures level { IfOk result (λ _.
-            AtLevel depths.now level (positions self.new.rows.items)) }
-        ensures made { IfOk result (λ _. RowsMade records.old records.new
-            (λ k. get_or numbers.now k 0) (positions self.new.rows.items)) }
-        ensures heads { IfOk result (λ _. HaveHeads 0 records.new self.new.rows.items) }
-    {
-        self.rows.clear();
-        let mut candidate = depths.newest(level);
-        while let Some(position) = candidate {
-            put_row(records, position, places, numbers, &mut self.copy)?;
-            let row = Row::new(records.get(position), 0, position);
-            self.rows.push(row)?;
-            candidate = depths.older(position);
-        }
-        Ok(())
-    }
-
-    /// Puts the rows in the order of their bytes.
-    fn sort(&mut self, records: &PackedTexts<A>)
-        requires heads { HaveHeads 0 records.now self.old.rows.items }
-        ensures moved { IsPermutation (positions self.old.rows.items)
-            (positions self.new.rows.items) }
-        ensures sorted { AreInOrder (row_bytes records.now self.new.rows.items) }
-    {
-        sort_rows(records, &mut self.rows, 0, ROUNDS);
-    }
+/// Puts the rows of a level in the order of their bytes.
+fn sort_level<A: Allocator>(rows: &mut Vec<Row, A>, records: &PackedTexts<A>)
+    requires heads { HaveHeads 0 records.now rows.old.items }
+    ensures moved { IsPermutation (positions rows.old.items) (positions rows.new.items) }
+    ensures sorted { AreInOrder (row_bytes records.now rows.new.items) }
+{
+    sort_rows(records, rows, 0, ROUNDS);
 }
 
 /// Numbers the records of the rows, and appends their positions to the order.
@@ -155,11 +126,12 @@ pub fn canonical_order<A: Allocator + Copy>(
     let chained = Levels::of(alloc, depths, levels)?;
     let mut numbers = vec![in alloc; 0u32; depths.len()]?;
     let mut order = Vec::with_capacity(alloc, depths.len())?;
-    let mut rows = Rows::new(alloc);
+    // One vector serves all levels.
+    let mut rows = Vec::new(alloc);
     for level in 0..levels {
-        rows.collect(records, places, &chained, level, &numbers)?;
-        rows.sort(records);
-        number_rows(&rows.rows, &mut numbers, &mut order)?;
+        collect(&mut rows, records, places, &chained, level, &numbers)?;
+        sort_level(&mut rows, records);
+        number_rows(&rows, &mut numbers, &mut order)?;
     }
     Ok(order)
 }

@@ -10,7 +10,7 @@ use Rattle.cv_leaves.specs.Place.{IsChecked, Apart}
 use Rattle.cv_leaves.specs.References.{reference_at, references, filled}
 use Rattle.cv_leaves.proofs.PutLaws.{number_in_body, put_len, put_own, put_swap}
 use Rattle.cv_leaves.proofs.PlaceLaws.{ends_behind, places_fit}
-use Rattle.cv_leaves.proofs.FillLaws.{fits}
+use Rattle.cv_leaves.proofs.FillLaws.{Fits, fits}
 use Rattle.cv_leaves.proofs.ListLaws.{named-none}
 use Rattle.cv_leaves.proofs.FilledLaws.{own_places, filled_places, filled_read, reference_each}
 use Rattle.closed_trees.specs.Types.{NamesThere}
@@ -184,6 +184,13 @@ listed_fill r places copy f checked bytes own same =
     let has = own_places r checked in
     let fit = fits r (places_of r) has in
     rw (own, same) (fill-each r r f 0 (places_of r) fit.0 fit.1 fit.2 (own_all r (places_of r) bytes (places_fit r (places_of r) has)))
+
+-- the places that are listed are apart, and lie within the record
+pub listed_fits : (r places : List ℕ) → IsChecked r → places ≡ named_places r → Fits 0 places (length r)
+unfolding named_places
+listed_fits r places checked own =
+    let fit = fits r (places_of r) (own_places r checked) in
+    rw own (fit.0, named_apart r 0 (places_of r) fit.0 fit.1, fit.2)
 
 -- ---- How many there are
 

@@ -51,4 +51,4 @@ pub mod laws;
 mod renumber;
 
 pub use depth::{depth_of, height, levels_of};
-pub use renumber::{number_for, renumber_into};
+pub use renumber::{number_for, renumber_in_place, renumber_into};

@@ -26,35 +26,34 @@ pub fn number_for(to: u32, numbers: &[u32]) -> Option<u32>
     }
 }
 
-/// Writes the new type index of each reference of a record into a copy of the record. Returns
-/// whether each reference has one. If one has none, only those before it are written.
+/// Writes the new type index of each reference into a record. Returns whether each reference has
+/// one. If one has none, only those before it are written.
 ///
-/// `places` has the places at which the record names other records.
-pub fn renumber(bytes: &[u8], places: &[u16], numbers: &[u32], copy: &mut [u8]) -> bool
-    requires framed { IsRecord bytes.now }
-    requires checked { IsChecked bytes.now }
-    requires listed { places.now ≡ named_places bytes.now }
-    requires same { copy.old ≡ bytes.now }
-    ensures value { IsTrue result → copy.new ≡ renumbered (λ k. get_or numbers.now k 0) bytes.now }
-    ensures there { IsTrue result → NamesThere (length numbers.now) (references bytes.now) }
-    ensures named { AreNumbered numbers.now (references bytes.now) → IsTrue result }
-    // The copy names records at the same places.
-    ensures still { IsTrue result → named_places copy.new ≡ named_places bytes.now }
+/// `places` has the places at which the record names other records, and `numbers` the position of
+/// each record that may be named. This does not allocate.
+pub fn renumber_in_place(record: &mut [u8], places: &[u16], numbers: &[u32]) -> bool
+    requires framed { IsRecord «record».old }
+    requires checked { IsChecked «record».old }
+    requires listed { places.now ≡ named_places «record».old }
+    ensures value { IsTrue result →
+        «record».new ≡ renumbered (λ k. get_or numbers.now k 0) «record».old }
+    ensures there { IsTrue result → NamesThere (length numbers.now) (references «record».old) }
+    ensures named { AreNumbered numbers.now (references «record».old) → IsTrue result }
+    // The record names records at the same places.
+    ensures still { IsTrue result → named_places «record».new ≡ named_places «record».old }
 {
     for place in places {
         let place = usize::from(*place);
-        match number_for(ref_at(bytes, place), numbers) {
-            Some(to) => set_ref(copy, place, to),
+        match number_for(ref_at(record, place), numbers) {
+            Some(to) => set_ref(record, place, to),
             None => return false,
         }
     }
     true
 }
 
-/// Makes `copy` the record with its new type indices. Returns whether each reference has one.
-///
-/// `places` has the places at which the record names other records, and `numbers` the position of
-/// each record that may be named.
+/// Makes `copy` the record with its new type indices, as [`renumber_in_place`] does. Returns whether each
+/// reference has one.
 pub fn renumber_into<A: Allocator>(
     copy: &mut Vec<u8, A>,
     bytes: &[u8],
@@ -76,5 +75,5 @@ pub fn renumber_into<A: Allocator>(
 {
     copy.clear();
     copy.extend_from_slice(bytes)?;
-    Ok(renumber(bytes, places, numbers, copy))
+    Ok(renumber_in_place(copy, places, numbers))
 }

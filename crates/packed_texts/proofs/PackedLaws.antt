@@ -1,7 +1,6 @@
 -- How texts that lie one after the other are found, and how they grow.
-use Rattle.std.proofs.Common.{◌≡◌, ℕ, zero, suc, ◌+◌, ◌-◌, ◌*◌, ◌%◌, ◌/◌, ◌<◌, ◌≤◌, List, [], ◌∷◌, ◌++◌, length, map, take, drop, set, get_or, refl, sym, ap, ◌∙◌, subst, arith, length-append, length-drop}
-use Rattle.std.proofs.lemmas.List.{length-map, get_or-map, map-append, take-map, take-append-le, take-append-drop, take-take, drop-append-le, drop-take, drop-drop, length-take-le}
-use lib.Seq.{take-append_seam, drop-append_seam}
+use Rattle.std.proofs.Common.{◌≡◌, ℕ, zero, suc, ◌+◌, ◌-◌, ◌*◌, ◌%◌, ◌/◌, ◌<◌, ◌≤◌, List, [], ◌∷◌, ◌++◌, length, map, take, drop, get_or, refl, sym, ap, ◌∙◌, subst, arith, length-append, length-drop}
+use Rattle.std.proofs.lemmas.List.{length-map, get_or-map, map-append, take-map, take-append-le, take-append-drop, take-take, drop-take, drop-drop, length-take-le}
 use Rattle.std.specs.List.{concat}
 use Rattle.packed_texts.specs.PackedTexts.{texts_in, Rise, in_bytes}
 
@@ -15,7 +14,7 @@ pub many_texts : (bytes words : List ℕ) → length (texts_in bytes 0 (in_bytes
 unfolding in_bytes
 many_texts bytes words = length_of_texts bytes 0 (in_bytes words) ∙ length-map words (λ w. 4 * w)
 
-rise_le : (from last : ℕ) (ends : List ℕ) → Rise from ends last → from ≤ last
+pub rise_le : (from last : ℕ) (ends : List ℕ) → Rise from ends last → from ≤ last
 rise_le from last [] h = omega (arith, h)
 rise_le from last (end ∷ ends) h = let e = rise_le end last ends h.1 in omega (arith, e, h.0)
 
@@ -71,11 +70,11 @@ end_in : (words : List ℕ) (k : ℕ) → k < length words → get_or (in_bytes 
 unfolding in_bytes
 end_in words k inside = get_or-map (λ w. 4 * w) words k 0 0 inside
 
-start_in : (words : List ℕ) (k : ℕ) → k ≤ length words → get_or (0 ∷ in_bytes words) k 0 ≡ 4 * get_or (0 ∷ words) k 0
+pub start_in : (words : List ℕ) (k : ℕ) → k ≤ length words → get_or (0 ∷ in_bytes words) k 0 ≡ 4 * get_or (0 ∷ words) k 0
 start_in words zero inside = refl
 start_in words (suc k) inside = end_in words k (omega (arith, inside))
 
-many_in : (words : List ℕ) → length (in_bytes words) ≡ length words
+pub many_in : (words : List ℕ) → length (in_bytes words) ≡ length words
 unfolding in_bytes
 many_in words = length-map words (λ w. 4 * w)
 
@@ -153,78 +152,6 @@ pub rise_pushed : (bytes text words : List ℕ) (word end : ℕ) → Rise 0 (in_
 rise_pushed bytes text words word end h is whole_bytes whole_text at =
     let long : length (bytes ++ text) ≡ end = length-append bytes text ∙ sym is in
     rw (long, word_more words word end (omega (arith, is, whole_bytes, whole_text, at))) (rise_more 0 (length bytes) end (in_bytes words) h (omega (arith, is)))
-
--- ---- a text in the place of another
-
--- what lies where a text begins and after it ends stays
-replaced : (bytes : List ℕ) (from : ℕ) (ends : List ℕ) (k : ℕ) (x : List ℕ) → Rise from ends (from + length bytes) → k < length ends → length x ≡ get_or ends k 0 - get_or (from ∷ ends) k 0
-    → texts_in (take (get_or (from ∷ ends) k 0 - from) bytes ++ (x ++ drop (length x) (drop (get_or (from ∷ ends) k 0 - from) bytes))) from ends ≡ set (texts_in bytes from ends) k x
-unfolding texts_in
-replaced bytes from [] k x h inside long = absurd (omega (arith, inside))
-replaced bytes from (end ∷ ends) zero x h inside long =
-    let none : from - from ≡ 0 = omega arith in
-    rw (none, sym long, take-append_seam x (drop (length x) bytes), drop-append_seam x (drop (length x) bytes)) refl
-replaced bytes from (end ∷ ends) (suc k) x h inside long =
-    let start : ℕ = get_or (end ∷ ends) k 0 in
-    let le = start_le end (from + length bytes) ends k h.1 (omega (arith, inside)) in
-    let far : start - from ≡ end - from + (start - end) = omega (arith, le.0, h.0) in
-    let front : List ℕ = take (start - from) bytes in
-    let back : List ℕ = drop (length x) (drop (start - from) bytes) in
-    let fits : end - from ≤ length front = omega (arith, length-take-le (start - from) bytes (omega (arith, le.1)), far) in
-    let first : take (end - from) (front ++ (x ++ back)) ≡ take (end - from) bytes = take-append-le (end - from) front (x ++ back) fits ∙ take-take (end - from) (start - from) bytes (omega (arith, far)) in
-    let front_left : drop (end - from) front ≡ take (start - end) (drop (end - from) bytes) = ap (λ (n : ℕ). drop (end - from) (take n bytes)) far ∙ drop-take (end - from) (start - end) bytes in
-    let back_left : back ≡ drop (length x) (drop (start - end) (drop (end - from) bytes)) = ap (λ (n : ℕ). drop (length x) (drop n bytes)) far ∙ ap (drop (length x)) (sym (drop-drop (start - end) (end - from) bytes)) in
-    let after : drop (end - from) (front ++ (x ++ back)) ≡ take (start - end) (drop (end - from) bytes) ++ (x ++ drop (length x) (drop (start - end) (drop (end - from) bytes))) =
-    drop-append-le (end - from) front (x ++ back) fits ∙ ap (λ (y : List ℕ). y ++ (x ++ back)) front_left ∙ ap (λ (y : List ℕ). take (start - end) (drop (end - from) bytes) ++ (x ++ y)) back_left in
-    let whole : end + length (drop (end - from) bytes) ≡ from + length bytes = omega (arith, length-drop (end - from) bytes, rise_le end (from + length bytes) ends h.1, h.0) in
-    rw (first, after, replaced (drop (end - from) bytes) end ends k x (subst (Rise end ends) (sym whole) h.1) (omega (arith, inside)) long) refl
-
--- a text is put in the place of one that is as long
-pub texts_put : (bytes words : List ℕ) (k start end : ℕ) (x : List ℕ) → Rise 0 (in_bytes words) (length bytes) → k < length words → start ≡ 4 * get_or (0 ∷ words) k 0 → end ≡ 4 * get_or words k 0 → length x ≡ end - start
-    → texts_in (take start bytes ++ (x ++ drop (end - start) (drop start bytes))) 0 (in_bytes words) ≡ set (texts_in bytes 0 (in_bytes words)) k x
-texts_put bytes words k start end x h inside s e long =
-    let from : get_or (0 ∷ in_bytes words) k 0 ≡ start = start_in words k (omega (arith, inside)) ∙ sym s in
-    let upto : get_or (in_bytes words) k 0 ≡ end = end_in words k inside ∙ sym e in
-    let zero_first : length bytes ≡ 0 + length bytes = omega arith in
-    let first : get_or (0 ∷ in_bytes words) k 0 - 0 ≡ start = omega (arith, from) in
-    let put = replaced bytes 0 (in_bytes words) k x (subst (Rise 0 (in_bytes words)) zero_first h) (omega (arith, inside, many_in words)) (omega (arith, long, from, upto)) in
-    rw (sym long) (rw first at put)
-
--- a text that is as long as the one at a position is as long as what lies there
-pub put_fits : (bytes words : List ℕ) (texts : List (List ℕ)) (k start end : ℕ) (x : List ℕ) → texts ≡ texts_in bytes 0 (in_bytes words) → Rise 0 (in_bytes words) (length bytes) → k < length texts → start ≡ 4 * get_or (0 ∷ words) k 0 → end ≡ 4 * get_or words k 0
-    → length x ≡ length (get_or texts k []) → length (take (end - start) (drop start bytes)) ≡ length x
-put_fits bytes words texts k start end x view h inside s e same =
-    let k_in : k < length words = omega (arith, inside, ap length view, many_texts bytes words) in
-    ap length (text_at bytes words k start end h k_in s e ∙ ap (λ (y : List (List ℕ)). get_or y k []) (sym view)) ∙ sym same
-
--- the bytes are as many as before
-put_long : (bytes x : List ℕ) (start end : ℕ) → start ≤ end → end ≤ length bytes → length x ≡ end - start → length (take start bytes ++ (x ++ drop (end - start) (drop start bytes))) ≡ length bytes
-put_long bytes x start end forward inside long =
-    omega (
-      arith,
-      length-append (take start bytes) (x ++ drop (end - start) (drop start bytes)),
-      length-append x (drop (end - start) (drop start bytes)),
-      length-take-le start bytes (omega (arith, forward, inside)),
-      length-drop (end - start) (drop start bytes),
-      length-drop start bytes,
-      forward,
-      inside,
-      long,
-    )
-
--- a vector with a text in the place of another one
-pub put_whole : (bytes words : List ℕ) (texts : List (List ℕ)) (k start end len : ℕ) (x : List ℕ) → texts ≡ texts_in bytes 0 (in_bytes words) → Rise 0 (in_bytes words) (length bytes) → k < length texts → start ≡ 4 * get_or (0 ∷ words) k 0 → end ≡ 4 * get_or words k 0
-    → length x ≡ length (get_or texts k []) → len ≡ length bytes → (put : List ℕ) → put ≡ take start bytes ++ (x ++ drop (end - start) (drop start bytes))
-    → (texts_in (take len (put ++ drop (length put) bytes)) 0 (in_bytes words) ≡ set texts k x) × (length (take len (put ++ drop (length put) bytes)) ≡ length bytes)
-put_whole bytes words texts k start end len x view h inside s e same all put is =
-    let k_in : k < length words = omega (arith, inside, ap length view, many_texts bytes words) in
-    let forward = text_forward bytes words k start end h k_in s e in
-    let fits = text_inside bytes words k end h k_in e in
-    let there = put_fits bytes words texts k start end x view h inside s e same in
-    let long : length x ≡ end - start = omega (arith, there, length-take-le (end - start) (drop start bytes) (omega (arith, length-drop start bytes, forward, fits))) in
-    let many : length put ≡ length bytes = ap length is ∙ put_long bytes x start end forward fits long in
-    let whole : take len (put ++ drop (length put) bytes) ≡ put = ap (λ (n : ℕ). take n (put ++ drop (length put) bytes)) (all ∙ sym many) ∙ take-append_seam put (drop (length put) bytes) in
-    (rw (whole, is, view) (texts_put bytes words k start end x h k_in s e long), ap length whole ∙ many)
 
 -- ---- the first texts
 

@@ -1,5 +1,5 @@
 -- Texts that lie one after the other in one list of bytes.
-use Rattle.std.specs.Prelude.{ℕ, ◌≡◌, ◌-◌, ◌*◌, ◌%◌, ◌^◌, ◌<◌, ◌≤◌, List, [], ◌∷◌, length, map, take, drop, get_or}
+use Rattle.std.specs.Prelude.{ℕ, ◌≡◌, ◌+◌, ◌-◌, ◌*◌, ◌%◌, ◌^◌, ◌<◌, ◌≤◌, List, [], ◌∷◌, ◌++◌, length, map, take, drop, get_or}
 use Rattle.std.specs.List.{All, concat}
 use Rattle.packed_texts.specs.declared.ordered.Span.{Span}
 
@@ -27,6 +27,21 @@ pub record ArePacked (bytes ends : List ℕ) : Type 0 where
   pub short : length bytes < 2 ^ 34
   -- the bytes are whole groups
   pub padded : length bytes % 4 ≡ 0
+
+-- the bytes, cut into texts that are as long as these
+unfoldable pub cut_as : List (List ℕ) → List ℕ → List (List ℕ)
+cut_as [] bytes = []
+cut_as (text ∷ texts) bytes = take (length text) bytes ∷ cut_as texts (drop (length text) bytes)
+
+-- the bytes with others written over them from the offset `at` on
+unfoldable pub overwritten : List ℕ → ℕ → List ℕ → List ℕ
+overwritten bytes at new =
+    take (length bytes) (take at bytes ++ (new ++ drop (at + length new) bytes))
+
+-- the texts once this is written from the beginning of the text at position k on
+unfoldable pub written_at : List (List ℕ) → ℕ → List ℕ → List (List ℕ)
+written_at texts k new =
+    cut_as texts (overwritten (concat texts) (length (concat (take k texts))) new)
 
 -- the texts at these positions, in this order
 abbrev pub texts_at : List (List ℕ) → List ℕ → List (List ℕ)

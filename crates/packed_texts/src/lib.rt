@@ -26,9 +26,11 @@
 //! ```
 #![tactic(auto)]
 
-ghost use Rattle.std.specs.Prelude.{◌≡◌, ◌+◌, ◌-◌, ◌*◌, ◌%◌, ◌^◌, ◌<◌, ◌≤◌, ◌++◌, ◌↔◌, [], ◌∷◌, ℕ, length, get_or, set, take, IsTrue, IfOk, IfErr};
+ghost use Rattle.std.specs.Prelude.{◌≡◌, ◌+◌, ◌-◌, ◌*◌, ◌%◌, ◌^◌, ◌<◌, ◌≤◌, ◌++◌, ◌↔◌, [], ◌∷◌, ℕ, length, get_or, take, IsTrue, IfOk, IfErr};
 ghost use Rattle.std.specs.List.{concat};
-ghost use Rattle.packed_texts.specs.PackedTexts.{part, HasSpan};
+ghost use Rattle.std.specs.Borrow.{Lends, Array, sem, u8};
+ghost use Rattle.packed_texts.specs.PackedTexts.{part, HasSpan, written_at};
+ghost use Rattle.packed_texts.specs.contracts.PackedTexts.{the_row};
 
 mod ordered;
 mod rows;
@@ -38,6 +40,7 @@ use ordered::Span;
 pub use rows::{row_end, row_start};
 use std::alloc::{AllocError, Allocator, Global};
 use std::marker::Model;
+use std_alloc::vec::run_mut;
 
 /// Texts in one vector, with the offset at which each ends.
 ///
@@ -135,16 +138,18 @@ impl<A: Allocator> PackedTexts<A> {
         }
     }
 
-    /// Puts a text in the place of one that is as long.
-    #[tactic(auto, using(crate::proofs::PackedLaws::many_texts, crate::proofs::PackedLaws::text_inside, crate::proofs::PackedLaws::text_forward))]
-    pub fn put(&mut self, position: usize, text: &[u8])
+    /// The bytes of the text at a position, from 0, to be written over.
+    #[tactic(auto, using(crate::proofs::PackedLaws::many_texts, crate::proofs::PackedLaws::text_at, crate::proofs::PackedLaws::text_inside, crate::proofs::PackedLaws::text_forward))]
+    pub fn get_mut(&mut self, position: usize) -> &mut [u8]
         requires inside { position < length self.old }
-        requires same { length text.now ≡ length (get_or self.old position []) }
-        ensures { self.new ≡ set self.old position text.now }
+        ensures* writes_back { sem 𝓛
+            (Lends (the_row A.row A.Allocator) (Array u8 0) self.entry result
+            (written_at self.old position)) }
+        ensures value { result.now ≡ get_or self.old position [] }
     {
         let start = 4 * row_start(&self.ends, position);
         let end = 4 * row_end(&self.ends, position);
-        self.bytes[start..end].copy_from_slice(text);
+        run_mut(&mut self.bytes, start, end)
     }
 
     /// Appends a text after the others.
