@@ -23,7 +23,7 @@ const HEADER: u32 = 28;
 /// are then lent from it.
 ///
 /// Its bytes can be read only through what is lent from it. It may be used again after any answer:
-/// the bytes that it held are dropped then, and have no effect. It grows with the allocator that it
+/// the bytes that it held are read over then, and have no effect. It grows with the allocator that it
 /// was made with.
 #[derive(Debug, Drop)]
 pub struct Buffer<A: Allocator = Global> {
@@ -89,12 +89,12 @@ impl<A: Allocator + Copy> Buffer<A> {
         ensures refused { IfErr result (IfOf (λ fault.
             HasStreamFaultRead (R.bytes input.old) layout.now fault ⊎ (fault ≡ PdbFault.Memory))) }
     {
-        match gather_at(input, layout, TPI_STREAM, &mut self.bytes) {
-            Ok(()) => {}
+        let stream = match gather_at(input, layout, TPI_STREAM, &mut self.bytes) {
+            Ok(stream) => stream,
             Err(AtFault::Of(fault)) => return Err(AtFault::Of(PdbFault::from(fault))),
             Err(AtFault::Read) => return Err(AtFault::Read),
-        }
-        match Records::read(alloc, &self.bytes) {
+        };
+        match Records::read(alloc, stream) {
             Ok(records) => Ok(records),
             Err(fault) => Err(AtFault::Of(PdbFault::from(fault))),
         }

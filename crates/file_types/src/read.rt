@@ -41,7 +41,7 @@ pub fn check_types<'a, A: Allocator + Copy>(
 ///
 /// The faults come in this order: a container without a stream 2; those of that stream.
 /// `AtFault::Read` is a read that failed, and `Memory` out of memory. The old bytes of the buffer
-/// are dropped. After a fault the buffer may be used again. The buffer's own allocator allocates the
+/// have no effect. After a fault the buffer may be used again. The buffer's own allocator allocates the
 /// bytes of the stream, and `alloc` allocates everything else.
 pub fn read_records_of<'a, R: ReadAt, A: Allocator + Copy>(
     alloc: A,
@@ -86,7 +86,7 @@ pub(crate) fn unchecked_of<'a, 'b: 'a, R: Lend<'b>, A: Allocator + Copy>(
 ///
 /// The faults are those of [`read_types`] that come before those of the records, in the same order,
 /// and `AtFault::Read` where a read failed. `Memory` comes only where the container has no fault.
-/// The old bytes of the buffer are dropped. After a fault the buffer may be used again.
+/// The old bytes of the buffer have no effect. After a fault the buffer may be used again.
 pub fn read_unchecked<'a, 'b: 'a, R: Lend<'b>, A: Allocator + Copy>(
     alloc: A,
     input: &mut R,
@@ -129,7 +129,7 @@ fn gathered_of<'a, R: ReadAt, A: Allocator + Copy>(
 /// the blocks of stream 2 are read.
 ///
 /// The faults are those of [`read_types`] that come after the container's, in the same order, and
-/// `AtFault::Read` where a read failed. The old bytes of the buffer are dropped. After a fault the
+/// `AtFault::Read` where a read failed. The old bytes of the buffer have no effect. After a fault the
 /// buffer may be used again.
 pub fn read_types_of<'a, R: ReadAt, A: Allocator + Copy>(
     alloc: A,
@@ -187,8 +187,8 @@ fn types_at<'a, 'b: 'a, R: Lend<'b>, A: Allocator + Copy>(
 /// otherwise from the buffer.
 ///
 /// The faults are those of [`read_types`], in the same order, and `AtFault::Read` where a read
-/// failed. `Memory` comes only where the container has no fault. The old bytes of the buffer are
-/// dropped, and its space is used again. After a fault the buffer may be used again.
+/// failed. `Memory` comes only where the container has no fault. The old bytes of the buffer have no
+/// effect, and its space is used again. After a fault the buffer may be used again.
 pub fn read_types_at<'a, 'b: 'a, R: Lend<'b>, A: Allocator + Copy>(
     alloc: A,
     input: &mut R,

@@ -1,5 +1,7 @@
 -- The bytes in a list of blocks, a run of consecutive blocks at a time.
-use Rattle.std.proofs.Common.{◌≡◌, ℕ, ◌+◌, ◌-◌, ◌*◌, ◌/◌, ◌<◌, ◌≤◌, min, List, length, get_or, arith}
+use Rattle.std.proofs.Common.{◌≡◌, ℕ, ◌+◌, ◌-◌, ◌*◌, ◌/◌, ◌<◌, ◌≤◌, ◌++◌, ◌∙◌, min, List, length, get_or, take, drop, ap, sym, arith}
+use Rattle.std.proofs.lemmas.List.{append_assoc, take-take}
+use Rattle.std.proofs.Math.Seq.{take-append_seam}
 use Rattle.std.proofs.lemmas.Nat.{mul-le, div-add-mod'}
 use Rattle.msf_superblock.specs.BlockNumber.{IsBlockSize, blocks_for}
 use Rattle.msf_blocks.specs.Blocks.{AreInside}
@@ -43,3 +45,12 @@ run_inside file blocks b position run n inside some fits side few =
 -- after the last block all bytes are there
 pub all_bytes : (b size position : ℕ) → IsBlockSize b → position ≡ blocks_for b size → min (position * b) size ≡ size
 all_bytes b size position is end = rw end (omega (arith, ceil_ge b size (some_bytes b is)))
+
+-- the first bytes of a buffer, where others were read over them
+pub front_read : (read back items : List ℕ) (len size : ℕ) → length read ≡ size → size ≤ len → take size (take len ((read ++ back) ++ drop (length (read ++ back)) items)) ≡ read
+front_read read back items len size long inside =
+    let behind : List ℕ = drop (length (read ++ back)) items in
+    take-take size len ((read ++ back) ++ behind) inside
+    ∙ ap (take size) (append_assoc read back behind)
+    ∙ ap (λ (n : ℕ). take n (read ++ (back ++ behind))) (sym long)
+    ∙ take-append_seam read (back ++ behind)

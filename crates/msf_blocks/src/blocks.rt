@@ -1,6 +1,6 @@
 //! The bytes in a list of blocks, read by position.
 
-ghost use Rattle.std.specs.Prelude.{ℕ, ◌≡◌, ◌<◌, ◌≤◌, ◌+◌, length, get_or, OnOk, IfSome};
+ghost use Rattle.std.specs.Prelude.{ℕ, ◌≡◌, ◌<◌, ◌≤◌, ◌+◌, length, get_or, max, take, OnOk, IfSome};
 ghost use Rattle.byte_io.specs.At.{IfKnown, ReadsInto, ReadsOrNone};
 ghost use Rattle.msf_superblock.specs.BlockNumber.{IsBlockSize, blocks_for};
 ghost use Rattle.msf_blocks.specs.Blocks.{AreGivenIn, AreInside, in_blocks};
@@ -61,19 +61,21 @@ fn read_runs<R: ReadAt>(
     Some(())
 }
 
-/// Gives a buffer this length: drops its last bytes if it has more, and appends zeros if it has
-/// fewer.
-fn give_length<A: Allocator>(buffer: &mut Vec<u8, A>, len: usize) -> Result<(), AllocError>
-    ensures { OnOk result (length buffer.new.items ≡ len) }
+/// Appends zeros to a buffer that is shorter than this. A longer one stays as it is.
+fn make_room<A: Allocator>(buffer: &mut Vec<u8, A>, len: usize) -> Result<(), AllocError>
+    ensures { OnOk result (length buffer.new.items ≡ max (length buffer.old.items) len) }
 {
-    buffer.truncate(len);
+    let len = len.max(buffer.len());
     buffer.reserve_exact(len - buffer.len())?;
     buffer.resize(len, 0)
 }
 
-/// Reads the bytes in blocks with these numbers into a buffer, whose old bytes are dropped. There
-/// are `size` bytes, and `block_size` in each block but the last. Consecutive blocks are read at
-/// once, straight into the buffer.
+/// Reads the bytes in blocks with these numbers over the first bytes of a buffer. There are `size`
+/// bytes, and `block_size` in each block but the last. Consecutive blocks are read at once, straight
+/// into the buffer.
+///
+/// A buffer that is shorter than that grows. A longer one keeps its length, so that the bytes behind
+/// are old ones: the next call for more bytes need not write zeros there again.
 ///
 /// The faults are `Memory` when out of memory, before anything is read, and `Read` where a read
 /// fails.
@@ -88,15 +90,15 @@ pub fn read_blocks<R: ReadAt, A: Allocator>(
     requires count { length blocks.now ≡ blocks_for block_size size }
     requires inside { IfKnown (R.bytes input.old) (λ file. AreInside file block_size blocks.now) }
     ensures reads { ReadsInto R.bytes R.is_broken input.old input.new result }
-    ensures len { OnOk result (length buffer.new.items ≡ size) }
+    ensures len { OnOk result (length buffer.new.items ≡ max (length buffer.old.items) size) }
     ensures value { OnOk result (IfKnown (R.bytes input.old) (λ file.
-        buffer.new.items ≡ in_blocks file block_size blocks.now size)) }
+        take size buffer.new.items ≡ in_blocks file block_size blocks.now size)) }
     ensures given { OnOk result
-        (AreGivenIn (R.bytes input.old) block_size blocks.now buffer.new.items) }
+        (AreGivenIn (R.bytes input.old) block_size blocks.now (take size buffer.new.items)) }
 {
-    // The old bytes are read over. So zeros are written only where the buffer grows.
-    give_length(buffer, size as usize)?;
-    match read_runs(input, block_size, blocks, size, buffer) {
+    make_room(buffer, size as usize)?;
+    let (front, _) = buffer.split_at_mut(size as usize);
+    match read_runs(input, block_size, blocks, size, front) {
         Some(()) => Ok(()),
         None => Err(ReadFault::Read),
     }

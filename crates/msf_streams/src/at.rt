@@ -1,6 +1,6 @@
 //! The bytes of one stream, read by position.
 
-ghost use Rattle.std.specs.Prelude.{IsTrue, ◌≡◌, ◌↔◌, ◌⊎◌, ◌≤◌, ◌<◌, length, slice_get, option_map, Some, OnOk, IfOk, IfErr, IfSome};
+ghost use Rattle.std.specs.Prelude.{IsTrue, ◌≡◌, ◌↔◌, ◌⊎◌, ◌≤◌, ◌<◌, length, max, take, slice_get, option_map, Some, IfOk, IfErr, IfSome};
 ghost use Rattle.byte_io.specs.At.{IfKnown, IfOf, Reads};
 ghost use Rattle.msf_blocks.specs.Directory.{bytes_of};
 ghost use Rattle.msf_blocks.specs.Layout.{HasLayout, IsLayout, block_of};
@@ -12,25 +12,22 @@ use byte_io::{AtFault, Lend, ReadAt, ReadFault};
 use msf_blocks::{Layout, blocks_for, read_blocks};
 use std::alloc::Allocator;
 
-/// All the bytes of the `s`-th stream, from 0, read by position into a buffer, whose old bytes are
-/// dropped.
-///
-/// `layout` has to be the layout of what is read. Consecutive blocks are read at once, and no other
-/// byte of the file is read. The whole buffer is allocated before anything is read. The faults are
-/// those of [`gather`](crate::gather), and `AtFault::Read` where a read failed. ("The MSF File
-/// Format", "The Stream Directory".)
-pub fn gather_at<R: ReadAt, A: Allocator, L: Allocator>(
+/// Reads all the bytes of the `s`-th stream, from 0, over the first bytes of a buffer, which grows
+/// where it is shorter. Returns how many there are.
+pub(crate) fn fill<R: ReadAt, A: Allocator, L: Allocator>(
     input: &mut R,
     layout: &Layout<L>,
     s: u32,
     buffer: &mut Vec<u8, A>,
-) -> Result<(), AtFault<StreamFault>>
+) -> Result<usize, AtFault<StreamFault>>
     requires { IfKnown (R.bytes input.old) (λ file. HoldsBlocks file layout.now.superblock) }
     ensures reads { Reads R.bytes R.is_broken input.old input.new result }
-    ensures value { OnOk result (IfKnown (R.bytes input.old) (λ file.
-        stream_contents file layout.now s ≡ Some buffer.new.items)) }
-    // Even if the file's bytes are not known, these are bytes that reads gave.
-    ensures text { OnOk result (WasRead (R.bytes input.old) layout.now s buffer.new.items) }
+    ensures len { IfOk result (λ len.
+        length buffer.new.items ≡ max (length buffer.old.items) len) }
+    ensures value { IfOk result (λ len. IfKnown (R.bytes input.old) (λ file.
+        stream_contents file layout.now s ≡ Some (take len buffer.new.items))) }
+    ensures text { IfOk result (λ len.
+        WasRead (R.bytes input.old) layout.now s (take len buffer.new.items)) }
     ensures found { s < length layout.now.streams →
         IfErr result (IfOf (λ fault. fault ≡ StreamFault.Memory)) }
     ensures first { IfErr result (IfOf (λ fault.
@@ -50,10 +47,40 @@ pub fn gather_at<R: ReadAt, A: Allocator, L: Allocator>(
         size,
         buffer,
     ) {
-        Ok(()) => Ok(()),
+        Ok(()) => Ok(size as usize),
         Err(ReadFault::Memory) => Err(AtFault::Of(StreamFault::Memory)),
         Err(_) => Err(AtFault::Read),
     }
+}
+
+/// All the bytes of the `s`-th stream, from 0, read by position over the first bytes of a buffer,
+/// and lent from there.
+///
+/// `layout` has to be the layout of what is read. Consecutive blocks are read at once, and no other
+/// byte of the file is read. The buffer grows where it is shorter than the stream, before anything
+/// is read. The faults are those of [`gather`](crate::gather), and `AtFault::Read` where a read
+/// failed. ("The MSF File Format", "The Stream Directory".)
+pub fn gather_at<'a, R: ReadAt, A: Allocator, L: Allocator>(
+    input: &mut R,
+    layout: &Layout<L>,
+    s: u32,
+    buffer: &'a mut Vec<u8, A>,
+) -> Result<&'a [u8], AtFault<StreamFault>>
+    requires { IfKnown (R.bytes input.old) (λ file. HoldsBlocks file layout.now.superblock) }
+    ensures reads { Reads R.bytes R.is_broken input.old input.new result }
+    ensures value { IfOk result (λ bytes. IfKnown (R.bytes input.old) (λ file.
+        stream_contents file layout.now s ≡ Some bytes.now)) }
+    // Even if the file's bytes are not known, these are bytes that reads gave.
+    ensures text { IfOk result (λ bytes.
+        WasRead (R.bytes input.old) layout.now s bytes.now) }
+    ensures found { s < length layout.now.streams →
+        IfErr result (IfOf (λ fault. fault ≡ StreamFault.Memory)) }
+    ensures first { IfErr result (IfOf (λ fault.
+        ((fault ≡ StreamFault.NoStream s) × (length layout.now.streams ≤ s))
+        ⊎ ((fault ≡ StreamFault.Memory) × (s < length layout.now.streams)))) }
+{
+    let len = fill(input, layout, s, buffer)?;
+    Ok(&buffer[..len])
 }
 
 /// Whether the `count` blocks of the `s`-th stream are consecutive in the file. The first of them is
@@ -100,7 +127,7 @@ fn lent<'a, R: Lend<'a>, L: Allocator>(input: &R, layout: &Layout<L>, s: u32) ->
 }
 
 /// All the bytes of the `s`-th stream, from 0: lent where its blocks are consecutive and in memory,
-/// and otherwise gathered into a buffer, whose old bytes are dropped.
+/// and otherwise gathered over the first bytes of a buffer.
 ///
 /// `layout` has to be the layout of what is read. The faults are those of [`gather_at`]. ("The MSF
 /// File Format", "The Stream Directory".)
@@ -126,6 +153,5 @@ pub fn contents_at<'a, 'b: 'a, R: Lend<'b>, A: Allocator, L: Allocator>(
     if let Some(part) = lent(input, layout, s) {
         return Ok(part);
     }
-    gather_at(input, layout, s, buffer)?;
-    Ok(buffer)
+    gather_at(input, layout, s, buffer)
 }

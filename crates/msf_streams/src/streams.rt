@@ -20,7 +20,7 @@ ghost use Rattle.msf_blocks.specs.Layout.{IsLayout};
 ghost use Rattle.msf_superblock.specs.Superblock.{HoldsBlocks};
 ghost use Rattle.msf_streams.specs.Streams.{FirstIsLong, stream_pieces, stream_contents, pieces_from};
 
-use crate::at::gather_at;
+use crate::at::fill;
 use crate::container::Container;
 use crate::fault::StreamFault;
 use byte_io::AtFault;
@@ -78,8 +78,8 @@ pub fn gather<A: Allocator + Copy, L: Allocator>(
 {
     let mut bytes = Vec::new(alloc);
     let mut input = file;
-    match gather_at(&mut input, layout, s, &mut bytes) {
-        Ok(()) => Ok(bytes),
+    match fill(&mut input, layout, s, &mut bytes) {
+        Ok(_) => Ok(bytes),
         Err(AtFault::Of(fault)) => Err(fault),
         Err(AtFault::Read) => unreachable!(),
     }

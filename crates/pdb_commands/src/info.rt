@@ -18,15 +18,16 @@ use msf_streams::gather_at;
 use pdb_info::{info_stream, names_length};
 use std::alloc::Allocator;
 
-/// Reads stream 1 of a file with this layout by position into the buffer.
-fn stream_bytes_of<R: ReadAt, L: Allocator, A: Allocator>(
+/// Reads stream 1 of a file with this layout by position into the buffer, and lends its bytes.
+fn stream_bytes_of<'a, R: ReadAt, L: Allocator, A: Allocator>(
     input: &mut R,
     layout: &Layout<L>,
-    buffer: &mut Vec<u8, A>,
-) -> Result<(), AtFault<PdbFault<A>>>
+    buffer: &'a mut Vec<u8, A>,
+) -> Result<&'a [u8], AtFault<PdbFault<A>>>
     requires { IfKnown (R.bytes input.old) (λ file. HasLayout file layout.now) }
     ensures reads { Reads R.bytes R.is_broken input.old input.new result }
-    ensures texts { OnOk result (WasRead (R.bytes input.old) layout.now 1 buffer.new.items) }
+    ensures texts { IfOk result (λ bytes.
+        WasRead (R.bytes input.old) layout.now 1 bytes.now) }
     ensures refused { IfErr result
         (IfOf (λ fault. HasNoInfoStreamRead layout.now fault ⊎ (fault ≡ PdbFault.Memory))) }
 {
@@ -35,7 +36,7 @@ fn stream_bytes_of<R: ReadAt, L: Allocator, A: Allocator>(
         Err(fault) => return Err(AtFault::Of(PdbFault::from(fault))),
     };
     match gather_at(input, layout, stream, buffer) {
-        Ok(()) => Ok(()),
+        Ok(bytes) => Ok(bytes),
         Err(fault) => Err(fault.widen()),
     }
 }
@@ -96,8 +97,8 @@ impl<A: Allocator + Copy> Show<A> for ShowInfo {
 
     fn text_of<R: ReadAt>(&self, alloc: A, input: &mut R, layout: &Layout<A>) -> Text<A> {
         let mut buffer = Vec::new(alloc);
-        stream_bytes_of(input, layout, &mut buffer).map_err(AtFault::widen)?;
-        Ok(stream_text(alloc, &buffer, self.limit)?)
+        let bytes = stream_bytes_of(input, layout, &mut buffer).map_err(AtFault::widen)?;
+        Ok(stream_text(alloc, bytes, self.limit)?)
     }
 
     ghost shows_known = { λ c. info_shown c.limit };

@@ -98,9 +98,10 @@ fn stream_of(
     };
     let mut bytes = Vec::new(alloc);
     match gather_at(input, &layout, s, &mut bytes) {
-        Ok(()) => Ok(Ok(bytes)),
-        Err(fault) => Ok(Err(fault)),
+        Ok(_) => {}
+        Err(fault) => return Ok(Err(fault)),
     }
+    Ok(Ok(bytes))
 }
 
 #[test]
@@ -184,10 +185,11 @@ fn changed_stream(
     };
     let mut stream = Vec::new(alloc);
     match gather_at(&mut input, &layout, 2, &mut stream) {
-        Ok(()) => Ok(Some(stream)),
-        Err(AtFault::Read) => Ok(None),
-        Err(AtFault::Of(_)) => Err("the stream is refused".into()),
+        Ok(_) => {}
+        Err(AtFault::Read) => return Ok(None),
+        Err(AtFault::Of(_)) => return Err("the stream is refused".into()),
     }
+    Ok(Some(stream))
 }
 
 /// Whether stream 2 is read whole from a file that has just its first `end` bytes after some reads.

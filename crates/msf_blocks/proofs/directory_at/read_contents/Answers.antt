@@ -1,4 +1,5 @@
-use Rattle.std.proofs.Common.{◌∙◌, sym}
+use Rattle.std.proofs.Common.{◌≡◌, ◌∙◌, arith, length, sym}
+use Rattle.std.proofs.lemmas.List.{take_all}
 use Rattle.byte_io.specs.At.{stable}
 use Rattle.msf_blocks.specs.Directory.{IsBlockMap}
 use Rattle.msf_blocks.proofs.AtLaws.{map_inside}
@@ -19,9 +20,13 @@ read_blocks-requires-clause-inside g c = λ file known.
 pub returns-in-Ok-clause-texts : goal.returns-in-Ok-clause-texts
 returns-in-Ok-clause-texts g c =
     let m = c.in_ok-blocks.ensures in
+    let size = c.directory_bytes-size.result in
+    let items = c.read_blocks.new.buffer.items in
+    let long : length items ≡ size = grind arith in
+    let whole = take_all size items (omega (arith, long)) in
     record {
       numbers = c.in_ok-blocks.blocks.items;
       block_map = m.map;
-      given = rw (c.deref.ensures.value, c.block_size.ensures.value, m.reads.keeps) at c.in-Ok.ensures.given;
-      count = c.in-Ok.ensures.len ∙ c.directory_bytes-size.ensures.value;
+      given = rw (whole, c.deref.ensures.value, c.block_size.ensures.value, m.reads.keeps) at c.in-Ok.ensures.given;
+      count = long ∙ c.directory_bytes-size.ensures.value;
     }

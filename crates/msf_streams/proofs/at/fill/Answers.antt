@@ -1,8 +1,9 @@
-use Rattle.std.proofs.Common.{◌≡◌, ◌∙◌, refl, sym, ap, inr, Some, ℕ, List}
+use Rattle.std.proofs.Common.{◌≡◌, ◌∙◌, refl, sym, ap, arith, inr, Some, ℕ, List}
+use Rattle.std.proofs.lemmas.List.{length-take-le}
 use Rattle.msf_superblock.specs.Superblock.{Fields}
 use Rattle.msf_streams.proofs.AtLaws.{are_blocks, was_read}
 use Rattle.msf_streams.proofs.LentLaws.{is_sized}
-use Rattle.msf_streams.proofs.at.gather_at.Goals as goal
+use Rattle.msf_streams.proofs.at.fill.Goals as goal
 
 pub read_blocks-requires-clause-count : goal.read_blocks-requires-clause-count
 read_blocks-requires-clause-count g c =
@@ -46,4 +47,4 @@ returns-in-Ok-clause-text g c =
     let sized = is_sized layout c.args.s c.in-Some.size c.in-Some.ensures.fits (sym c.size.ensures.value ∙ c.in-Some.is) in
     let blocks = c.in-Some-blocks.blocks.now in
     let b : c.block_size.result ≡ layout.superblock.block_size = c.block_size.ensures.value ∙ ap (λ (f : Fields). f.block_size) c.superblock.ensures in
-    was_read (g.R.ReadAt.bytes c.args.input.now) layout c.args.s c.in-Some.size blocks _ sized c.in-Some-blocks.ensures.value c.in-Ok.ensures.len (rw b at c.in-Ok.ensures.given)
+    was_read (g.R.ReadAt.bytes c.args.input.now) layout c.args.s c.in-Some.size blocks _ sized c.in-Some-blocks.ensures.value (length-take-le c.in-Some.size _ (omega (arith, c.in-Ok.ensures.len))) (rw b at c.in-Ok.ensures.given)
