@@ -23,9 +23,10 @@
 //! A leaf is one row of the table in `leaf`. The row has the places at fixed offsets, and it says
 //! what follows them: the indices of an argument list, for example, the entries of a method list
 //! or the members of a field list. What follows is cut into *parts*, one after the other. One step,
-//! `part_at` of `part`, finds the places in a part, where it ends, and whether it fits. The check,
-//! the places and the list are three loops over that step. A kind of member is one row of the table
-//! in `member`.
+//! `part_at` of `part`, finds the places in a part, where it ends, and whether it fits. The check
+//! and the places are loops over that step. The list is what a merge makes of each record. So it
+//! asks once what follows, and has a loop of its own for each answer. These loops call the functions
+//! that the step is made of. A kind of member is one row of the table in `member`.
 //!
 //! What is proved: a record is accepted exactly where it has places (`HasPlaces` of
 //! `specs/Place`: the record is made of these parts, and these are the places in them). A refusal

@@ -8,7 +8,7 @@ use crate::fault::LeafFault;
 use crate::name::after_name;
 use crate::numeric::after_numerics;
 use crate::padding::after_padding;
-use crate::part::{Part, check_field, introduces};
+use crate::part::{check_field, introduces};
 use byte_fields::u16_at;
 
 /// A row of the table: what follows the kind of a member and two more bytes, in this order.
@@ -67,7 +67,7 @@ pub fn member_of(kind: u16) -> Option<Member>
 }
 
 /// The places of the first `indices` type indices, from the member's beginning.
-fn index_places(indices: u8) -> &'static [u8]
+pub fn index_places(indices: u8) -> &'static [u8]
     requires { indices ≤ 2 }
     ensures { result.now ≡ take indices (4 ∷ 8 ∷ []) }
 {
@@ -101,7 +101,10 @@ fn after_head(member: Member, body: &[u8], at: usize) -> Result<usize, LeafFault
     Ok(end)
 }
 
+// The walks of a field list call these two for each member, so both stand in their loops.
+
 /// Where a member ends, with its padding.
+#[inline(always)]
 #[tactic(auto, using(crate::proofs::PartLaws::append_held, crate::proofs::PartLaws::append_fails), unfolding(crate::specs::Member::fields_checks))]
 fn after_fields(member: Member, body: &[u8], at: usize) -> Result<usize, LeafFault>
     requires { (at < 2 ^ 17) × (length body.now < 2 ^ 17) × (member.indices ≤ 2) }
@@ -117,13 +120,16 @@ fn after_fields(member: Member, body: &[u8], at: usize) -> Result<usize, LeafFau
     after_padding(body, end)
 }
 
-/// The member that begins at the offset `at`.
+/// How many type indices the member has that begins at the offset `at`, and where it ends.
+#[inline(always)]
 #[tactic(auto, unfolding(crate::specs::Member::member_end, crate::specs::Member::member_places, crate::specs::Member::member_checks))]
-pub fn member_at(body: &[u8], at: usize) -> Result<Part, LeafFault>
+pub fn member_at(body: &[u8], at: usize) -> Result<(u8, usize), LeafFault>
     requires { (at < 2 ^ 17) × (length body.now < 2 ^ 17) }
-    ensures inside { IfOk result (λ p. p.end ≤ length body.now) }
-    ensures end { IfOk result (λ p. p.end ≡ member_end body.now at) }
-    ensures places { IfOk result (λ p. map (λ k. at + k) p.places.now ≡ member_places body.now at) }
+    ensures inside { IfOk result (λ m. m.1 ≤ length body.now) }
+    ensures few { IfOk result (λ m. m.0 ≤ 2) }
+    ensures end { IfOk result (λ m. m.1 ≡ member_end body.now at) }
+    ensures places { IfOk result (λ m.
+        map (λ k. at + k) (take m.0 (4 ∷ 8 ∷ [])) ≡ member_places body.now at) }
     ensures first { Makes result (member_checks body.now at) }
 {
     check_field(body, at, 2)?;
@@ -135,8 +141,5 @@ pub fn member_at(body: &[u8], at: usize) -> Result<Part, LeafFault>
         });
     };
     let end = after_fields(member, body, at)?;
-    Ok(Part {
-        places: index_places(member.indices),
-        end,
-    })
+    Ok((member.indices, end))
 }

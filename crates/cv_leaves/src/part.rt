@@ -1,14 +1,16 @@
 //! The parts of a body that follow the fields at fixed places.
 
-ghost use Rattle.std.specs.Prelude.{◌≡◌, ◌≤◌, ◌+◌, ◌^◌, ◌<◌, length, map, IfOk};
+ghost use Rattle.std.specs.Prelude.{◌≡◌, ◌≤◌, ◌+◌, ◌^◌, ◌<◌, nat_le, length, map, IfOk, if◌then◌else◌};
 ghost use Rattle.byte_fields.specs.Check.{Makes};
+ghost use Rattle.byte_fields.specs.Number.{number_at};
+ghost use Rattle.cv_leaves.specs.declared.leaf.Rest.TheVariants.{Containing, Methods};
 ghost use Rattle.cv_leaves.specs.Field.{field_checks};
 ghost use Rattle.cv_leaves.specs.Attributes.{points_to_member, introduces};
 ghost use Rattle.cv_leaves.specs.Part.{rest_start, stop_of, extent_checks, part_end, part_places, part_checks};
 
 use crate::fault::LeafFault;
 use crate::leaf::Rest;
-use crate::member::member_at;
+use crate::member::{index_places, member_at};
 use byte_fields::{u16_at, u32_at};
 
 /// A part: its places, as offsets from its beginning, and the offset in the body at which it ends.
@@ -18,12 +20,20 @@ pub struct Part {
     pub end: usize,
 }
 
+/// Whether the field of `len` bytes at the offset `at` fits the body.
+pub fn field_fits(body: &[u8], at: usize, len: usize) -> bool
+    requires { at + len < 2 ^ 32 }
+    ensures { result ≡ nat_le (at + len) (length body.now) }
+{
+    at + len <= body.len()
+}
+
 /// Checks that the field of `len` bytes at the offset `at` fits the body.
 pub fn check_field(body: &[u8], at: usize, len: usize) -> Result<(), LeafFault>
     requires { at + len < 2 ^ 32 }
     ensures { Makes result (field_checks body.now at len) }
 {
-    if !byte_fields::fits(body, at, len) {
+    if !field_fits(body, at, len) {
         return Err(LeafFault::Body(at as u32));
     }
     Ok(())
@@ -61,6 +71,41 @@ pub fn extent(rest: Rest, body: &[u8]) -> Result<(usize, usize), LeafFault>
     }
 }
 
+/// Whether a containing class follows the attributes of a pointer, which are at the offset `at`.
+#[tactic(auto, unfolding(crate::specs::Part::part_checks))]
+pub fn has_containing(body: &[u8], at: usize) -> Result<bool, LeafFault>
+    requires { (at < 2 ^ 17) × (length body.now < 2 ^ 17) }
+    ensures inside { IfOk result (λ follows.
+        (if follows then at + 8 else at + 4) ≤ length body.now) }
+    ensures value { IfOk result (λ follows. follows ≡ points_to_member (number_at 4 body.now at)) }
+    ensures first { Makes result (part_checks Containing body.now at) }
+{
+    check_field(body, at, 4)?;
+    let follows = points_to_member(u32_at(body, at));
+    if follows {
+        check_field(body, at + 4, 4)?;
+    }
+    Ok(follows)
+}
+
+/// Where the entry of a method list ends that begins at the offset `at`.
+#[tactic(auto, unfolding(crate::specs::Part::part_end, crate::specs::Part::part_checks))]
+pub fn after_entry(body: &[u8], at: usize) -> Result<usize, LeafFault>
+    requires { (at < 2 ^ 17) × (length body.now < 2 ^ 17) }
+    ensures inside { IfOk result (λ e. e ≤ length body.now) }
+    ensures end { IfOk result (λ e. e ≡ part_end Methods body.now at) }
+    ensures first { Makes result (part_checks Methods body.now at) }
+{
+    check_field(body, at, 2)?;
+    let introduced = introduces(u16_at(body, at));
+    check_field(body, at + 4, 4)?;
+    if introduced {
+        check_field(body, at + 8, 4)?;
+        return Ok(at + 12);
+    }
+    Ok(at + 8)
+}
+
 /// The part that begins at the offset `at`.
 #[tactic(auto, unfolding(crate::specs::Part::part_end, crate::specs::Part::part_places, crate::specs::Part::part_checks))]
 pub fn part_at(rest: Rest, body: &[u8], at: usize) -> Result<Part, LeafFault>
@@ -74,21 +119,17 @@ pub fn part_at(rest: Rest, body: &[u8], at: usize) -> Result<Part, LeafFault>
     match rest {
         // Where nothing follows, parts stop where they begin, so no call gets here.
         Rest::Nothing => Err(LeafFault::Body(at as u32)),
-        Rest::Containing => {
-            check_field(body, at, 4)?;
-            if points_to_member(u32_at(body, at)) {
-                check_field(body, at + 4, 4)?;
-                Ok(Part {
-                    places: &[4],
-                    end: at + 8,
-                })
-            } else {
-                Ok(Part {
-                    places: &[],
-                    end: at + 4,
-                })
+        Rest::Containing => Ok(if has_containing(body, at)? {
+            Part {
+                places: &[4],
+                end: at + 8,
             }
-        }
+        } else {
+            Part {
+                places: &[],
+                end: at + 4,
+            }
+        }),
         Rest::Indices => {
             check_field(body, at, 4)?;
             Ok(Part {
@@ -96,18 +137,16 @@ pub fn part_at(rest: Rest, body: &[u8], at: usize) -> Result<Part, LeafFault>
                 end: at + 4,
             })
         }
-        Rest::Methods => {
-            check_field(body, at, 2)?;
-            let introduced = introduces(u16_at(body, at));
-            check_field(body, at + 4, 4)?;
-            if introduced {
-                check_field(body, at + 8, 4)?;
-            }
+        Rest::Methods => Ok(Part {
+            places: &[4],
+            end: after_entry(body, at)?,
+        }),
+        Rest::Members => {
+            let (indices, end) = member_at(body, at)?;
             Ok(Part {
-                places: &[4],
-                end: if introduced { at + 12 } else { at + 8 },
+                places: index_places(indices),
+                end,
             })
         }
-        Rest::Members => member_at(body, at),
     }
 }

@@ -7,6 +7,5 @@ use Rattle.cv_leaves.proofs.named.list_leaf.Goals as goal
 pub returns-clause-listed : goal.returns-clause-listed
 returns-clause-listed g c =
     let r = c.args.record.now in
-    let extent = c.in-Ok.ensures.value in
-    leaf_listed r c.args.list.now.items c.list_fixed.new.list.items c.list_parts.new.list.items (leaf_seen c.args.leaf) (body_of r) c.list_parts.result
-    (c.in_ok-list_fixed.ensures.listed (search rules)) (rw (extent.1, extent.2, c.body_of.ensures.bytes) at c.list_parts.ensures.listed)
+    leaf_listed r c.args.list.now.items c.list_fixed.new.list.items c.list_rest.new.list.items (leaf_seen c.args.leaf) (body_of r) c.list_rest.result
+    (c.in_ok-list_fixed.ensures.listed (search rules)) c.list_rest.ensures.listed
