@@ -4,3 +4,4 @@ pub mod StreamsLaws
 pub mod TextLaws
 pub mod TakeLaws
 pub mod PlainLaws
+pub mod HexadecimalLaws

@@ -1,12 +1,14 @@
 -- Bytes that are printed as themselves within quotes.
-use Rattle.std.proofs.Common.{◌≡◌, ◌≤◌, ◌+◌, ◌∙◌, ℕ, List, [], ◌∷◌, ◌++◌, length, take, drop, refl, sym, ap, arith}
+use Rattle.std.proofs.Common.{◌≡◌, ◌≤◌, ◌+◌, ◌/◌, ◌%◌, ◌∙◌, ℕ, Bool, true, false, if◌then◌else◌, List, [], ◌∷◌, ◌++◌, length, take, drop, IsAscii, refl, sym, ap, arith}
 use Rattle.std.specs.List.{flat_map}
 use Rattle.std.proofs.lemmas.Grind.{flat_map-append}
 use Rattle.std.proofs.lemmas.List.{take-append-drop, append_assoc}
 use Rattle.std.proofs.Math.Seq.{take-add}
-use Rattle.command_texts.specs.Text.{quoted_byte}
+use Rattle.std.proofs.lemmas.Str.Ascii.{IsAscii-cons, IsAscii-nil}
+use Rattle.command_texts.specs.Text.{digit, is_plain, quoted_byte}
 use Rattle.command_texts.specs.Bounded.{ArePlain}
 use Rattle.command_texts.proofs.TakeLaws.{take_again, take_none, take_more}
+use Rattle.command_texts.proofs.TextLaws.{plain_is_ascii}
 
 -- a block more is plain
 pub block_more : (bytes rest block : List ℕ) (count many : ℕ) → rest ≡ drop count bytes → block ≡ take many rest → ArePlain (take count bytes) → ArePlain block → ArePlain (take (count + many) bytes)
@@ -35,3 +37,27 @@ run_pushed end k byte old bytes plain rest one two front back are first second =
 pub none_left : (end : ℕ) (now rest whole : List ℕ) → length now ≤ end → length rest ≡ 0 → take end (now ++ flat_map quoted_byte rest) ≡ take end whole → now ≡ take end whole
 none_left end now [] whole short none left = take_none end now short ∙ left
 none_left end now (byte ∷ rest) whole short none left = absurd (omega (arith, none))
+
+-- a byte within quotes, where a test said whether it is plain
+abbrev shown_as : Bool → ℕ → List ℕ
+shown_as t byte = if t then byte ∷ [] else 92 ∷ 120 ∷ digit (byte / 16) ∷ digit (byte % 16) ∷ []
+
+longer_by : (t : Bool) (byte : ℕ) (bytes rest : List ℕ) → length bytes ≤ length rest → length (byte ∷ bytes) ≤ length (shown_as t byte ++ rest)
+longer_by true byte bytes rest longer = omega (arith, longer)
+longer_by false byte bytes rest longer = omega (arith, longer)
+
+-- within quotes no text gets shorter
+quoted_longer : (bytes : List ℕ) → length bytes ≤ length (flat_map quoted_byte bytes)
+quoted_longer [] = omega arith
+quoted_longer (byte ∷ bytes) = longer_by (is_plain byte) byte bytes (flat_map quoted_byte bytes) (quoted_longer bytes)
+
+plain_by : (t : Bool) (byte : ℕ) (bytes rest : List ℕ) → length bytes ≤ length rest → shown_as t byte ++ rest ≡ byte ∷ bytes → (t ≡ true) × (rest ≡ bytes)
+plain_by true byte bytes rest longer same = (refl, cc)
+plain_by false byte bytes rest longer same = absurd (omega (arith, longer, ap (λ (xs : List ℕ). length xs) same))
+
+-- plain bytes are ASCII
+pub plain_ascii : (bytes : List ℕ) → ArePlain bytes → IsAscii bytes
+plain_ascii [] plain = IsAscii-nil
+plain_ascii (byte ∷ bytes) plain =
+    let each = plain_by (is_plain byte) byte bytes (flat_map quoted_byte bytes) (quoted_longer bytes) plain in
+    IsAscii-cons byte bytes (plain_is_ascii byte each.0) (plain_ascii bytes each.1)

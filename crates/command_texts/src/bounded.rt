@@ -1,13 +1,11 @@
 //! Texts of bounded length.
 
-ghost use Rattle.std.specs.Prelude.{◌≡◌, ◌≤◌, ◌<◌, ◌++◌, OnOk, IfOk, IsTrue, length, take};
+ghost use Rattle.std.specs.Prelude.{◌≡◌, ◌≤◌, ◌<◌, ◌++◌, OnOk, IfOk, length, take};
 ghost use Rattle.std.specs.List.{flat_map};
 ghost use Rattle.std.specs.Fmt.{decimal};
 ghost use Rattle.command_texts.specs.Text.{digit, quoted_byte, quoted};
-ghost use Rattle.command_texts.specs.Bounded.{ArePlain};
 
-use crate::text::is_plain;
-use byte_fields::rest_from;
+use crate::plain::{is_plain, plain_run};
 use itoa::Buffer;
 use std::alloc::{AllocError, Allocator};
 
@@ -67,51 +65,6 @@ fn push_quoted_byte<A: Allocator>(
             &[b'\\', b'x', digit(byte / 16), digit(byte % 16)],
         )
     }
-}
-
-/// How many bytes are tested at once.
-const BLOCK: usize = 16;
-
-/// Whether all bytes of a block are printed as themselves within quotes.
-fn is_plain_block(block: &[u8; BLOCK]) -> bool
-    ensures { IsTrue result → ArePlain block.now }
-{
-    let mut plain = true;
-    for byte in block {
-        plain &= is_plain(*byte);
-    }
-    plain
-}
-
-/// How many bytes at the head are printed as themselves within quotes, by whole blocks.
-fn plain_blocks(bytes: &[u8]) -> usize
-    ensures inside { result ≤ length bytes.now }
-    ensures plain { ArePlain (take result bytes.now) }
-{
-    let mut count = 0;
-    'tested: while let Some(block) = rest_from(bytes, count).first_chunk::<BLOCK>() {
-        if !is_plain_block(block) {
-            return count;
-        }
-        count += BLOCK;
-    }
-    count
-}
-
-/// How many bytes at the head are printed as themselves within quotes.
-fn plain_run(bytes: &[u8]) -> usize
-    ensures inside { result ≤ length bytes.now }
-    ensures plain { ArePlain (take result bytes.now) }
-{
-    let blocks = plain_blocks(bytes);
-    let mut count = blocks;
-    for byte in rest_from(bytes, blocks) {
-        if !is_plain(*byte) {
-            return count;
-        }
-        count += 1;
-    }
-    count
 }
 
 /// Appends the plain bytes at the head of a text as they are printed within quotes, and the byte

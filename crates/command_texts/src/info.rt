@@ -5,7 +5,7 @@ ghost use Rattle.std.specs.List.{flat_map};
 ghost use Rattle.pdb_info.specs.Name.{named};
 ghost use Rattle.command_texts.specs.Info.{signature_line, guid_line, header_lines, name_line, feature_line};
 
-use crate::text::{push_index, push_named, push_quoted};
+use crate::text::{push_index, push_named, push_number, push_quoted};
 use pdb_info::{InfoHeader, Name};
 use std::alloc::{AllocError, Allocator};
 use uuid::Uuid;
@@ -56,10 +56,10 @@ fn push_name<A: Allocator>(text: &mut String<A>, name: &Name<'_>) -> Result<(), 
     ensures { OnOk result
         (string_bytes text.new ≡ string_bytes text.old ++ name_line (named name.now)) }
 {
-    let stream = name.stream;
     text.push_str("name ")?;
     push_quoted(text, name.text)?;
-    writeln!(text, " {stream}")?;
+    push_number(text, u64::from(name.stream))?;
+    text.push_str("\n")?;
     Ok(())
 }
 

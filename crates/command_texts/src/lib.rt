@@ -11,8 +11,9 @@
 //!
 //! Here nothing is read and nothing is refused. The crate `pdb_commands` does both.
 //!
-//! `text` prints numbers and names. [`bounded`] appends them to a text of bytes, as far as it stays
-//! within an end. Each other module is named for the command whose lines it makes.
+//! `text` prints numbers and names, with `hexadecimal` for digits in base 16. [`bounded`] appends
+//! them to a text of bytes, as far as it stays within an end. `plain` finds bytes that are printed
+//! as themselves within quotes. Each other module is named for the command whose lines it makes.
 //!
 //! # Example
 //!
@@ -33,7 +34,9 @@
 pub mod bounded;
 mod check;
 mod difference;
+mod hexadecimal;
 mod info;
+mod plain;
 mod record;
 mod records;
 mod streams;
@@ -43,8 +46,9 @@ mod types;
 pub use check::push_checked;
 pub use difference::{Scope, push_difference};
 pub use info::{push_features, push_info_header, push_names};
+pub use plain::is_plain;
 pub use record::record_text;
 pub use records::record_lines;
 pub use streams::layout_text;
-pub use text::{is_plain, push_index, push_kind, push_named, push_quoted};
+pub use text::{push_index, push_kind, push_named, push_quoted};
 pub use types::push_type_line;

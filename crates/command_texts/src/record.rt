@@ -6,7 +6,7 @@ ghost use Rattle.cv_leaves.specs.Place.{HasPlaces, IsChecked};
 ghost use Rattle.cv_leaves.specs.Name.{name_of};
 ghost use Rattle.command_texts.specs.Record.{bytes_line, place_line, name_lines};
 
-use crate::text::{push_index, push_quoted};
+use crate::text::{push_decimal, push_index, push_quoted};
 use cv_leaves::{places, ref_at, type_name};
 use std::alloc::{AllocError, Allocator};
 
@@ -35,7 +35,8 @@ fn push_place<A: Allocator>(
     ensures { OnOk result
         (string_bytes text.new ≡ string_bytes text.old ++ place_line bytes.now place) }
 {
-    write!(text, "{place} ")?;
+    push_decimal(text, place as u64)?;
+    text.push_str(" ")?;
     push_index(text, ref_at(bytes, place))?;
     text.push_str("\n")?;
     Ok(())

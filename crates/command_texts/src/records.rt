@@ -4,7 +4,7 @@ ghost use Rattle.std.specs.Prelude.{◌≡◌, ◌++◌, OnOk, IfOk, string_byte
 ghost use Rattle.tpi_records.specs.Records.{IsRecord};
 ghost use Rattle.command_texts.specs.Records.{record_line, record_lines};
 
-use crate::text::{push_index, push_kind};
+use crate::text::{push_index, push_kind, push_number};
 use cv_leaves::kind_of;
 use std::alloc::{AllocError, Allocator};
 use tpi_records::FIRST_INDEX;
@@ -21,11 +21,12 @@ fn push_record<A: Allocator>(
         (string_bytes text.new ≡ string_bytes text.old ++ record_line index bytes.now) }
 {
     let kind = kind_of(bytes);
-    let size = bytes.len();
     push_index(text, index)?;
     text.push_str(" ")?;
     push_kind(text, kind)?;
-    writeln!(text, " {size}")
+    push_number(text, bytes.len() as u64)?;
+    text.push_str("\n")?;
+    Ok(())
 }
 
 /// The lines of all records.

@@ -5,16 +5,9 @@ ghost use Rattle.std.specs.List.{flat_map};
 ghost use Rattle.msf_streams.specs.Streams.{blocks_in};
 ghost use Rattle.command_texts.specs.Streams.{blank_number, container_with, stream_line, stream_lines};
 
-use crate::text::push_named;
+use crate::text::{push_decimal, push_named, push_number};
 use msf_blocks::{Layout, blocks_for};
 use std::alloc::{AllocError, Allocator};
-
-/// Appends a space and a number.
-fn push_number<A: Allocator>(text: &mut String<A>, number: u32) -> Result<(), AllocError>
-    ensures { OnOk result (string_bytes text.new ≡ string_bytes text.old ++ blank_number number) }
-{
-    write!(text, " {number}")
-}
 
 /// Appends the lines on the container, of which this many blocks are free.
 #[tactic(auto, unfolding(crate::specs::Streams::container_with))]
@@ -49,7 +42,7 @@ fn push_blocks<A: Allocator, L: Allocator>(
         let Some(block) = layout.block(s, k) else {
             return Ok(());
         };
-        push_number(text, block)?;
+        push_number(text, u64::from(block))?;
     }
     Ok(())
 }
@@ -67,8 +60,8 @@ fn push_stream<A: Allocator, L: Allocator>(
 {
     let block_size = layout.superblock().block_size();
     let size = layout.size(s).unwrap_or(0);
-    write!(text, "{s}")?;
-    push_number(text, size)?;
+    push_decimal(text, u64::from(s))?;
+    push_number(text, u64::from(size))?;
     push_blocks(text, layout, s, blocks_for(block_size, size))?;
     text.push_str("\n")?;
     Ok(())

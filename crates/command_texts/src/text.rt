@@ -1,24 +1,48 @@
 //! How numbers and texts are printed.
 
-ghost use Rattle.std.specs.Prelude.{◌≡◌, ◌++◌, OnOk, string_bytes};
-ghost use Rattle.command_texts.specs.Text.{index_text, is_plain, kind_text, quoted, quoted_byte, named_line};
+ghost use Rattle.std.specs.Prelude.{◌≡◌, ◌<◌, ◌∷◌, ◌++◌, OnOk, IfOk, IsAscii, string_bytes, length};
+ghost use Rattle.std.specs.List.{flat_map};
+ghost use Rattle.std.specs.Fmt.{decimal};
+ghost use Rattle.command_texts.specs.Text.{index_text, kind_text, quoted, quoted_byte, named_line};
 
+use crate::hexadecimal::{pair, push_four, push_u32};
+use crate::plain::{is_plain, plain_run};
+use itoa::Buffer;
 use std::alloc::{AllocError, Allocator};
 
 /// Appends a type index: `0x` and lower case hexadecimal digits without leading zeros.
 pub fn push_index<A: Allocator>(text: &mut String<A>, index: u32) -> Result<(), AllocError>
     ensures { OnOk result (string_bytes text.new ≡ string_bytes text.old ++ index_text index) }
 {
-    write!(text, "0x{index:x}")
+    text.push_str("0x")?;
+    push_u32(text, index)?;
+    Ok(())
 }
 
 /// Appends the kind of a record: `0x` and four lower case hexadecimal digits.
 pub fn push_kind<A: Allocator>(text: &mut String<A>, kind: u16) -> Result<(), AllocError>
     ensures { OnOk result (string_bytes text.new ≡ string_bytes text.old ++ kind_text kind) }
 {
-    let high = kind / 256;
-    let low = kind % 256;
-    write!(text, "0x{high:02x}{low:02x}")
+    text.push_str("0x")?;
+    push_four(text, kind)?;
+    Ok(())
+}
+
+/// Appends a number in decimal.
+pub fn push_decimal<A: Allocator>(text: &mut String<A>, number: u64) -> Result<(), AllocError>
+    ensures { OnOk result (string_bytes text.new ≡ string_bytes text.old ++ decimal number) }
+{
+    let mut buffer = Buffer::new();
+    text.push_str(buffer.format(number))
+}
+
+/// Appends a space and a number in decimal.
+pub fn push_number<A: Allocator>(text: &mut String<A>, number: u64) -> Result<(), AllocError>
+    ensures { OnOk result (string_bytes text.new ≡ string_bytes text.old ++ 32 ∷ decimal number) }
+{
+    text.push_str(" ")?;
+    push_decimal(text, number)?;
+    Ok(())
 }
 
 /// Appends a line with a name and a number.
@@ -32,15 +56,20 @@ pub fn push_named<A: Allocator>(
         (string_bytes text.new ≡ string_bytes text.old ++ named_line name.now number) }
 {
     text.push_str(name)?;
-    writeln!(text, " {number}")
+    push_number(text, u64::from(number))?;
+    text.push_str("\n")?;
+    Ok(())
 }
 
-/// Whether a byte is printed as itself within quotes.
-#[tactic(auto, unfolding(crate::specs::Text::is_plain))]
-pub fn is_plain(byte: u8) -> bool
-    ensures { result ≡ is_plain byte }
+/// Appends bytes that are ASCII. So they are UTF-8, which a text has to be.
+fn push_ascii<A: Allocator>(text: &mut String<A>, bytes: &[u8]) -> Result<(), AllocError>
+    requires { IsAscii bytes.now }
+    ensures { OnOk result (string_bytes text.new ≡ string_bytes text.old ++ bytes.now) }
 {
-    (0x20 <= byte) & (byte <= 0x7E) & (byte != b'"') & (byte != b'\\')
+    let Ok(ascii) = str::from_utf8(bytes) else {
+        unreachable!();
+    };
+    text.push_str(ascii)
 }
 
 /// Appends a byte as it is printed within quotes.
@@ -50,9 +79,28 @@ fn push_quoted_byte<A: Allocator>(text: &mut String<A>, byte: u8) -> Result<(), 
     if is_plain(byte) {
         text.push(char::from(byte))?;
     } else {
-        write!(text, "\\x{byte:02x}")?;
+        text.push_str("\\x")?;
+        text.push_str(pair(byte))?;
     }
     Ok(())
+}
+
+/// Appends the plain bytes at the head of a text as they are printed within quotes, and the byte
+/// behind them. The answer is what is left of the text.
+fn push_run<'a, A: Allocator>(text: &mut String<A>, bytes: &'a [u8]) -> Result<&'a [u8], AllocError>
+    requires { 0 < length bytes.now }
+    ensures value { IfOk result (λ rest.
+        string_bytes text.new ++ flat_map quoted_byte rest.now
+        ≡ string_bytes text.old ++ flat_map quoted_byte bytes.now) }
+    ensures less { IfOk result (λ rest. length rest.now < length bytes.now) }
+{
+    let (plain, rest) = bytes.split_at(plain_run(bytes));
+    push_ascii(text, plain)?;
+    let Some((byte, rest)) = rest.split_first() else {
+        return Ok(rest);
+    };
+    push_quoted_byte(text, *byte)?;
+    Ok(rest)
 }
 
 /// Appends a text in quotes. It may have any bytes. The quote, the backslash and all bytes that are
@@ -62,8 +110,9 @@ pub fn push_quoted<A: Allocator>(text: &mut String<A>, bytes: &[u8]) -> Result<(
     ensures { OnOk result (string_bytes text.new ≡ string_bytes text.old ++ quoted bytes.now) }
 {
     text.push_str("\"")?;
-    for byte in bytes {
-        push_quoted_byte(text, *byte)?;
+    let mut rest = bytes;
+    'runs: while !rest.is_empty() {
+        rest = push_run(text, rest)?;
     }
     text.push_str("\"")?;
     Ok(())

@@ -8,7 +8,7 @@ ghost use Rattle.cv_leaves.specs.Name.{name_of};
 ghost use Rattle.command_texts.specs.Text.{index_text};
 ghost use Rattle.command_texts.specs.Types.{type_line, reference, quoted_name, leaf_name};
 
-use crate::text::{push_index, push_quoted};
+use crate::text::{push_index, push_number, push_quoted};
 use cv_leaves::{kind_of, leaf_text, places, ref_at, type_name};
 use std::alloc::{AllocError, Allocator};
 
@@ -32,11 +32,11 @@ fn push_head<A: Allocator>(text: &mut String<A>, index: u32, bytes: &[u8]) -> Re
         ≡ string_bytes text.old
         ++ (index_text index ++ 32 ∷ leaf_name bytes.now ++ 32 ∷ decimal (length bytes.now))) }
 {
-    let size = bytes.len();
     push_index(text, index)?;
     text.push_str(" ")?;
     push_leaf(text, bytes)?;
-    write!(text, " {size}")
+    push_number(text, bytes.len() as u64)?;
+    Ok(())
 }
 
 /// Appends a space and the type index at a place.

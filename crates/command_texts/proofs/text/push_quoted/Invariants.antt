@@ -1,7 +1,12 @@
-use Rattle.std.proofs.Common.{◌≡◌, ◌∷◌, ◌++◌, take, string_bytes}
+use Rattle.std.proofs.Common.{◌≡◌, ◌∷◌, ◌++◌, length, string_bytes}
 use Rattle.std.specs.List.{flat_map}
 use Rattle.command_texts.specs.Text.{quoted_byte}
 use Rattle.command_texts.proofs.text.push_quoted.Given as goal
 
-abbrev pub invariant-loop-byte : goal.invariant-loop-byte
-invariant-loop-byte g l = string_bytes l.text ≡ string_bytes l.fn.text ++ (34 ∷ flat_map quoted_byte (take l.byte-index l.bytes))
+abbrev pub invariant-runs : goal.invariant-runs
+invariant-runs g l =
+    string_bytes l.text ++ flat_map quoted_byte l.rest
+    ≡ string_bytes l.fn.text ++ (34 ∷ flat_map quoted_byte l.bytes)
+
+abbrev pub decreases-runs : goal.decreases-runs
+decreases-runs g l = length l.rest

@@ -1,6 +1,5 @@
-use Rattle.std.proofs.Common.{◌≡◌, ◌∷◌, [], ◌∙◌, sym, rules, arith, append_assoc, false, true, refl}
+use Rattle.std.proofs.Common.{◌≡◌, ◌∷◌, [], ◌∙◌, sym, true}
 use Rattle.std.specs.Prelude.{encode_utf8}
-use Rattle.std.proofs.lemmas.Fmt.{hex_byte}
 use Rattle.command_texts.specs.Text.{is_plain}
 use Rattle.command_texts.proofs.TextLaws.{plain_is_ascii}
 use Rattle.command_texts.proofs.text.push_quoted_byte.Goals as goal
@@ -9,10 +8,4 @@ pub returns-in_ok-push : goal.returns-in_ok-push
 returns-in_ok-push g c =
     let plain : is_plain c.args.byte ≡ true = sym c.is_plain.ensures ∙ c.if-is_plain.true in
     let one : encode_utf8 c.from.result ≡ c.from.result ∷ [] = c.push.ensures.ascii (rw c.from.ensures (plain_is_ascii c.args.byte plain)) in
-    rw plain (c.in_ok-push.ensures.bytes ∙ rw (one, c.from.ensures) refl)
-
-pub returns-in_ok-write : goal.returns-in_ok-write
-returns-in_ok-write g c =
-    let digits = hex_byte false c.args.byte (omega arith) in
-    let other : is_plain c.args.byte ≡ false = sym c.is_plain.ensures ∙ c.if-is_plain.false in
-    rw other (search (rules, append_assoc, digits))
+    rw plain (rw (one, c.from.ensures) at c.in_ok-push.ensures.bytes)

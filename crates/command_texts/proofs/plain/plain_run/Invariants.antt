@@ -1,6 +1,6 @@
 use Rattle.std.proofs.Common.{◌≡◌, ◌≤◌, ◌+◌, take, length}
 use Rattle.command_texts.specs.Bounded.{ArePlain}
-use Rattle.command_texts.proofs.bounded.plain_run.Given as goal
+use Rattle.command_texts.proofs.plain.plain_run.Given as goal
 
 abbrev pub invariant-loop-byte : goal.invariant-loop-byte
 invariant-loop-byte l = record {

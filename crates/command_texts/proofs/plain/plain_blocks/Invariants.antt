@@ -1,6 +1,6 @@
 use Rattle.std.proofs.Common.{◌≤◌, ◌-◌, take, length}
 use Rattle.command_texts.specs.Bounded.{ArePlain}
-use Rattle.command_texts.proofs.bounded.plain_blocks.Given as goal
+use Rattle.command_texts.proofs.plain.plain_blocks.Given as goal
 
 abbrev pub invariant-tested : goal.invariant-tested
 invariant-tested l = record {

@@ -1,7 +1,7 @@
 use Rattle.std.proofs.Common.{rules, ◌≡◌, drop, take, length, ap, arith}
 use Rattle.std.proofs.lemmas.List.{length-drop}
 use Rattle.command_texts.proofs.PlainLaws.{block_more}
-use Rattle.command_texts.proofs.bounded.plain_blocks.Goals as goal
+use Rattle.command_texts.proofs.plain.plain_blocks.Goals as goal
 
 pub tested-preserved : goal.tested-preserved
 tested-preserved c =
