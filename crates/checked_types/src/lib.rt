@@ -31,11 +31,11 @@
 //!     let mut table = Table::with_hasher(rt.alloc(), folding());
 //!     table.add(rt.alloc(), &types, 1000)?;
 //!     drop(types);
-//!     let Ok(records) = read_unchecked(rt.alloc(), &mut file.as_slice(), &mut buffer) else {
-//!         return Err("no records".into());
+//!     let Ok(stream) = read_stream(rt.alloc(), &mut file.as_slice(), &mut buffer) else {
+//!         return Err("no stream".into());
 //!     };
 //!     // each record names only earlier ones, so the records can be added as they stand
-//!     assert!(rt; table.add_records(rt.alloc(), &records, 1000));
+//!     assert!(rt; table.add_stream(rt.alloc(), stream, 1000));
 //!     let canon = table.finish(rt.alloc())?;
 //!     assert_eq!(rt; canon.len(), 2);
 //!     assert_eq!(rt; canon.get(1), Some(TO_INT));
@@ -53,5 +53,5 @@ mod order;
 mod types;
 
 pub use fault::TypeFault;
-pub use order::{InOrder, in_file_order, record_at};
+pub use order::{InOrder, record_at};
 pub use types::Types;

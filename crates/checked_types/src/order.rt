@@ -56,7 +56,7 @@ impl<A: Allocator> Order<A> {
 }
 
 /// The positions of `len` records as they stand.
-pub fn in_file_order<'t>(len: usize) -> InOrder<'t>
+fn in_file_order<'t>(len: usize) -> InOrder<'t>
     ensures { result ≡ range_with_len 0 len }
 {
     InOrder {

@@ -8,11 +8,11 @@ use Rattle.msf_blocks.specs.Layout.{LayoutView, HasLayout, HasTexts}
 use Rattle.msf_blocks.proofs.KnownLayoutLaws.{fault_known, layout_given, layout_known}
 use Rattle.msf_streams.specs.Streams.{listed_contents}
 use Rattle.msf_streams.proofs.AtLaws.{stream_given, stream_known}
-use Rattle.file_types.specs.Read.{HasInfoFault, HasInfoFaultRead, HasFaultOfTexts, HasLongInfo, HasPdbFault, HasPdbFaultRead, HasRecordsFault, HasStreamFault, HasStreamFaultRead, HasTypeFaultRead, IsAccepted, IsLayoutFault, IsLayoutFaultRead, ListsLongInfo, ListsRecords, ListsTypes, RecordsWereRead, TypesWereRead, UncheckedWereRead}
-use Rattle.closed_trees.specs.Types.{AreTypes}
+use Rattle.file_types.specs.Read.{HasFaultOfTexts, HasFaultOfTypes, HasInfoFault, HasInfoFaultRead, HasLongInfo, HasPdbFault, HasPdbFaultRead, HasRecordsFault, HasStreamFault, HasStreamFaultRead, HasTypes, IsAccepted, IsLayoutFault, IsLayoutFaultRead, ListsLongInfo, ListsRecords, ListsStream, RecordsWereRead, StreamWasRead, TypesWereRead}
 use Rattle.file_types.specs.declared.fault.PdbFault.{PdbFault}
 use Rattle.file_types.specs.declared.fault.PdbFault.TheVariants as fault
-use Rattle.file_types.proofs.ReadLaws.{info_refused, listed_accepted}
+use Rattle.file_types.proofs.ReadLaws.{info_refused}
+use Rattle.file_types.proofs.RefusedLaws.{types_fault_read}
 use Rattle.file_types.proofs.StreamLaws.{length-text, long_info, short_info}
 
 -- ---- records and types
@@ -25,17 +25,24 @@ records_known file layout records has (stream, read, lists) = record { stream = 
 pub info_known : (file : List ℕ) (layout : LayoutView) → ListsLongInfo layout → HasLongInfo file layout
 info_known file layout (info, listed, long) = long_info file layout (bytes_of info.size) (rw listed refl) long
 
--- the records of a layout that is listed with a long enough stream 1 are listed by the file
-pub lists_known : (file : List ℕ) (layout : LayoutView) (records : List (List ℕ)) → AreBytes file → HasLayout file layout → RecordsWereRead (stable file) layout records → ListsLongInfo layout → ListsTypes file records
-lists_known file layout records bytes has read info = record {
+-- the stream 2 of a layout that is listed with a long enough stream 1 is listed by the file
+pub lists_known : (file : List ℕ) (layout : LayoutView) (stream : List ℕ) → AreBytes file → HasLayout file layout → StreamWasRead (stable file) layout stream → ListsStream file stream
+lists_known file layout stream bytes has (read, info) = record {
   bytes = bytes;
-  has = record { layout = layout; has_layout = has; lists = records_known file layout records has read };
+  layout = layout;
+  has_layout = has;
+  is_stream = stream_known file layout 2 stream has read;
   info = info_known file layout info;
 }
 
 -- types that reads gave are those of the file, which is accepted
 pub types_known : (file : List ℕ) (layout : LayoutView) (records : List (List ℕ)) → AreBytes file → HasLayout file layout → TypesWereRead (stable file) layout records → IsAccepted file records
-types_known file layout records bytes has (read, info, types) = listed_accepted file records (lists_known file layout records bytes has read info) types
+types_known file layout records bytes has (read, info, types) = record {
+  bytes = bytes;
+  has = record { layout = layout; has_layout = has; lists = records_known file layout records has read };
+  info = info_known file layout info;
+  types = types;
+}
 
 -- so what reads gave of a layout that they gave
 pub accepted_known : (file : List ℕ) (types : List (List ℕ)) → AreBytes file → (layout : LayoutView) × HasTexts (stable file) layout × TypesWereRead (stable file) layout types → IsAccepted file types
@@ -53,21 +60,20 @@ info_listed file layout (text, is, long) = elim (slice_get_cases layout.streams 
   | inr (le, none) ↦ let bad = rw none at is in absurd cc
 ]
 
--- reads of a file give the records that it lists
-pub lists_read : (file : List ℕ) (records : List (List ℕ)) → ListsTypes file records → (layout : LayoutView) × HasTexts (stable file) layout × UncheckedWereRead (stable file) layout records
-lists_read file records lists =
-    let has = lists.has in
-    let its = has.lists in (
-      has.layout,
-      layout_given file has.layout has.has_layout,
-      ((its.stream, stream_given file has.layout 2 its.stream has.has_layout its.is_stream, its.has_records), info_listed file has.layout lists.info),
-    )
+-- reads of a file give the stream that it lists
+pub lists_read : (file stream : List ℕ) → ListsStream file stream → (layout : LayoutView) × HasTexts (stable file) layout × StreamWasRead (stable file) layout stream
+lists_read file stream lists = (
+  lists.layout,
+  layout_given file lists.layout lists.has_layout,
+  (stream_given file lists.layout 2 stream lists.has_layout lists.is_stream, info_listed file lists.layout lists.info),
+)
 
 -- and the types with which it is accepted
 pub accepted_read : (file : List ℕ) (types : List (List ℕ)) → IsAccepted file types → (layout : LayoutView) × HasTexts (stable file) layout × TypesWereRead (stable file) layout types
 accepted_read file types is =
-    let there = lists_read file types (record { bytes = is.bytes; has = is.has; info = is.info }) in
-    (there.0, there.1, (there.2.0, there.2.1, is.types))
+    let its = is.has.lists in
+    let there = lists_read file its.stream (record { bytes = is.bytes; layout = is.has.layout; has_layout = is.has.has_layout; is_stream = its.is_stream; info = is.info }) in
+    (there.0, there.1, ((its.stream, there.2.0, its.has_records), there.2.1, is.types))
 
 -- ---- faults
 
@@ -128,18 +134,24 @@ pub refused_known : {A : Type 0} (bytes : Bytes) (inner : PdbFault A) → HasFau
 refused_known bytes inner (inl refused) file known = inl (texts_fault_known file inner (rw known at refused))
 refused_known bytes inner (inr want) file known = inr want
 
--- ---- records that a file lists
+-- ---- the stream that a file lists
 
--- types that the records of a file make are those with which it is accepted
-pub types_lists : (file : List ℕ) (records types : List (List ℕ)) → ListsTypes file records → (types ≡ records) × AreTypes types → IsAccepted file types
-types_lists file records types lists (is, are) = rw is (listed_accepted file records lists (rw is at are))
+-- types that it has are those with which the file is accepted
+pub types_lists : (file stream : List ℕ) (types : List (List ℕ)) → ListsStream file stream → HasTypes stream types → IsAccepted file types
+types_lists file stream types lists (has, are) = record {
+  bytes = lists.bytes;
+  has = record { layout = lists.layout; has_layout = lists.has_layout; lists = record { stream = stream; is_stream = lists.is_stream; has_records = has } };
+  info = lists.info;
+  types = are;
+}
 
--- the fault that they have is the first one of the file
-pub refused_lists : {A : Type 0} (file : List ℕ) (records : List (List ℕ)) (inner : PdbFault A) → ListsTypes file records
-    → ((bytes : Bytes) (layout : LayoutView) → RecordsWereRead bytes layout records → HasTypeFaultRead bytes layout inner ⊎ (inner ≡ fault.Memory)) → HasPdbFault file inner ⊎ (inner ≡ fault.Memory)
-refused_lists file records inner lists each =
-    let read = lists_read file records lists in
-    elim (each (stable file) read.0 read.2.0) [
-      | inl refused ↦ inl (pdb_fault_known file read.0 inner (layout_known file read.0 read.1) (inr (read.2.1, inr refused)))
-      | inr want ↦ inr want
-    ]
+-- the fault that it has is the first one of the file
+pub fault_lists : {A : Type 0} (file stream : List ℕ) (inner : PdbFault A) → ListsStream file stream → HasFaultOfTypes stream inner → HasPdbFault file inner
+fault_lists file stream inner lists first =
+    let read = lists_read file stream lists in
+    pdb_fault_known file read.0 inner (layout_known file read.0 read.1) (types_fault_read (stable file) read.0 stream inner read.2 first)
+
+-- so where memory may have run out
+pub refused_lists : {A : Type 0} (file stream : List ℕ) (inner : PdbFault A) → ListsStream file stream → HasFaultOfTypes stream inner ⊎ (inner ≡ fault.Memory) → HasPdbFault file inner ⊎ (inner ≡ fault.Memory)
+refused_lists file stream inner lists (inl first) = inl (fault_lists file stream inner lists first)
+refused_lists file stream inner lists (inr want) = inr want

@@ -10,9 +10,7 @@ use Rattle.msf_blocks.specs.Layout.{LayoutView, HasLayout, layout_checks}
 use Rattle.msf_blocks.proofs.FoundLaws.{layout_holds}
 use Rattle.tpi_records.proofs.StreamLaws.{one_records, no_fault}
 use Rattle.checked_types.proofs.CycleLaws.{types_sound}
-use Rattle.closed_trees.specs.Types.{AreTypes}
-use Rattle.checked_types.specs.declared.fault.TypeFault.TheVariants as types
-use Rattle.file_types.specs.Read.{ListsTypes, IsAccepted, HasTypeRecords, ListsRecords, HasLongInfo, HasInfoFault, HasStreamFault, HasPdbFault}
+use Rattle.file_types.specs.Read.{IsAccepted, HasTypeRecords, ListsRecords, HasLongInfo, HasInfoFault, HasStreamFault, HasPdbFault}
 use Rattle.file_types.specs.declared.fault.PdbFault.{PdbFault}
 use Rattle.file_types.specs.declared.fault.PdbFault.TheVariants as fault
 use Rattle.msf_blocks.proofs.OneLayoutLaws.{one_layout}
@@ -30,10 +28,6 @@ info_refused file layout (fault.Type inner) has refused = absurd refused
 info_refused file layout fault.Memory has refused = absurd refused
 
 -- ---- accepted files
-
--- a file is accepted with the records that it lists, if they are types
-pub listed_accepted : (file : List ℕ) (records : List (List ℕ)) → ListsTypes file records → AreTypes records → IsAccepted file records
-listed_accepted file records lists types = record { bytes = lists.bytes; has = lists.has; info = lists.info; types = types }
 
 -- a layout has one list of type records
 one_listed : (file : List ℕ) (layout : LayoutView) (some others : List (List ℕ)) → ListsRecords file layout some → ListsRecords file layout others → some ≡ others

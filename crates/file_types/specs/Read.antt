@@ -38,12 +38,14 @@ pub record HasTypeRecords (file : List ℕ) (records : List (List ℕ)) : Type 0
   pub has_layout : HasLayout file layout
   pub lists : ListsRecords file layout records
 
--- the file lists these records: it is made of bytes, it has these type records and a stream 1 of at
--- least 28 bytes
-pub record ListsTypes (file : List ℕ) (records : List (List ℕ)) : Type 0 where
+-- the file lists this stream on the way to its types: it is made of bytes and has a layout, these
+-- are the contents of its stream 2, and it has a stream 1 of at least 28 bytes
+pub record ListsStream (file stream : List ℕ) : Type 0 where
   pub bytes : AreBytes file
-  pub has : HasTypeRecords file records
-  pub info : HasLongInfo file has.layout
+  pub layout : LayoutView
+  pub has_layout : HasLayout file layout
+  pub is_stream : stream_contents file layout 2 ≡ Some stream
+  pub info : HasLongInfo file layout
 
 -- the file is accepted with these records: it is made of bytes, it has these type records and a
 -- stream 1 of at least 28 bytes, and the records are types
@@ -64,15 +66,27 @@ abbrev pub ListsLongInfo : LayoutView → Type 0
 ListsLongInfo layout =
     (info : Listed) × (slice_get layout.streams 1 ≡ Some info) × (28 ≤ bytes_of info.size)
 
--- reads gave these records on the way to types: the layout lists a long enough stream 1
-abbrev pub UncheckedWereRead : Bytes → LayoutView → List (List ℕ) → Type 0
-UncheckedWereRead bytes layout records = RecordsWereRead bytes layout records × ListsLongInfo layout
+-- reads gave these bytes of stream 2 on the way to types: the layout lists a long enough stream 1
+abbrev pub StreamWasRead : Bytes → LayoutView → List ℕ → Type 0
+StreamWasRead bytes layout stream = WasRead bytes layout 2 stream × ListsLongInfo layout
 
 -- reads gave these types: the layout lists a long enough stream 1, and the records that reads gave
 -- are types
 abbrev pub TypesWereRead : Bytes → LayoutView → List (List ℕ) → Type 0
 TypesWereRead bytes layout records =
     RecordsWereRead bytes layout records × ListsLongInfo layout × AreTypes records
+
+-- the stream has these records, and they are types
+abbrev pub HasTypes : List ℕ → List (List ℕ) → Type 0
+HasTypes stream records = HasRecords stream records × AreTypes records
+
+-- this is the first fault of the stream on the way to types: a fault of it as a stream of records,
+-- else of a record, else a cycle of records
+abbrev pub HasFaultOfTypes : {A : Type 0} → List ℕ → PdbFault A → Type 0
+HasFaultOfTypes stream (fault.Tpi inner) = IsFirstFault stream inner
+HasFaultOfTypes stream (fault.Type inner) =
+    (records : List (List ℕ)) × HasRecords stream records × HasTypeFault records inner
+HasFaultOfTypes stream _ = ⊥
 
 -- this is the fault of stream 1: it is missing, or it is too short
 abbrev pub HasInfoFault : {A : Type 0} → List ℕ → LayoutView → PdbFault A → Type 0

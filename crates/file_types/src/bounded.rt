@@ -1,4 +1,4 @@
-//! The records of a file whose parts are limited.
+//! The stream of types of a file whose parts are limited.
 
 ghost use Rattle.std.specs.Prelude.{◌≡◌, ◌⊎◌, None, IfOk, IfErr};
 ghost use Rattle.byte_fields.specs.Bytes.{AreBytes};
@@ -6,15 +6,15 @@ ghost use Rattle.byte_fields.specs.Check.{first_failing};
 ghost use Rattle.byte_io.specs.At.{IfKnown, IfOf, Reads};
 ghost use Rattle.msf_blocks.specs.Layout.{LayoutView, HasTexts, layout_checks};
 ghost use Rattle.file_types.specs.Bounded.{HasShortParts, IsBoundedFault};
-ghost use Rattle.file_types.specs.Read.{UncheckedWereRead, HasPdbFaultRead, HasFaultOfTexts, IsLayoutFaultRead};
+ghost use Rattle.file_types.specs.Read.{StreamWasRead, HasPdbFaultRead, HasFaultOfTexts, IsLayoutFaultRead};
 
 use crate::buffer::Buffer;
 use crate::fault::PdbFault;
-use crate::read::unchecked_of;
+use crate::read::lent_stream_of;
 use byte_io::{AtFault, Lend, ReadAt};
 use msf_blocks::{Layout, WithinFault};
 use std::alloc::{Allocator, Global};
-use tpi_records::{Records, TPI_STREAM};
+use tpi_records::TPI_STREAM;
 
 /// Why the types of a file are not read, where its parts are limited.
 #[derive(Debug, PartialEq, Eq, Drop)]
@@ -54,26 +54,26 @@ fn layout_within<R: ReadAt, A: Allocator + Copy>(
     }
 }
 
-/// Reads the records of a file on the way to its types, as [`read_unchecked`] does, unless its
+/// Reads stream 2 of a file on the way to its types, as [`read_stream`] does, unless its
 /// directory or its stream 2 has more than `limit` bytes. Either may list a block many times, so it
 /// may be far longer than its file. `u32::MAX` is no limit.
 ///
 /// `TooLong` comes for the directory after the faults of the superblock and before all others, and
 /// for stream 2 where the container is sound, before any fault of its streams. Nothing is reserved
-/// for the part then. The other faults are those of [`read_unchecked`].
+/// for the part then. The other faults are those of [`read_stream`].
 ///
-/// [`read_unchecked`]: crate::read_unchecked
-pub fn read_unchecked_within<'a, 'b: 'a, R: Lend<'b>, A: Allocator + Copy>(
+/// [`read_stream`]: crate::read_stream
+pub fn read_stream_within<'a, 'b: 'a, R: Lend<'b>, A: Allocator + Copy>(
     alloc: A,
     input: &mut R,
     limit: u32,
     buffer: &'a mut Buffer<A>,
-) -> Result<Records<'a, A>, AtFault<BoundedFault<A>>>
+) -> Result<&'a [u8], AtFault<BoundedFault<A>>>
     ensures reads { Reads R.bytes R.is_broken input.old input.new result }
     ensures small { IfKnown (R.bytes input.old) AreBytes }
-    ensures texts { IfOk result (λ records.
+    ensures texts { IfOk result (λ stream.
         (layout : LayoutView) × HasTexts (R.bytes input.old) layout × HasShortParts limit layout
-        × UncheckedWereRead (R.bytes input.old) layout records) }
+        × StreamWasRead (R.bytes input.old) layout stream.now) }
     ensures refused { IfErr result (IfOf (IsBoundedFault limit (R.bytes input.old) (λ fault.
         HasFaultOfTexts HasPdbFaultRead (R.bytes input.old) fault
         ⊎ (fault ≡ PdbFault.Memory)))) }
@@ -83,8 +83,8 @@ pub fn read_unchecked_within<'a, 'b: 'a, R: Lend<'b>, A: Allocator + Copy>(
         IfKnown (R.bytes input.old) (λ file. first_failing (layout_checks file) ≡ None))) }
 {
     let layout = layout_within(alloc, input, limit)?;
-    match unchecked_of(alloc, input, &layout, buffer) {
-        Ok(records) => Ok(records),
+    match lent_stream_of(input, &layout, buffer) {
+        Ok(stream) => Ok(stream),
         Err(AtFault::Of(fault)) => Err(AtFault::Of(BoundedFault::Of(fault))),
         Err(AtFault::Read) => Err(AtFault::Read),
     }

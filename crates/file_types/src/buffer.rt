@@ -1,11 +1,12 @@
-//! The buffer for the bytes of types while they are read, and the records that are read into it.
+//! The buffer for the bytes of types while they are read, and the stream that is read into it.
 
 ghost use Rattle.std.specs.Prelude.{◌≡◌, ◌⊎◌, None, OnOk, IfOk, IfErr};
 ghost use Rattle.byte_fields.specs.Bytes.{AreBytes};
 ghost use Rattle.byte_fields.specs.Check.{first_failing};
 ghost use Rattle.byte_io.specs.At.{IfKnown, IfOf, Reads};
 ghost use Rattle.msf_blocks.specs.Layout.{HasLayout, HasTexts, layout_checks};
-ghost use Rattle.file_types.specs.Read.{RecordsWereRead, ListsLongInfo, HasInfoFaultRead, HasStreamFaultRead, IsLayoutFaultRead};
+ghost use Rattle.file_types.specs.Read.{ListsLongInfo, HasInfoFaultRead, HasStreamFaultRead, IsLayoutFaultRead};
+ghost use Rattle.msf_streams.specs.Streams.{WasRead};
 
 use crate::fault::PdbFault;
 use byte_io::{AtFault, Lend, ReadAt};
@@ -14,7 +15,7 @@ use msf_streams::{contents_at, gather_at};
 use pdb_info::{InfoFault, info_stream};
 use std::alloc::{Allocator, Global};
 use std::marker::Model;
-use tpi_records::{Records, TPI_STREAM};
+use tpi_records::TPI_STREAM;
 
 /// How many bytes the header of stream 1 has.
 const HEADER: u32 = 28;
@@ -51,52 +52,44 @@ impl<A: Allocator + Copy> Buffer<A> {
         self.bytes = Vec::new(self.alloc);
     }
 
-    /// Lends the records of stream 2 of a file with this layout. The buffer takes the bytes of the
-    /// stream where the file can't lend them.
-    pub(crate) fn lent_records_of<'a, 'b: 'a, R: Lend<'b>>(
+    /// Lends stream 2 of a file with this layout. The buffer takes its bytes where the file can't lend
+    /// them.
+    pub(crate) fn lent_stream_of<'a, 'b: 'a, R: Lend<'b>>(
         &'a mut self,
-        alloc: A,
         input: &mut R,
         layout: &Layout<A>,
-    ) -> Result<Records<'a, A>, AtFault<PdbFault<A>>>
+    ) -> Result<&'a [u8], AtFault<PdbFault<A>>>
         requires { IfKnown (R.bytes input.old) (λ file. HasLayout file layout.now) }
         ensures reads { Reads R.bytes R.is_broken input.old input.new result }
-        ensures texts { IfOk result (RecordsWereRead (R.bytes input.old) layout.now) }
+        ensures texts { IfOk result (λ stream.
+            WasRead (R.bytes input.old) layout.now 2 stream.now) }
         ensures refused { IfErr result (IfOf (λ fault.
             HasStreamFaultRead (R.bytes input.old) layout.now fault ⊎ (fault ≡ PdbFault.Memory))) }
     {
-        let stream = match contents_at(input, layout, TPI_STREAM, &mut self.bytes) {
-            Ok(stream) => stream,
-            Err(AtFault::Of(fault)) => return Err(AtFault::Of(PdbFault::from(fault))),
-            Err(AtFault::Read) => return Err(AtFault::Read),
-        };
-        match Records::read(alloc, stream) {
-            Ok(records) => Ok(records),
-            Err(fault) => Err(AtFault::Of(PdbFault::from(fault))),
+        match contents_at(input, layout, TPI_STREAM, &mut self.bytes) {
+            Ok(stream) => Ok(stream),
+            Err(AtFault::Of(fault)) => Err(AtFault::Of(PdbFault::from(fault))),
+            Err(AtFault::Read) => Err(AtFault::Read),
         }
     }
 
-    /// Reads stream 2 of a file with this layout into the buffer, and lends its records.
-    pub(crate) fn records_of<'a, R: ReadAt>(
+    /// Reads stream 2 of a file with this layout into the buffer, and lends it.
+    pub(crate) fn stream_of<'a, R: ReadAt>(
         &'a mut self,
-        alloc: A,
         input: &mut R,
         layout: &Layout<A>,
-    ) -> Result<Records<'a, A>, AtFault<PdbFault<A>>>
+    ) -> Result<&'a [u8], AtFault<PdbFault<A>>>
         requires { IfKnown (R.bytes input.old) (λ file. HasLayout file layout.now) }
         ensures reads { Reads R.bytes R.is_broken input.old input.new result }
-        ensures texts { IfOk result (RecordsWereRead (R.bytes input.old) layout.now) }
+        ensures texts { IfOk result (λ stream.
+            WasRead (R.bytes input.old) layout.now 2 stream.now) }
         ensures refused { IfErr result (IfOf (λ fault.
             HasStreamFaultRead (R.bytes input.old) layout.now fault ⊎ (fault ≡ PdbFault.Memory))) }
     {
-        let stream = match gather_at(input, layout, TPI_STREAM, &mut self.bytes) {
-            Ok(stream) => stream,
-            Err(AtFault::Of(fault)) => return Err(AtFault::Of(PdbFault::from(fault))),
-            Err(AtFault::Read) => return Err(AtFault::Read),
-        };
-        match Records::read(alloc, stream) {
-            Ok(records) => Ok(records),
-            Err(fault) => Err(AtFault::Of(PdbFault::from(fault))),
+        match gather_at(input, layout, TPI_STREAM, &mut self.bytes) {
+            Ok(stream) => Ok(stream),
+            Err(AtFault::Of(fault)) => Err(AtFault::Of(PdbFault::from(fault))),
+            Err(AtFault::Read) => Err(AtFault::Read),
         }
     }
 }

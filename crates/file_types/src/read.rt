@@ -3,10 +3,9 @@
 ghost use Rattle.std.specs.Prelude.{◌≡◌, ◌⊎◌, ℕ, List, None, IfOk, IfErr};
 ghost use Rattle.byte_fields.specs.Bytes.{AreBytes};
 ghost use Rattle.byte_fields.specs.Check.{first_failing};
-ghost use Rattle.byte_io.specs.At.{Bytes, IfKnown, IfOf, Reads};
+ghost use Rattle.byte_io.specs.At.{IfKnown, IfOf, Reads};
 ghost use Rattle.msf_blocks.specs.Layout.{LayoutView, HasLayout, HasTexts, layout_checks};
-ghost use Rattle.closed_trees.specs.Types.{AreTypes};
-ghost use Rattle.file_types.specs.Read.{IsAccepted, HasPdbFault, HasTypeRecords, HasRecordsFault, RecordsWereRead, UncheckedWereRead, TypesWereRead, HasStreamFaultRead, HasTypeFaultRead, HasPdbFaultRead, HasFaultOfTexts};
+ghost use Rattle.file_types.specs.Read.{IsAccepted, HasPdbFault, HasTypeRecords, HasRecordsFault, HasTypes, HasFaultOfTypes, RecordsWereRead, StreamWasRead, TypesWereRead, HasStreamFaultRead, HasPdbFaultRead, HasFaultOfTexts};
 
 use crate::buffer::{Buffer, check_info, layout_at};
 use crate::fault::PdbFault;
@@ -16,23 +15,20 @@ use msf_blocks::Layout;
 use std::alloc::Allocator;
 use tpi_records::Records;
 
-/// Checks the records of a file on the way to its types.
+/// Reads the types of a stream 2: its type records, which are checked.
 ///
-/// The faults are those of the records, in order, for each record its leaf and then its references;
-/// and last a cycle of references. `Memory` is out of memory.
-pub fn check_types<'a, A: Allocator + Copy>(
+/// The faults come in this order: those of the stream; those of the records, in order, for each
+/// record its leaf and then its references; and last a cycle of references. `Memory` is out of
+/// memory.
+pub fn check_types<A: Allocator + Copy>(
     alloc: A,
-    records: Records<'a, A>,
-) -> Result<Types<'a, A>, PdbFault<A>>
-    ensures types { IfOk result (λ types. (types ≡ records.entry) × AreTypes types) }
-    // These are the types that reads gave, if they gave the records.
-    ensures texts { (bytes : Bytes) (layout : LayoutView) →
-        UncheckedWereRead bytes layout records.entry → IfOk result (TypesWereRead bytes layout) }
-    // The fault is one of what reads gave.
-    ensures refused { (bytes : Bytes) (layout : LayoutView) →
-        RecordsWereRead bytes layout records.entry →
-        IfErr result (λ fault. HasTypeFaultRead bytes layout fault ⊎ (fault ≡ PdbFault.Memory)) }
+    stream: &[u8],
+) -> Result<Types<'_, A>, PdbFault<A>>
+    ensures types { IfOk result (HasTypes stream.now) }
+    ensures refused { IfErr result (λ fault.
+        HasFaultOfTypes stream.now fault ⊎ (fault ≡ PdbFault.Memory)) }
 {
+    let records = Records::read(alloc, stream)?;
     Ok(Types::check(alloc, records)?)
 }
 
@@ -61,42 +57,63 @@ pub fn read_records_of<'a, R: ReadAt, A: Allocator + Copy>(
     ensures refused { IfErr result (IfOf (λ fault.
         HasStreamFaultRead (R.bytes input.old) layout.now fault ⊎ (fault ≡ PdbFault.Memory))) }
 {
-    buffer.records_of(alloc, input, layout)
+    let stream = buffer.stream_of(input, layout)?;
+    match Records::read(alloc, stream) {
+        Ok(records) => Ok(records),
+        Err(fault) => Err(AtFault::Of(PdbFault::from(fault))),
+    }
 }
 
-/// The records of a file with this layout, on the way to its types. They are not checked yet.
-pub(crate) fn unchecked_of<'a, 'b: 'a, R: Lend<'b>, A: Allocator + Copy>(
-    alloc: A,
+/// Lends stream 2 of a file with this layout, on the way to its types.
+pub(crate) fn lent_stream_of<'a, 'b: 'a, R: Lend<'b>, A: Allocator + Copy>(
     input: &mut R,
     layout: &Layout<A>,
     buffer: &'a mut Buffer<A>,
-) -> Result<Records<'a, A>, AtFault<PdbFault<A>>>
+) -> Result<&'a [u8], AtFault<PdbFault<A>>>
     requires { IfKnown (R.bytes input.old) (λ file. HasLayout file layout.now) }
     ensures reads { Reads R.bytes R.is_broken input.old input.new result }
-    ensures texts { IfOk result (UncheckedWereRead (R.bytes input.old) layout.now) }
+    ensures texts { IfOk result (λ stream.
+        StreamWasRead (R.bytes input.old) layout.now stream.now) }
     ensures refused { IfErr result (IfOf (λ fault.
         HasPdbFaultRead (R.bytes input.old) layout.now fault ⊎ (fault ≡ PdbFault.Memory))) }
 {
     check_info(layout)?;
-    buffer.lent_records_of(alloc, input, layout)
+    buffer.lent_stream_of(input, layout)
 }
 
-/// Reads the records of a file on the way to its types. [`check_types`] makes types of them: they
-/// are not checked yet, but a file without the header of stream 1 is refused.
+/// The same of a file whose stream 2 is read into the buffer.
+fn stream_of<'a, R: ReadAt, A: Allocator + Copy>(
+    input: &mut R,
+    layout: &Layout<A>,
+    buffer: &'a mut Buffer<A>,
+) -> Result<&'a [u8], AtFault<PdbFault<A>>>
+    requires { IfKnown (R.bytes input.old) (λ file. HasLayout file layout.now) }
+    ensures reads { Reads R.bytes R.is_broken input.old input.new result }
+    ensures texts { IfOk result (λ stream.
+        StreamWasRead (R.bytes input.old) layout.now stream.now) }
+    ensures refused { IfErr result (IfOf (λ fault.
+        HasPdbFaultRead (R.bytes input.old) layout.now fault ⊎ (fault ≡ PdbFault.Memory))) }
+{
+    check_info(layout)?;
+    buffer.stream_of(input, layout)
+}
+
+/// Reads stream 2 of a file on the way to its types. [`check_types`] makes types of it: its bytes are
+/// not checked yet, but a file without the header of stream 1 is refused.
 ///
-/// The faults are those of [`read_types`] that come before those of the records, in the same order,
-/// and `AtFault::Read` where a read failed. `Memory` comes only where the container has no fault.
-/// The old bytes of the buffer have no effect. After a fault the buffer may be used again.
-pub fn read_unchecked<'a, 'b: 'a, R: Lend<'b>, A: Allocator + Copy>(
+/// The faults are those of [`read_types`] that come before those of the bytes of stream 2, in the
+/// same order, and `AtFault::Read` where a read failed. `Memory` comes only where the container has
+/// no fault. The old bytes of the buffer have no effect. After a fault the buffer may be used again.
+pub fn read_stream<'a, 'b: 'a, R: Lend<'b>, A: Allocator + Copy>(
     alloc: A,
     input: &mut R,
     buffer: &'a mut Buffer<A>,
-) -> Result<Records<'a, A>, AtFault<PdbFault<A>>>
+) -> Result<&'a [u8], AtFault<PdbFault<A>>>
     ensures reads { Reads R.bytes R.is_broken input.old input.new result }
     ensures small { IfKnown (R.bytes input.old) AreBytes }
-    ensures texts { IfOk result (λ records.
+    ensures texts { IfOk result (λ stream.
         (layout : LayoutView) × HasTexts (R.bytes input.old) layout
-        × UncheckedWereRead (R.bytes input.old) layout records) }
+        × StreamWasRead (R.bytes input.old) layout stream.now) }
     ensures refused { IfErr result (IfOf (λ fault.
         HasFaultOfTexts HasPdbFaultRead (R.bytes input.old) fault ⊎ (fault ≡ PdbFault.Memory))) }
     // Out of memory comes only where the container has no fault.
@@ -105,24 +122,7 @@ pub fn read_unchecked<'a, 'b: 'a, R: Lend<'b>, A: Allocator + Copy>(
         IfKnown (R.bytes input.old) (λ file. first_failing (layout_checks file) ≡ None))) }
 {
     let layout = layout_at(alloc, input)?;
-    unchecked_of(alloc, input, &layout, buffer)
-}
-
-/// The same of a file whose stream 2 is read into the buffer.
-fn gathered_of<'a, R: ReadAt, A: Allocator + Copy>(
-    alloc: A,
-    input: &mut R,
-    layout: &Layout<A>,
-    buffer: &'a mut Buffer<A>,
-) -> Result<Records<'a, A>, AtFault<PdbFault<A>>>
-    requires { IfKnown (R.bytes input.old) (λ file. HasLayout file layout.now) }
-    ensures reads { Reads R.bytes R.is_broken input.old input.new result }
-    ensures texts { IfOk result (UncheckedWereRead (R.bytes input.old) layout.now) }
-    ensures refused { IfErr result (IfOf (λ fault.
-        HasPdbFaultRead (R.bytes input.old) layout.now fault ⊎ (fault ≡ PdbFault.Memory))) }
-{
-    check_info(layout)?;
-    buffer.records_of(alloc, input, layout)
+    lent_stream_of(input, &layout, buffer)
 }
 
 /// Reads the types of a file with this layout: its type records, which are checked. Of the file only
@@ -150,8 +150,8 @@ pub fn read_types_of<'a, R: ReadAt, A: Allocator + Copy>(
     ensures refused { IfErr result (IfOf (λ fault.
         HasPdbFaultRead (R.bytes input.old) layout.now fault ⊎ (fault ≡ PdbFault.Memory))) }
 {
-    let records = gathered_of(alloc, input, layout, buffer)?;
-    match check_types(alloc, records) {
+    let stream = stream_of(input, layout, buffer)?;
+    match check_types(alloc, stream) {
         Ok(types) => Ok(types),
         Err(fault) => Err(AtFault::Of(fault)),
     }
@@ -174,8 +174,8 @@ fn types_at<'a, 'b: 'a, R: Lend<'b>, A: Allocator + Copy>(
         fault ≡ PdbFault.Memory →
         IfKnown (R.bytes input.old) (λ file. first_failing (layout_checks file) ≡ None))) }
 {
-    let records = read_unchecked(alloc, input, buffer)?;
-    match check_types(alloc, records) {
+    let stream = read_stream(alloc, input, buffer)?;
+    match check_types(alloc, stream) {
         Ok(types) => Ok(types),
         Err(fault) => Err(AtFault::Of(fault)),
     }

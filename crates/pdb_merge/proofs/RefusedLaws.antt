@@ -11,9 +11,10 @@ use Rattle.closed_trees.specs.Canon.{weight}
 use Rattle.closed_trees.specs.Table.{IsUnion}
 use Rattle.type_table.specs.declared.fault.JoinFault.{JoinFault}
 use Rattle.type_table.specs.declared.fault.JoinFault.TheVariants as join
-use Rattle.file_types.specs.Read.{ListsTypes, TypesWereRead, UncheckedWereRead, HasPdbFaultRead, HasFaultOfTexts}
-use Rattle.pdb_merge.specs.Union.{AddsFile, AddsRead, AddsTexts, IsAddFault, IsAddFaultRead, IsAddFaultOfTexts}
-use Rattle.file_types.proofs.KnownLaws.{accepted_known, lists_read, texts_fault_known}
+use Rattle.file_types.specs.Read.{HasFaultOfTexts, HasFaultOfTypes, HasPdbFaultRead, HasTypes, ListsStream, StreamWasRead}
+use Rattle.pdb_merge.specs.Union.{AddsFile, AddsRead, AddsStream, AddsTexts, IsAddFault, IsAddFaultOfStream, IsAddFaultOfTexts, IsAddFaultRead}
+use Rattle.file_types.proofs.KnownLaws.{accepted_known, fault_lists, texts_fault_known, types_lists}
+use Rattle.file_types.proofs.RefusedLaws.{types_fault_read, types_read}
 use Rattle.pdb_merge.specs.Fault.{add_from_pdb, add_from_join}
 use Rattle.file_types.specs.declared.fault.PdbFault.{PdbFault}
 use Rattle.file_types.specs.declared.fault.PdbFault.TheVariants as fault
@@ -21,20 +22,33 @@ use Rattle.pdb_merge.specs.declared.fault.AddFault.{AddFault}
 use Rattle.pdb_merge.specs.declared.fault.AddFault.TheVariants as add
 use Rattle.pdb_merge.proofs.UnionLaws.{union_weighs}
 
--- a fault of what was read for a layout hinders it
-pub fault_hinders : {A : Type 0} (before : List (List ℕ)) (limit : ℕ) (bytes : Bytes) (layout : LayoutView) (inner : PdbFault A) (outer : AddFault A) → outer ≡ add_from_pdb inner
-    → HasPdbFaultRead bytes layout inner ⊎ (inner ≡ fault.Memory) → IsAddFaultRead before limit bytes layout outer
-fault_hinders before limit bytes layout fault.Memory outer made refused = rw made tt
-fault_hinders before limit bytes layout inner outer made (inl refused) = rw made refused
-fault_hinders before limit bytes layout inner outer made (inr want) = absurd cc
+-- a fault of a stream hinders it
+pub fault_hinders : {A : Type 0} (before : List (List ℕ)) (limit : ℕ) (stream : List ℕ) (inner : PdbFault A) (outer : AddFault A) → outer ≡ add_from_pdb inner
+    → HasFaultOfTypes stream inner ⊎ (inner ≡ fault.Memory) → IsAddFaultOfStream before limit stream outer
+fault_hinders before limit stream fault.Memory outer made refused = rw made tt
+fault_hinders before limit stream inner outer made (inl refused) = rw made refused
+fault_hinders before limit stream inner outer made (inr want) = absurd cc
 
 -- so does a fault of the union
-pub union_hinders : {A : Type 0} (before types : List (List ℕ)) (limit : ℕ) (bytes : Bytes) (layout : LayoutView) (inner : JoinFault) (outer : AddFault A) → TypesWereRead bytes layout types → outer ≡ add_from_join inner
-    → ((heavy : ℕ) → inner ≡ join.TooLarge heavy → (limit < heavy) × ((l : List Tree) × IsUnion l before types × (weight l ≡ heavy))) → IsAddFaultRead before limit bytes layout outer
-union_hinders before types limit bytes layout (join.TooLarge heavy) outer read made large =
+pub union_hinders : {A : Type 0} (before types : List (List ℕ)) (limit : ℕ) (stream : List ℕ) (inner : JoinFault) (outer : AddFault A) → HasTypes stream types → outer ≡ add_from_join inner
+    → ((heavy : ℕ) → inner ≡ join.TooLarge heavy → (limit < heavy) × ((l : List Tree) × IsUnion l before types × (weight l ≡ heavy))) → IsAddFaultOfStream before limit stream outer
+union_hinders before types limit stream (join.TooLarge heavy) outer has made large =
     let u = large heavy refl in
-    rw made (types, read, union_weighs before types u.1.0 heavy u.1.1 u.1.2, u.0)
-union_hinders before types limit bytes layout join.Memory outer read made large = rw made tt
+    rw made (types, has, union_weighs before types u.1.0 heavy u.1.1 u.1.2, u.0)
+union_hinders before types limit stream join.Memory outer has made large = rw made tt
+
+-- ---- a stream that was read
+
+-- what it adds is what reads gave of its layout
+pub read_adds : (before after : List (List ℕ)) (bytes : Bytes) (layout : LayoutView) (stream : List ℕ) → StreamWasRead bytes layout stream → AddsStream before after stream → AddsRead before after bytes layout
+read_adds before after bytes layout stream read adds = record { records = adds.records; were_read = types_read bytes layout stream adds.records read adds.has; types = adds.types }
+
+-- and what hinders it hinders what reads gave
+pub read_hinders : {A : Type 0} (before : List (List ℕ)) (limit : ℕ) (bytes : Bytes) (layout : LayoutView) (stream : List ℕ) (fault : AddFault A) → StreamWasRead bytes layout stream
+    → IsAddFaultOfStream before limit stream fault → IsAddFaultRead before limit bytes layout fault
+read_hinders before limit bytes layout stream (add.Refused inner) read refused = types_fault_read bytes layout stream inner read refused
+read_hinders before limit bytes layout stream (add.TooLarge heavy) read (records, has, weighs, more) = (records, types_read bytes layout stream records read has, weighs, more)
+read_hinders before limit bytes layout stream add.Memory read hinders = tt
 
 -- and a fault of the texts
 pub texts_hinder : {A : Type 0} (before : List (List ℕ)) (limit : ℕ) (bytes : Bytes) (inner : PdbFault A) (outer : AddFault A) → outer ≡ add_from_pdb inner
@@ -70,16 +84,12 @@ first_known before limit bytes (Ok done) small hinders = tt
 first_known before limit bytes (Err at.Read) small hinders = tt
 first_known before limit bytes (Err (at.Of fault)) small hinders = λ file known. hinders_known before limit file fault (small file known) (rw known at hinders)
 
--- the types of a file that lists records are added, where what reads gave of them is
-pub lists_adds : (before after : List (List ℕ)) (file : List ℕ) (records : List (List ℕ)) → ListsTypes file records
-    → ((bytes : Bytes) (layout : LayoutView) → UncheckedWereRead bytes layout records → AddsRead before after bytes layout) → AddsFile before after file
-lists_adds before after file records lists each =
-    let read = lists_read file records lists in
-    adds_known before after file lists.bytes (read.0, read.1, each (stable file) read.0 read.2)
+-- what the stream of a file adds is what the file adds
+pub lists_adds : (before after : List (List ℕ)) (file stream : List ℕ) → ListsStream file stream → AddsStream before after stream → AddsFile before after file
+lists_adds before after file stream lists adds = record { records = adds.records; accepted = types_lists file stream adds.records lists adds.has; types = adds.types }
 
--- and what hinders that hinders the file
-pub lists_hinders : {A : Type 0} (before : List (List ℕ)) (limit : ℕ) (file : List ℕ) (records : List (List ℕ)) (fault : AddFault A) → ListsTypes file records
-    → ((bytes : Bytes) (layout : LayoutView) → UncheckedWereRead bytes layout records → IsAddFaultRead before limit bytes layout fault) → IsAddFault before limit file fault
-lists_hinders before limit file records fault lists each =
-    let read = lists_read file records lists in
-    hinders_known before limit file fault lists.bytes (inr (read.0, read.1, each (stable file) read.0 read.2))
+-- and what hinders it hinders the file
+pub lists_hinders : {A : Type 0} (before : List (List ℕ)) (limit : ℕ) (file stream : List ℕ) (fault : AddFault A) → ListsStream file stream → IsAddFaultOfStream before limit stream fault → IsAddFault before limit file fault
+lists_hinders before limit file stream (add.Refused inner) lists refused = fault_lists file stream inner lists refused
+lists_hinders before limit file stream (add.TooLarge heavy) lists (records, has, weighs, more) = (records, types_lists file stream records lists has, weighs, more)
+lists_hinders before limit file stream add.Memory lists hinders = tt

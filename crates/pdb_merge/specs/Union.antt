@@ -7,7 +7,7 @@ use Rattle.byte_io.specs.declared.inputs.InputFault.{InputFault}
 use Rattle.closed_trees.specs.Tree.{Tree, IsType}
 use Rattle.closed_trees.specs.Canon.{weight}
 use Rattle.msf_blocks.specs.Layout.{LayoutView, HasTexts}
-use Rattle.file_types.specs.Read.{IsAccepted, TypesWereRead, HasPdbFault, HasPdbFaultRead, IsLayoutFaultRead}
+use Rattle.file_types.specs.Read.{IsAccepted, HasTypes, HasFaultOfTypes, TypesWereRead, HasPdbFault, HasPdbFaultRead, IsLayoutFaultRead}
 use Rattle.pdb_merge.specs.declared.fault.AddFault.{AddFault}
 use Rattle.pdb_merge.specs.declared.fault.AddFault.TheVariants as add
 use Rattle.pdb_merge.specs.declared.fault.MergeFault.{MergeFault}
@@ -63,6 +63,12 @@ pub record AddsFile (before after : List (List ℕ)) (file : List ℕ) : Type 0 
   pub accepted : IsAccepted file records
   pub types : (t : Tree) → IsType after t ↔ (IsType before t ⊎ IsType records t)
 
+-- `after` has the types of `before` and of the stream, which has types
+pub record AddsStream (before after : List (List ℕ)) (stream : List ℕ) : Type 0 where
+  pub records : List (List ℕ)
+  pub has : HasTypes stream records
+  pub types : (t : Tree) → IsType after t ↔ (IsType before t ⊎ IsType records t)
+
 -- `after` has the types of `before`, and those that reads gave of this layout
 pub record AddsRead (before after : List (List ℕ)) (bytes : Bytes) (layout : LayoutView) : Type 0
   where
@@ -83,6 +89,15 @@ IsAddFault before limit file (add.TooLarge bytes) =
     (records : List (List ℕ)) × IsAccepted file records
     × Weighs (λ t. IsType before t ⊎ IsType records t) bytes × (limit < bytes)
 IsAddFault before limit file add.Memory = Unit {0}
+
+-- this is why the stream is not added to the types of `before`: it has this fault, or the union has
+-- `bytes` bytes, more than the limit, or memory ran out
+abbrev pub IsAddFaultOfStream : {A : Type 0} → List (List ℕ) → ℕ → List ℕ → AddFault A → Type 0
+IsAddFaultOfStream before limit stream (add.Refused fault) = HasFaultOfTypes stream fault
+IsAddFaultOfStream before limit stream (add.TooLarge bytes) =
+    (records : List (List ℕ)) × HasTypes stream records
+    × Weighs (λ t. IsType before t ⊎ IsType records t) bytes × (limit < bytes)
+IsAddFaultOfStream before limit stream add.Memory = Unit {0}
 
 -- this is why what reads gave of this layout is not added to the types of `before`: it has this
 -- fault, or the union has `heavy` bytes, more than the limit, or memory ran out

@@ -1,19 +1,18 @@
-//! One of several inputs: its records and its types.
+//! One of several inputs: its stream 2 and its types.
 
 ghost use Rattle.std.specs.Prelude.{◌≡◌, ◌⊎◌, ◌<◌, ◌+◌, ◌^◌, [], ℕ, List, length, get_or, OnOk, IfOk, IfErr, IfSome};
 ghost use Rattle.byte_io.specs.At.{IfOf, Reads, stable};
 ghost use Rattle.byte_io.specs.Inputs.{CanRead, Give};
 ghost use Rattle.pdb_merge.specs.Answer.{RefusesFiles, RefusesReading};
 ghost use Rattle.pdb_merge.specs.Fault.{merge_from_add, merge_from_input, NamesFault};
-ghost use Rattle.file_types.specs.Read.{ListsTypes, IsAccepted, HasPdbFault};
+ghost use Rattle.file_types.specs.Read.{ListsStream, IsAccepted, HasPdbFault};
 ghost use Rattle.pdb_merge.specs.Union.{AcceptedBelow, IsReadingFaultAt, ReadsFirst};
 
 use crate::fault::{AddFault, MergeFault};
 use byte_io::{AtFault, InputFault, Inputs, Lend, ReadFault};
 use checked_types::Types;
-use file_types::{BoundedFault, Buffer, PdbFault, check_types, read_unchecked_within};
+use file_types::{BoundedFault, Buffer, PdbFault, check_types, read_stream_within};
 use std::alloc::{Allocator, Global};
-use tpi_records::Records;
 
 /// The bytes of one input, and those of its TPI stream where they can't be lent.
 #[derive(Debug, Drop)]
@@ -110,21 +109,21 @@ fn refuse<I: Inputs, A: Allocator>(inputs: &I, input: usize, fault: PdbFault<A>)
     }
 }
 
-/// Reads the records of an input by a reader of its bytes, whose parts are held against the limit of
-/// the inputs. `AtFault::Read` is a read that failed.
+/// Reads stream 2 of an input by a reader of its bytes, whose parts are held against the limit of the
+/// inputs. `AtFault::Read` is a read that failed.
 fn read_with<'a, 'b: 'a, I: Inputs, R: Lend<'b>, A: Allocator + Copy>(
     alloc: A,
     inputs: &I,
     input: usize,
     reader: &mut R,
     buffer: &'a mut Buffer<A>,
-) -> Result<Records<'a, A>, AtFault<MergeFault<A>>>
+) -> Result<&'a [u8], AtFault<MergeFault<A>>>
     requires few { input + 1 < 2 ^ 64 }
     requires inside { IfSome (I.known inputs.now) (λ each. input < length each) }
     requires read { IfSome (I.known inputs.now) (λ each. CanRead each (input + 1)) }
     ensures reads { Reads R.bytes R.is_broken reader.old reader.new result }
     ensures value { (file : List ℕ) → R.bytes reader.old ≡ stable file →
-        IfOk result (ListsTypes file) }
+        IfOk result (λ stream. ListsStream file stream.now) }
     ensures own { (files : List (List ℕ)) → Give (I.known inputs.now) files →
         R.bytes reader.old ≡ stable (get_or files input []) →
         IfErr result (IfOf (IsReadingFaultAt files input)) }
@@ -132,8 +131,8 @@ fn read_with<'a, 'b: 'a, I: Inputs, R: Lend<'b>, A: Allocator + Copy>(
         IfSome (I.known inputs.now) (λ each. ReadsFirst each fault))) }
     ensures named { IfErr result (IfOf NamesFault) }
 {
-    match read_unchecked_within(alloc, reader, inputs.limit(), buffer) {
-        Ok(records) => Ok(records),
+    match read_stream_within(alloc, reader, inputs.limit(), buffer) {
+        Ok(stream) => Ok(stream),
         Err(AtFault::Of(BoundedFault::TooLong)) => {
             let fault = InputFault::Read(ReadFault::TooLong);
             Err(AtFault::Of(input_fault(input, fault)))
@@ -145,18 +144,18 @@ fn read_with<'a, 'b: 'a, I: Inputs, R: Lend<'b>, A: Allocator + Copy>(
     }
 }
 
-/// Reads the input at a position to its end, and lends its records.
+/// Reads the input at a position to its end, and lends its stream 2.
 fn read_whole<'a, I: Inputs, A: Allocator + Copy>(
     alloc: A,
     inputs: &'a I,
     input: usize,
     held: &'a mut ReadBytes<A>,
-) -> Result<Records<'a, A>, MergeFault<A>>
+) -> Result<&'a [u8], MergeFault<A>>
     requires few { input + 1 < 2 ^ 64 }
     requires inside { IfSome (I.known inputs.now) (λ each. input < length each) }
     requires before { IfSome (I.known inputs.now) (λ each. CanRead each input) }
     ensures value { (files : List (List ℕ)) → Give (I.known inputs.now) files →
-        IfOk result (ListsTypes (get_or files input [])) }
+        IfOk result (λ stream. ListsStream (get_or files input []) stream.now) }
     ensures read { OnOk result (IfSome (I.known inputs.now) (λ each. CanRead each (input + 1))) }
     ensures own { (files : List (List ℕ)) → Give (I.known inputs.now) files →
         IfErr result (IsReadingFaultAt files input) }
@@ -169,28 +168,28 @@ fn read_whole<'a, I: Inputs, A: Allocator + Copy>(
         Err(fault) => return Err(input_fault(input, fault)),
     };
     match read_with(alloc, inputs, input, &mut file, &mut held.buffer) {
-        Ok(records) => Ok(records),
+        Ok(stream) => Ok(stream),
         Err(AtFault::Of(fault)) => Err(fault),
         Err(AtFault::Read) => unreachable!(),
     }
 }
 
-/// Reads the records of the input at a position, from 0, on the way to its types. The inputs before
-/// it were read. The records are lent from the buffer or from the input, and are not checked yet.
+/// Reads stream 2 of the input at a position, from 0, on the way to its types. The inputs before it
+/// were read. The stream is lent from the buffer or from the input, and is not checked yet.
 ///
-/// The faults are those of [`read_input_types`] but those of the records. Merges and comparisons
-/// read each input by this function.
+/// The faults are those of [`read_input_types`] but those of the bytes of stream 2. Merges and
+/// comparisons read each input by this function.
 pub(crate) fn read_input<'a, I: Inputs, A: Allocator + Copy>(
     alloc: A,
     inputs: &'a I,
     input: usize,
     buffer: &'a mut InputBuffer<A>,
-) -> Result<Records<'a, A>, MergeFault<A>>
+) -> Result<&'a [u8], MergeFault<A>>
     requires few { input + 1 < 2 ^ 64 }
     requires inside { IfSome (I.known inputs.now) (λ each. input < length each) }
     requires before { IfSome (I.known inputs.now) (λ each. CanRead each input) }
     ensures value { (files : List (List ℕ)) → Give (I.known inputs.now) files →
-        IfOk result (ListsTypes (get_or files input [])) }
+        IfOk result (λ stream. ListsStream (get_or files input []) stream.now) }
     ensures read { OnOk result (IfSome (I.known inputs.now) (λ each. CanRead each (input + 1))) }
     ensures own { (files : List (List ℕ)) → Give (I.known inputs.now) files →
         IfErr result (IsReadingFaultAt files input) }
@@ -205,7 +204,7 @@ pub(crate) fn read_input<'a, I: Inputs, A: Allocator + Copy>(
         Err(fault) => return Err(input_fault(input, fault)),
     };
     match read_with(alloc, inputs, input, &mut opened, &mut held.buffer) {
-        Ok(records) => Ok(records),
+        Ok(stream) => Ok(stream),
         Err(AtFault::Of(fault)) => Err(fault),
         Err(AtFault::Read) => read_whole(alloc, inputs, input, whole),
     }
@@ -240,8 +239,8 @@ pub fn read_input_types<'a, I: Inputs, A: Allocator + Copy>(
     ensures own { (files : List (List ℕ)) → Give (I.known inputs.now) files →
         IfErr result (IsReadingFaultAt files input) }
 {
-    let records = read_input(alloc, inputs, input, buffer)?;
-    match check_types(alloc, records) {
+    let stream = read_input(alloc, inputs, input, buffer)?;
+    match check_types(alloc, stream) {
         Ok(types) => Ok(types),
         Err(fault) => Err(refuse(inputs, input, fault)),
     }

@@ -3,22 +3,20 @@
 ghost use Rattle.std.specs.Prelude.{◌≡◌, ◌++◌, [], ◌∷◌, ℕ, List, None, length, IfOk, IfErr};
 ghost use Rattle.byte_fields.specs.Bytes.{AreBytes};
 ghost use Rattle.byte_fields.specs.Check.{first_failing};
-ghost use Rattle.byte_io.specs.At.{Bytes, IfKnown, IfOf, Reads};
-ghost use Rattle.msf_blocks.specs.Layout.{LayoutView, layout_checks};
+ghost use Rattle.byte_io.specs.At.{IfKnown, IfOf, Reads};
+ghost use Rattle.msf_blocks.specs.Layout.{layout_checks};
 ghost use Rattle.closed_trees.specs.Tree.{IsType};
 ghost use Rattle.canonical_list.specs.Finish.{IsCanonOf};
 ghost use Rattle.pdb_merge.specs.Fault.{merge_from_add, AddNamesFault};
-ghost use Rattle.pdb_merge.specs.Union.{HasType, Within, AddsFile, AddsRead, AddsTexts, IsAddFault, IsAddFaultRead, IsAddFaultOfTexts, CanMerge, IsMergeFault};
+ghost use Rattle.pdb_merge.specs.Union.{HasType, Within, AddsFile, AddsStream, AddsTexts, IsAddFault, IsAddFaultOfStream, IsAddFaultOfTexts, CanMerge, IsMergeFault};
 ghost use Rattle.pdb_merge.specs.Merging.{HasTaken};
-ghost use Rattle.file_types.specs.Read.{UncheckedWereRead};
 
 use crate::fault::AddFault;
 use byte_io::{AtFault, Lend};
-use file_types::{Buffer, check_types, read_unchecked};
+use file_types::{Buffer, check_types, read_stream};
 use std::alloc::{Allocator, Global};
 use std::hash::BuildHasher;
 use std::marker::Model;
-use tpi_records::Records;
 use type_table::{Canon, JoinFault, Table};
 
 /// The types of the files so far, and the limit: how many bytes they may have together.
@@ -53,28 +51,21 @@ impl<S: BuildHasher, A: Allocator + Copy> Merge<S, A> {
         }
     }
 
-    /// Adds the types of a file whose records these are, to the table. If the records can't be added
-    /// as they stand, they are first checked for a fault and put in order.
-    pub(crate) fn add_records(
-        &mut self,
-        alloc: A,
-        records: Records<'_, A>,
-    ) -> Result<(), AddFault<A>>
-        ensures texts { (bytes : Bytes) (layout : LayoutView) →
-            UncheckedWereRead bytes layout records.entry →
-            IfOk result (λ _. AddsRead self.old.types self.new.types bytes layout) }
+    /// Adds the types of a stream 2 to the table. If its records can't be added as they stand, they are
+    /// first checked for a fault and put in order.
+    pub(crate) fn add_stream(&mut self, alloc: A, stream: &[u8]) -> Result<(), AddFault<A>>
+        ensures value { IfOk result (λ _. AddsStream self.old.types self.new.types stream.now) }
         ensures within { IfOk result (λ _. Within (IsType self.new.types) self.new.limit) }
         ensures limit { self.new.limit ≡ self.old.limit }
         ensures kept { IfErr result (λ _. self.new ≡ self.old) }
-        ensures refused { (bytes : Bytes) (layout : LayoutView) →
-            UncheckedWereRead bytes layout records.entry →
-            IfErr result (IsAddFaultRead self.old.types self.old.limit bytes layout) }
+        ensures refused { IfErr result
+            (IsAddFaultOfStream self.old.types self.old.limit stream.now) }
         ensures named { IfErr result AddNamesFault }
     {
-        if self.table.add_records(alloc, &records, self.limit) {
+        if self.table.add_stream(alloc, stream, self.limit) {
             return Ok(());
         }
-        let types = check_types(alloc, records)?;
+        let types = check_types(alloc, stream)?;
         self.table.add(alloc, &types, self.limit)?;
         Ok(())
     }
@@ -100,12 +91,12 @@ impl<S: BuildHasher, A: Allocator + Copy> Merge<S, A> {
             fault ≡ AddFault.Memory →
             IfKnown (R.bytes input.old) (λ file. first_failing (layout_checks file) ≡ None))) }
     {
-        let records = match read_unchecked(alloc, input, buffer) {
-            Ok(records) => records,
+        let stream = match read_stream(alloc, input, buffer) {
+            Ok(stream) => stream,
             Err(AtFault::Of(fault)) => return Err(AtFault::Of(AddFault::from(fault))),
             Err(AtFault::Read) => return Err(AtFault::Read),
         };
-        match self.add_records(alloc, records) {
+        match self.add_stream(alloc, stream) {
             Ok(()) => Ok(()),
             Err(fault) => Err(AtFault::Of(fault)),
         }

@@ -13,7 +13,7 @@ use command_line::push_paths;
 use command_texts::{push_named, push_quoted};
 use cv_leaves::{list_places, places, ref_at, type_name};
 use fault_pages::page_of;
-use file_types::{Buffer, read_types, read_unchecked};
+use file_types::{Buffer, read_stream, read_types};
 use msf_blocks::Layout;
 use msf_streams::{gather, pieces};
 use msf_superblock::{Superblock, blocks_for};
@@ -222,11 +222,11 @@ fn types_in_canonical_order(rt: HostRuntime) -> Result<(), Fail> {
     let mut table = Table::with_hasher(rt.alloc(), folding());
     table.add(rt.alloc(), &types, 1000)?;
     drop(types);
-    let Ok(records) = read_unchecked(rt.alloc(), &mut file.as_slice(), &mut buffer) else {
-        return Err("no records".into());
+    let Ok(stream) = read_stream(rt.alloc(), &mut file.as_slice(), &mut buffer) else {
+        return Err("no stream".into());
     };
     // each record names only earlier ones, so the records can be added as they stand
-    assert!(rt; table.add_records(rt.alloc(), &records, 1000));
+    assert!(rt; table.add_stream(rt.alloc(), stream, 1000));
     let canon = table.finish(rt.alloc())?;
     assert_eq!(rt; canon.len(), 2);
     assert_eq!(rt; canon.get(1), Some(TO_INT));

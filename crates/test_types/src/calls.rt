@@ -11,7 +11,7 @@ use tpi_records::Records;
 use type_table::{Canon, JoinFault, Table};
 
 /// The records of a TPI stream.
-pub fn records_of<A: Allocator + Copy>(alloc: A, stream: &[u8]) -> Result<Records<'_, A>, Fail> {
+fn records_of<A: Allocator + Copy>(alloc: A, stream: &[u8]) -> Result<Records<'_, A>, Fail> {
     Ok(Records::read(alloc, stream)?)
 }
 
@@ -54,14 +54,15 @@ pub fn add_stream<S: BuildHasher, A: Allocator + Copy>(
     Ok(())
 }
 
-/// Adds records to a table, up to this limit. Returns whether they were added.
-pub fn add_records<S: BuildHasher, A: Allocator + Copy>(
+/// Adds the records of a stream to a table as they stand, up to this limit. Returns whether they were
+/// added.
+pub fn add_as_it_stands<S: BuildHasher, A: Allocator + Copy>(
     table: &mut Table<S, A>,
     alloc: A,
-    records: &Records<'_, A>,
+    stream: &[u8],
     limit: u32,
 ) -> bool {
-    table.add_records(alloc, records, limit)
+    table.add_stream(alloc, stream, limit)
 }
 
 /// A table of no types.

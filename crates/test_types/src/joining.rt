@@ -1,7 +1,7 @@
 //! Canonical lists that are joined, their limits, and tables and lists that run out of memory.
 
 use super::calls::{
-    add, add_records, add_stream, copied, empty_table, join, list_of, records_of, types_of,
+    add, add_as_it_stands, add_stream, copied, empty_table, join, list_of, types_of,
 };
 use checked_types::Types;
 use linked_list_allocator::LocalHeap;
@@ -13,7 +13,6 @@ use test_samples::{
     MEMBER_OF_SECOND, Refusal, TO_FIRST, TO_INT, TO_SECOND, TestHeap, VOLATILE, bytes_of, folding,
     refusals_amid, stream_with,
 };
-use tpi_records::Records;
 use type_table::{Canon, CanonRecords, JoinFault, Table};
 
 /// A limit that no test reaches.
@@ -248,15 +247,14 @@ fn add_amid(trial: Trial<'_>) -> Result<Answer, Fail> {
     add_twice(trial, &mut table)
 }
 
-/// Adds records to a table, as they stand, while memory is refused. Where they are not added, the
-/// answer is out of memory.
-fn add_records_refused<'t, S: BuildHasher>(
+/// Adds the records of a stream to a table, as they stand, while memory is refused. Where they are not
+/// added, the answer is out of memory.
+fn add_standing_refused<'t, S: BuildHasher>(
     trial: Trial<'t>,
     table: &mut Table<S, &'t TestHeap>,
-    records: &Records<'_, &'t TestHeap>,
 ) -> Result<(), JoinFault> {
     let filler = trial.refusal.begin(trial.heap);
-    let was_added = add_records(table, trial.heap, records, trial.limit);
+    let was_added = add_as_it_stands(table, trial.heap, trial.stream, trial.limit);
     drop(filler);
     trial.heap.stop_failing();
     if was_added {
@@ -268,21 +266,20 @@ fn add_records_refused<'t, S: BuildHasher>(
 
 /// Adds the records of a stream to a table, as they stand, while memory is refused, and then its
 /// types.
-fn add_records_twice<'t, S: BuildHasher>(
+fn add_standing_twice<'t, S: BuildHasher>(
     trial: Trial<'t>,
     table: &mut Table<S, &'t TestHeap>,
 ) -> Result<Answer, Fail> {
-    let records = records_of(trial.heap, trial.stream)?;
-    let said = add_records_refused(trial, table, &records);
+    let said = add_standing_refused(trial, table);
     let types = types_of(trial.heap, trial.stream)?;
     listed_twice(trial.alloc, trial.heap, table, &types, LIMIT, said)
 }
 
 /// Adds the records of a stream, as they stand, to the types of earlier ones, while memory is
 /// refused.
-fn add_records_amid(trial: Trial<'_>) -> Result<Answer, Fail> {
+fn add_standing_amid(trial: Trial<'_>) -> Result<Answer, Fail> {
     let mut table = table_of_each(trial.heap, folding(), trial.earlier)?;
-    add_records_twice(trial, &mut table)
+    add_standing_twice(trial, &mut table)
 }
 
 /// What a call says, and the bytes of the list that is there after it.
@@ -393,7 +390,7 @@ fn finish_amid(trial: Trial<'_>) -> Result<Answer, Fail> {
 #[derive(Clone, Copy)]
 enum Call {
     Add,
-    AddRecords,
+    AddStanding,
     Join,
     Finish,
 }
@@ -402,7 +399,7 @@ enum Call {
 fn amid(call: Call, trial: Trial<'_>) -> Result<Answer, Fail> {
     match call {
         Call::Add => add_amid(trial),
-        Call::AddRecords => add_records_amid(trial),
+        Call::AddStanding => add_standing_amid(trial),
         Call::Join => join_amid(trial),
         Call::Finish => finish_amid(trial),
     }
@@ -498,7 +495,7 @@ fn memory_is_refused(rt: HostRuntime) -> Result<(), Fail> {
     for (call, step) in [
         (Call::Add, LOWER),
         (Call::Add, LATER),
-        (Call::AddRecords, LOWER),
+        (Call::AddStanding, LOWER),
         (Call::Join, LOWER),
         (Call::Join, LATER),
         (Call::Finish, LOWER),

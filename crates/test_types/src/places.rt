@@ -1,6 +1,6 @@
 //! Records that name records at no place, at one, and at as many as a record can have.
 
-use super::calls::{add_records, add_stream, copied, empty_table, list_of, records_of};
+use super::calls::{add_as_it_stands, add_stream, copied, empty_table, list_of};
 use std::alloc::{AllocError, Global};
 use std::test::Fail;
 use test_samples::{CONST, TO_INT, bytes_of, folding, stream_with};
@@ -28,7 +28,7 @@ fn listed(alloc: Global, first: &[u8], second: &[u8]) -> Result<Vec<u8>, Fail> {
     let mut table = empty_table(alloc, folding());
     add_stream(&mut table, alloc, first, LIMIT)?;
     for _ in 0..2 {
-        if !add_records(&mut table, alloc, &records_of(alloc, second)?, LIMIT) {
+        if !add_as_it_stands(&mut table, alloc, second, LIMIT) {
             return Err("the records were not added".into());
         }
     }

@@ -27,19 +27,24 @@ is_record bytes start whole field long short padded inside =
       len = omega (arith, all, number_at-take 2 bytes start whole (omega arith));
     }
 
--- one more record: the records so far, and the next one
+-- one more record: the records so far, and the one at the front of what is left
+pub begins_next : (bytes : List ℕ) (records : List (List ℕ)) (left r rest : List ℕ) → Begins bytes records left → left ≡ r ++ rest → IsRecord r → Begins bytes (records ++ r ∷ []) rest
+begins_next bytes records left r rest so_far split this =
+    let ends : concat (r ∷ []) ≡ r = append-nil r in
+    record {
+      parts = so_far.parts ∙ ap (λ (s : List ℕ). concat records ++ s) split ∙ sym (append_assoc (concat records) r rest)
+          ∙ rw (concat-append records (r ∷ []), ends) refl;
+      each = AllByRecursion-push IsRecord records r so_far.each this;
+    }
+
+-- so where what is left begins at an offset
 pub Begins-more : (bytes : List ℕ) (records : List (List ℕ)) (start whole : ℕ) → Begins bytes records (drop start bytes) → IsRecord (take whole (drop start bytes))
     → Begins bytes (records ++ take whole (drop start bytes) ∷ []) (drop (start + whole) bytes)
 Begins-more bytes records start whole so_far this =
     let next = take whole (drop start bytes) in
-    let ends : concat (next ∷ []) ≡ next = append-nil next in
     let left : drop whole (drop start bytes) ≡ drop (start + whole) bytes = drop-drop whole start bytes in
     let split : next ++ drop whole (drop start bytes) ≡ drop start bytes = take-append-drop whole (drop start bytes) in
-    record {
-      parts = so_far.parts ∙ ap (λ (s : List ℕ). concat records ++ s) (sym split) ∙ sym (append_assoc (concat records) next (drop whole (drop start bytes)))
-          ∙ rw (concat-append records (next ∷ []), ends, left) refl;
-      each = AllByRecursion-push IsRecord records next so_far.each this;
-    }
+    rw left at (begins_next bytes records (drop start bytes) next (drop whole (drop start bytes)) so_far (sym split) this)
 
 -- ---- bytes are at most one list of records
 

@@ -57,7 +57,7 @@ mod records;
 
 pub use cursor::Cursor;
 pub use fault::TpiFault;
-pub use framing::first_record;
+pub use framing::{first_record, framed_bytes};
 pub use header::{FIRST_INDEX, TPI_STREAM, TpiHeader, tpi_header_bytes};
 pub use iter::Iter;
 pub use records::Records;

@@ -2,5 +2,6 @@ pub mod PushLaws
 pub mod AddLaws
 pub mod GuessLaws
 pub mod OrderedLaws
+pub mod FramedLaws
 pub mod KeptLaws
 pub mod CanonTableLaws

@@ -1,25 +1,19 @@
 -- How records are added to a table, one by one.
-use Rattle.std.specs.Prelude.{ℕ, ◌≡◌, ◌^◌, ◌<◌, ◌≤◌, ◌⊎◌, ◌↔◌, Bool, true, false, List, [], length, take, get_or}
-use Rattle.std.specs.List.{range_with_len}
+use Rattle.std.specs.Prelude.{ℕ, ◌≡◌, ◌^◌, ◌<◌, ◌≤◌, ◌⊎◌, ◌↔◌, List, [], length, take, get_or}
+use Rattle.std.specs.List.{concat}
 use Rattle.byte_fields.specs.Bytes.{AreBytes}
 use Rattle.text_set.specs.TextSet.{Holds}
-use Rattle.topological_order.specs.Order.{IsOrder}
+use Rattle.tpi_records.specs.Records.{Begins, HasRecords}
 use Rattle.cv_leaves.specs.Place.{IsChecked}
 use Rattle.cv_leaves.specs.References.{references}
 use Rattle.closed_trees.specs.Tree.{Tree, IsType}
 use Rattle.closed_trees.specs.Types.{AreTypes, NamesThere}
-use Rattle.closed_trees.specs.Table.{IsTable, renumbered}
-use Rattle.checked_types.specs.Graph.{graph_of}
+use Rattle.closed_trees.specs.Table.{IsTable, IsUnion, renumbered}
+use Rattle.closed_trees.specs.Canon.{weight}
 
 -- the list begins with `front`
 abbrev pub StartsWith : {A : Type 0} → List A → List A → Type 0
 StartsWith list front = (length front ≤ length list) × (take (length front) list ≡ front)
-
--- records that were checked are types, and are walked through so that each comes after those
--- that it names; others are walked through as they stand
-unfoldable pub IsRecordWalk : Bool → List (List ℕ) → List ℕ → Type 0
-IsRecordWalk true records order = AreTypes records × IsOrder (graph_of records) order
-IsRecordWalk false records order = order ≡ range_with_len 0 (length records)
 
 -- r has places and names only records that have a number;
 -- renumbered, it is at k in the texts `after`, which have at most this one text more than `before`
@@ -38,3 +32,23 @@ pub record IsAdded (records before after : List (List ℕ)) : Type 0 where
   pub table : IsTable after
   pub value : (t : Tree) → IsType after t ↔ (IsType before t ⊎ IsType records t)
   pub few : length after < 2 ^ 31
+
+-- the bytes are this many records, which are types, and the table `after` has their types and those
+-- of `before`
+pub record AreFramedAdded (count : ℕ) (bytes : List ℕ) (before after : List (List ℕ)) : Type 0
+  where
+    pub records : List (List ℕ)
+    pub framed : Begins bytes records []
+    pub counted : length records ≡ count
+    pub added : IsAdded records before after
+
+-- the stream has records that are types, the table `after` has their types and those of `before`,
+-- and together these have at most `limit` bytes
+pub record IsStreamAdded (stream : List ℕ) (limit : ℕ) (before after : List (List ℕ)) : Type 0
+  where
+    pub records : List (List ℕ)
+    pub has : HasRecords stream records
+    pub types : AreTypes records
+    pub value : (t : Tree) → IsType after t ↔ (IsType before t ⊎ IsType records t)
+    pub within : (l : List Tree) × IsUnion l before records × (weight l ≤ limit)
+    pub bytes : length (concat after) ≤ limit

@@ -1,28 +1,29 @@
 //! Adds records to a table, each after those that it names.
 //!
-//! Records that were checked are added in their order. Others are added as they stand, and checked
-//! on the way, since compilers write most records after those that they name. If one of these has a
+//! Types are added in their order. The records of a stream are added as they stand, and checked on
+//! the way, since compilers write most records after those that they name. If one of these has a
 //! fault or names a later one, the walk ends. [`Types::check`](checked_types::Types::check) then
 //! finds the fault, or the order.
 
-ghost use Rattle.std.specs.Prelude.{◌≡◌, ◌≤◌, ◌<◌, ◌+◌, ◌^◌, true, false, IsTrue, IfOk, IfErr, IfSome, IfNone, length};
+ghost use Rattle.std.specs.Prelude.{◌≡◌, ◌<◌, ◌+◌, ◌^◌, IsTrue, OnOk, IfOk, IfErr, IfSome, IfNone, length};
 ghost use Rattle.std.specs.List.{concat};
 ghost use Rattle.tpi_records.specs.Records.{IsRecord};
 ghost use Rattle.cv_leaves.specs.Place.{IsChecked};
 ghost use Rattle.cv_leaves.specs.References.{references};
 ghost use Rattle.byte_fields.specs.Bytes.{AreBytes};
 ghost use Rattle.closed_trees.specs.Table.{IsTable, AreNumbered};
-ghost use Rattle.type_table.specs.Merge.{StartsWith, IsRecordWalk, IsPut, IsAdded};
+ghost use Rattle.closed_trees.specs.Types.{AreTypes};
+ghost use Rattle.type_table.specs.Merge.{StartsWith, IsPut, IsAdded, AreFramedAdded};
 ghost use Rattle.type_table.specs.Numbers.{AreNumbers};
 
 use crate::becomes::is_at;
-use checked_types::{InOrder, record_at};
+use checked_types::{Types, record_at};
 use closed_trees::renumber_into;
 use cv_leaves::list_places;
 use record_set::RecordSet;
 use std::alloc::{AllocError, Allocator};
 use std::hash::BuildHasher;
-use tpi_records::Records;
+use tpi_records::{FIRST_INDEX, first_record};
 
 /// Each number of a `&[u8]` is a byte. This function does nothing: its contract is the fact.
 pub fn are_bytes(text: &[u8])
@@ -114,51 +115,76 @@ fn put_record<S: BuildHasher, A: Allocator>(
     Ok(Some(position))
 }
 
-/// How many of `many` records may be named by the one at a position.
-fn known_of(checked: bool, many: usize, position: usize) -> usize
-    requires { position < many }
-    ensures within { result ≤ many }
-    ensures all { checked ≡ true → result ≡ many }
-    ensures earlier { checked ≡ false → result ≡ position }
-{
-    if checked { many } else { position }
-}
-
-/// Puts all records of an input into the set, in this order. Returns whether that succeeded. It
-/// always does for records that were `checked`. If it does not, or if memory runs out, some of them
-/// may be in the set.
-pub fn add_in_order<S: BuildHasher, A: Allocator + Copy>(
+/// Puts the records in these bytes into the set, as they stand there. Returns whether that succeeded:
+/// the bytes are `count` records, and each has places and names only earlier ones. If it did not, or
+/// if memory runs out, some of them may be in the set.
+pub fn add_framed<S: BuildHasher, A: Allocator>(
     records: &mut RecordSet<S, A>,
     work: &mut Workspace<A>,
-    input: &Records<'_, A>,
-    order: InOrder<'_>,
-    checked: bool,
+    bytes: &[u8],
+    count: u32,
 ) -> Result<bool, AllocError>
     requires table { IsTable records.old }
     requires short { length (concat records.old) < 2 ^ 32 }
-    requires walk { IsRecordWalk checked input.now order }
-    ensures added { IfOk result (λ all. IsTrue all → IsAdded input.now records.old records.new) }
-    ensures numbers { IfOk result (λ all.
-        IsTrue all → AreNumbers input.now records.new work.new.numbers.items) }
-    ensures light { IfOk result (λ _.
-        length (concat records.new) < length (concat records.old) + 2 ^ 32) }
-    ensures all { checked ≡ true → IfOk result (λ all. IsTrue all) }
+    requires few { length bytes.now < 2 ^ 32 }
+    ensures added { IfOk result (λ all.
+        IsTrue all → AreFramedAdded count bytes.now records.old records.new) }
     ensures front { StartsWith records.new records.old }
 {
-    let many = input.len();
+    let Workspace { numbers, copy } = work;
+    // A record has at least four bytes, so the count takes no more memory than the bytes.
+    if bytes.len() / 4 < count as usize {
+        return Ok(false);
+    }
+    numbers.clear();
+    numbers.reserve(count as usize)?;
+    let mut guess = 0;
+    let mut left = bytes;
+    while !left.is_empty() {
+        let Ok(record) = first_record(left, FIRST_INDEX) else {
+            return Ok(false);
+        };
+        let Some(found) = put_record(records, copy, record, numbers, guess)? else {
+            return Ok(false);
+        };
+        numbers.push(found as u32)?;
+        guess = found + 1;
+        let (_, rest) = left.split_at(record.len());
+        left = rest;
+    }
+    Ok(numbers.len() == count as usize)
+}
+
+/// Puts all types of an input into the set, each after those that it names. If memory runs out, some
+/// of them may be in the set.
+pub fn add_in_order<S: BuildHasher, A: Allocator + Copy>(
+    records: &mut RecordSet<S, A>,
+    work: &mut Workspace<A>,
+    types: &Types<'_, A>,
+) -> Result<(), AllocError>
+    requires table { IsTable records.old }
+    requires short { length (concat records.old) < 2 ^ 32 }
+    ensures types { AreTypes types.now }
+    ensures added { OnOk result (IsAdded types.now records.old records.new) }
+    ensures numbers { OnOk result (AreNumbers types.now records.new work.new.numbers.items) }
+    ensures light { OnOk result
+        (length (concat records.new) < length (concat records.old) + 2 ^ 32) }
+    ensures front { StartsWith records.new records.old }
+{
+    let many = types.len();
+    let order = types.in_order();
     let Workspace { numbers, copy } = work;
     numbers.clear();
     numbers.resize(many, 0)?;
     let mut guess = 0;
-    let mut cursor = input.cursor();
+    let mut cursor = types.records().cursor();
     for position in order {
-        let bytes = record_at(&mut cursor, position);
-        let known = known_of(checked, many, position);
-        let Some(found) = put_record(records, copy, bytes, &numbers[..known], guess)? else {
-            return Ok(false);
+        let record = record_at(&mut cursor, position);
+        let Some(found) = put_record(records, copy, record, numbers, guess)? else {
+            unreachable!();
         };
         numbers[position] = found as u32;
         guess = found + 1;
     }
-    Ok(true)
+    Ok(())
 }

@@ -2,7 +2,7 @@
 //!
 //! - [`Table`] holds a set of types, each once, in the order in which they came. Types are added
 //!   up to a limit of bytes, and a refusal leaves the table as it was.
-//!   [`Table::add_records`] adds records that name only earlier ones while it checks them, and
+//!   [`Table::add_stream`] adds records that name only earlier ones while it checks them, and
 //!   [`Table::add`] adds types in any order.
 //! - [`Canon`] holds a set of types as its *canonical list*: each type once, in the order of the
 //!   depths, and at one depth in the order of the bytes of the records. The records name each other
@@ -11,7 +11,7 @@
 //!
 //! What is proved: a table and a canonical list hold exactly the types that were put into them. A
 //! union that is refused as too large has more bytes than the limit, and the fault has their
-//! number. [`Table::add_records`] adds only records that make types (`AreTypes` of
+//! number. [`Table::add_stream`] adds only records that make types (`AreTypes` of
 //! `closed_trees`).
 //!
 //! # Example
@@ -28,11 +28,11 @@
 //!     let mut table = Table::with_hasher(rt.alloc(), folding());
 //!     table.add(rt.alloc(), &types, 1000)?;
 //!     drop(types);
-//!     let Ok(records) = read_unchecked(rt.alloc(), &mut file.as_slice(), &mut buffer) else {
-//!         return Err("no records".into());
+//!     let Ok(stream) = read_stream(rt.alloc(), &mut file.as_slice(), &mut buffer) else {
+//!         return Err("no stream".into());
 //!     };
 //!     // each record names only earlier ones, so the records can be added as they stand
-//!     assert!(rt; table.add_records(rt.alloc(), &records, 1000));
+//!     assert!(rt; table.add_stream(rt.alloc(), stream, 1000));
 //!     let canon = table.finish(rt.alloc())?;
 //!     assert_eq!(rt; canon.len(), 2);
 //!     assert_eq!(rt; canon.get(1), Some(TO_INT));

@@ -1,10 +1,10 @@
 //! The numbers of types: their positions in a set of records.
 
-ghost use Rattle.std.specs.Prelude.{◌+◌, ◌^◌, ◌<◌, true, length, IfOk};
+ghost use Rattle.std.specs.Prelude.{◌+◌, ◌^◌, ◌<◌, length, IfOk};
 ghost use Rattle.std.specs.List.{concat};
 ghost use Rattle.closed_trees.specs.Table.{IsTable};
 ghost use Rattle.closed_trees.specs.Types.{AreTypes};
-ghost use Rattle.type_table.specs.Merge.{StartsWith, IsRecordWalk, IsAdded};
+ghost use Rattle.type_table.specs.Merge.{StartsWith, IsAdded};
 ghost use Rattle.type_table.specs.Numbers.{AreNumbers};
 
 use crate::adding::{Workspace, add_in_order};
@@ -19,7 +19,6 @@ use std::hash::BuildHasher;
 /// Two types are equal exactly where their numbers are. The set has to be a table: each record names
 /// only earlier ones. The only fault is that memory is refused; some of the types may then be in
 /// the set.
-#[tactic(auto, unfolding(crate::specs::Merge::IsRecordWalk))]
 pub fn number_types<S: BuildHasher, A: Allocator + Copy>(
     alloc: A,
     set: &mut RecordSet<S, A>,
@@ -34,6 +33,6 @@ pub fn number_types<S: BuildHasher, A: Allocator + Copy>(
     ensures front { StartsWith set.new set.old }
 {
     let mut work = Workspace::new(alloc);
-    add_in_order(set, &mut work, types.records(), types.in_order(), true)?;
+    add_in_order(set, &mut work, types)?;
     Ok(work.into_numbers())
 }

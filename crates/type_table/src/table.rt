@@ -1,6 +1,6 @@
 //! Tables: types in the order in which they came, each once.
 
-ghost use Rattle.std.specs.Prelude.{◌≡◌, ◌⊎◌, ◌↔◌, ◌+◌, ◌-◌, ◌^◌, ◌<◌, ◌≤◌, [], ℕ, List, IsTrue, true, length, take, IfOk, IfErr};
+ghost use Rattle.std.specs.Prelude.{◌≡◌, ◌⊎◌, ◌↔◌, ◌+◌, ◌-◌, ◌^◌, ◌<◌, ◌≤◌, [], ℕ, List, IsTrue, length, take, OnOk, IfOk, IfErr};
 ghost use Rattle.std.specs.List.{concat};
 ghost use Rattle.closed_trees.specs.Tree.{Tree, IsType};
 ghost use Rattle.closed_trees.specs.Canon.{weight};
@@ -8,46 +8,67 @@ ghost use Rattle.closed_trees.specs.Depth.{HasDepths};
 ghost use Rattle.record_set.specs.RecordSet.{HasNamedPlaces};
 ghost use Rattle.closed_trees.specs.Table.{IsTable, IsUnion};
 ghost use Rattle.type_table.specs.MeasuredTable.{IsMeasuredTable};
-ghost use Rattle.type_table.specs.Merge.{StartsWith, IsRecordWalk, IsAdded};
-ghost use Rattle.closed_trees.specs.Types.{AreTypes};
+ghost use Rattle.tpi_records.specs.Records.{HasRecords};
+ghost use Rattle.type_table.specs.Merge.{StartsWith, IsAdded, IsStreamAdded};
 ghost use Rattle.canonical_list.specs.Finish.{IsCanonOf};
 
-use crate::adding::{Workspace, add_in_order, are_bytes};
+use crate::adding::{Workspace, add_framed, add_in_order, are_bytes};
 use crate::canon::Canon;
 use crate::fault::JoinFault;
 use crate::table_depths::measure_new;
 use canonical_list::canonical_order;
-use checked_types::{InOrder, Types, in_file_order};
+use checked_types::Types;
 use cv_leaves::list_places;
 use packed_texts::{OrderedTexts, PackedTexts};
 use record_set::{PlaceLists, RecordSet};
 use std::alloc::{AllocError, Allocator, Global};
 use std::hash::BuildHasher;
 use std::marker::Model;
-use tpi_records::Records;
+use tpi_records::{TpiHeader, framed_bytes};
 
-/// Puts all records of an input into the set, in this order, and measures the new ones. Returns
-/// whether that succeeded. It always does for records that were `checked`. If it does not, or if
-/// memory runs out, some of them may be in the set.
-fn add_measured<S: BuildHasher, A: Allocator + Copy>(
+/// Puts types into the set, and measures the new ones. If memory runs out, some of them may be in
+/// the set.
+fn add_types<S: BuildHasher, A: Allocator + Copy>(
     records: &mut RecordSet<S, A>,
     depths: &mut Vec<u32, A>,
     work: &mut Workspace<A>,
-    input: &Records<'_, A>,
-    order: InOrder<'_>,
-    checked: bool,
-) -> Result<bool, AllocError>
+    types: &Types<'_, A>,
+) -> Result<(), AllocError>
     requires table { IsTable records.old }
     requires short { length (concat records.old) < 2 ^ 32 }
-    requires walk { IsRecordWalk checked input.now order }
     requires depths { HasDepths records.old depths.old.items }
-    ensures added { IfOk result (λ all. IsTrue all → IsAdded input.now records.old records.new) }
-    ensures depths { IfOk result (λ all. IsTrue all → HasDepths records.new depths.new.items) }
-    ensures all { checked ≡ true → IfOk result (λ all. IsTrue all) }
+    ensures added { OnOk result (IsAdded types.now records.old records.new) }
+    ensures depths { OnOk result (HasDepths records.new depths.new.items) }
     ensures front { StartsWith records.new records.old }
     ensures measured { StartsWith depths.new.items depths.old.items }
 {
-    if !add_in_order(records, work, input, order, checked)? {
+    add_in_order(records, work, types)?;
+    measure_new(records, depths)
+}
+
+/// Puts the records of a stream into the set, as they stand there, and measures the new ones.
+/// Returns whether that succeeded: the stream has records, and each has places and names only earlier
+/// ones. If it did not, or if memory runs out, some of them may be in the set.
+fn add_records<S: BuildHasher, A: Allocator>(
+    records: &mut RecordSet<S, A>,
+    depths: &mut Vec<u32, A>,
+    work: &mut Workspace<A>,
+    stream: &[u8],
+) -> Result<bool, AllocError>
+    requires table { IsTable records.old }
+    requires short { length (concat records.old) < 2 ^ 32 }
+    requires depths { HasDepths records.old depths.old.items }
+    ensures added { IfOk result (λ all. IsTrue all → (input : List (List ℕ))
+        × HasRecords stream.now input × IsAdded input records.old records.new) }
+    ensures depths { IfOk result (λ all. IsTrue all → HasDepths records.new depths.new.items) }
+    ensures front { StartsWith records.new records.old }
+    ensures measured { StartsWith depths.new.items depths.old.items }
+{
+    let Ok(header) = TpiHeader::read(stream) else {
+        return Ok(false);
+    };
+    let bytes = framed_bytes(stream, header);
+    if !add_framed(records, work, bytes, header.count())? {
         return Ok(false);
     }
     measure_new(records, depths)?;
@@ -134,7 +155,6 @@ impl<S: BuildHasher, A: Allocator + Copy> Table<S, A> {
     ///
     /// After either fault the table holds the types that it held before. The table allocates space
     /// for the new records, and keeps it after a fault too.
-    #[tactic(auto, unfolding(crate::specs::Merge::IsRecordWalk))]
     pub fn add(&mut self, alloc: A, types: &Types<'_, A>, limit: u32) -> Result<(), JoinFault>
         ensures value { IfOk result (λ _.
             (t : Tree) → IsType self.new t ↔ (IsType self.old t ⊎ IsType types.now t)) }
@@ -149,15 +169,7 @@ impl<S: BuildHasher, A: Allocator + Copy> Table<S, A> {
             × ((l : List Tree) × IsUnion l self.old types.now × (weight l ≡ bytes))) }
     {
         let held = self.records.len();
-        let order = types.in_order();
-        let added = add_measured(
-            &mut self.records,
-            &mut self.depths,
-            &mut self.work,
-            types.records(),
-            order,
-            true,
-        );
+        let added = add_types(&mut self.records, &mut self.depths, &mut self.work, types);
         self.work.clear(alloc);
         let bytes = self.records.bytes().len() as u64;
         if let Err(fault) = added {
@@ -171,33 +183,20 @@ impl<S: BuildHasher, A: Allocator + Copy> Table<S, A> {
         Ok(())
     }
 
-    /// Adds the types of records, if each record names only earlier ones. Returns whether they were
-    /// added.
+    /// Adds the types of a TPI stream, if each of its records names only earlier ones. Returns whether
+    /// they were added.
     ///
     /// The records are checked on the way, and one that is in the table already is only compared.
     /// Returns false, and leaves the types as they were, if a check fails, if a record names itself
     /// or a later one, if the records of the union have more than `limit` bytes together, or if
-    /// memory runs out. [`Types::check`] and [`Table::add`] tell the fault.
-    #[tactic(auto, unfolding(crate::specs::Merge::IsRecordWalk))]
-    pub fn add_records(&mut self, alloc: A, records: &Records<'_, A>, limit: u32) -> bool
-        ensures types { IsTrue result → AreTypes records.now }
-        ensures value { IsTrue result → (t : Tree) →
-            IsType self.new t ↔ (IsType self.old t ⊎ IsType records.now t) }
-        ensures within { IsTrue result →
-            (l : List Tree) × IsUnion l self.old records.now × (weight l ≤ limit) }
-        ensures bytes { IsTrue result → length (concat self.new) ≤ limit }
+    /// memory runs out. [`Records::read`](tpi_records::Records::read), [`Types::check`] and
+    /// [`Table::add`] tell the fault. ("The PDB TPI and IPI Streams", "Type Records".)
+    pub fn add_stream(&mut self, alloc: A, stream: &[u8], limit: u32) -> bool
+        ensures added { IsTrue result → IsStreamAdded stream.now limit self.old self.new }
         ensures kept { IsTrue result ⊎ (self.new ≡ self.old) }
     {
         let held = self.records.len();
-        let order = in_file_order(records.len());
-        let added = add_measured(
-            &mut self.records,
-            &mut self.depths,
-            &mut self.work,
-            records,
-            order,
-            false,
-        );
+        let added = add_records(&mut self.records, &mut self.depths, &mut self.work, stream);
         self.work.clear(alloc);
         if let Ok(true) = added {
             if self.records.bytes().len() as u64 <= u64::from(limit) {

@@ -41,8 +41,8 @@ fn add_input<I: Inputs, S: BuildHasher, A: Allocator + Copy>(
         HasTaken merge.old (take input files)) →
         IfErr result (RefusesFiles (I.known inputs.now) merge.old.limit) }
 {
-    let records = read_input(alloc, inputs, input, buffer)?;
-    if let Err(fault) = merge.add_records(alloc, records) {
+    let stream = read_input(alloc, inputs, input, buffer)?;
+    if let Err(fault) = merge.add_stream(alloc, stream) {
         check_rest(inputs, input + 1)?;
         return Err(at_file(input, fault));
     }

@@ -5,8 +5,7 @@ use Rattle.pdb_merge.proofs.input.read_with.Goals as goal
 pub returns-in-Ok-clause-value : goal.returns-in-Ok-clause-value
 returns-in-Ok-clause-value g c = λ file known.
     let read = c.in-Ok.ensures.texts in
-    let has = layout_known file read.0 (rw known at read.1) in
-    lists_known file read.0 c.in-Ok.records (c.in-Ok.ensures.small file known) has (rw known at read.3.0) read.3.1
+    lists_known file read.0 c.in-Ok.stream.now (c.in-Ok.ensures.small file known) (layout_known file read.0 (rw known at read.1)) (rw known at read.3)
 
 pub returns-in-Err-Of-Of-clause-own : goal.returns-in-Err-Of-Of-clause-own
 returns-in-Err-Of-Of-clause-own g c = λ files given known.

@@ -2,7 +2,7 @@ use Rattle.std.proofs.Common.{inr}
 use Rattle.msf_blocks.proofs.FoundLaws.{layout_holds}
 use Rattle.msf_blocks.proofs.KnownLayoutLaws.{layout_known}
 use Rattle.pdb_merge.proofs.MemoryLaws.{pdb_named, pdb_want_at}
-use Rattle.pdb_merge.proofs.RefusedLaws.{texts_hinder}
+use Rattle.pdb_merge.proofs.RefusedLaws.{read_adds, read_hinders, texts_hinder}
 use Rattle.pdb_merge.proofs.merge.Merge.add_types_at.Goals as goal
 
 pub returns-in-Err-Of-clause-named : goal.returns-in-Err-Of-clause-named
@@ -23,12 +23,12 @@ returns-in-Err-clause-memory g c = λ is file known.
     let read = c.in-Ok.ensures.texts in
     layout_holds file read.0 (c.in-Ok.ensures.small file known) (layout_known file read.0 (rw known at read.1))
 
-pub returns-in-Ok-add_records-clause-texts : goal.returns-in-Ok-add_records-clause-texts
-returns-in-Ok-add_records-clause-texts g c =
+pub returns-in-Ok-add_stream-clause-texts : goal.returns-in-Ok-add_stream-clause-texts
+returns-in-Ok-add_stream-clause-texts g c =
     let read = c.in-Ok.ensures.texts in
-    (read.0, read.1, c.in-Ok-add_records.ensures.texts _ read.0 read.2)
+    (read.0, read.1, read_adds c.args.self.now.types c.add_stream.new.self.types _ read.0 c.in-Ok.stream.now read.2 c.in-Ok-add_stream.ensures.value)
 
 pub returns-in-Err-clause-refused : goal.returns-in-Err-clause-refused
 returns-in-Err-clause-refused g c =
     let read = c.in-Ok.ensures.texts in
-    inr (read.0, read.1, c.in-Err.ensures.refused _ read.0 read.2)
+    inr (read.0, read.1, read_hinders c.args.self.now.types c.args.self.now.limit _ read.0 c.in-Ok.stream.now c.in-Err.fault read.2 c.in-Err.ensures.refused)

@@ -8,21 +8,21 @@ use Rattle.pdb_merge.proofs.MergingLaws.{alone_whole, stops_whole, taken_alone, 
 use Rattle.pdb_merge.proofs.RefusedLaws.{lists_adds, lists_hinders}
 use Rattle.pdb_merge.proofs.merging.merge_files.add_input.Goals as goal
 
-pub returns-in_err-records-clause-refuses : goal.returns-in_err-records-clause-refuses
-returns-in_err-records-clause-refuses g c = λ taken.
+pub returns-in_err-stream-clause-refuses : goal.returns-in_err-stream-clause-refuses
+returns-in_err-stream-clause-refuses g c = λ taken.
     let p = err_from_is_err_and c.from_residual.result c.from_residual.ensures.1 in
-    let err = c.in_err-records.ensures in
+    let err = c.in_err-stream.ensures in
     let known = g.I.Inputs.known c.args.inputs.now in
-    rw (p.1, p.2) (at_refuses known c.args.input c.args.merge.now.limit c.in_err-records.field-0.0 c.requires.inside err.first err.named
+    rw (p.1, p.2) (at_refuses known c.args.input c.args.merge.now.limit c.in_err-stream.field-0.0 c.requires.inside err.first err.named
     (λ given gives. taken_below c.args.merge.now given c.args.input (given_inside known given c.args.input gives c.requires.inside) (taken given gives)) err.own)
 
 pub returns-clause-value : goal.returns-clause-value
 returns-clause-value g c = λ files given taken.
     let inside = given_inside (g.I.Inputs.known c.args.inputs.now) files c.args.input given c.requires.inside in
     let file = get_or files c.args.input [] in
-    let adds : AddsFile c.args.merge.now.types c.add_records.new.self.types file =
-    lists_adds c.args.merge.now.types c.add_records.new.self.types file c.in_ok-records.records (c.in_ok-records.ensures.value files given) (λ bytes layout read. c.in_default.ensures.texts bytes layout read) in
-    rw (take_more files c.args.input [] inside) (taken_more c.args.merge.now c.add_records.new.self (take c.args.input files) file adds c.in_default.ensures.within taken)
+    let adds : AddsFile c.args.merge.now.types c.add_stream.new.self.types file =
+    lists_adds c.args.merge.now.types c.add_stream.new.self.types file c.in_ok-stream.stream.now (c.in_ok-stream.ensures.value files given) c.in_default.ensures.value in
+    rw (take_more files c.args.input [] inside) (taken_more c.args.merge.now c.add_stream.new.self (take c.args.input files) file adds c.in_default.ensures.within taken)
 
 pub returns-in-Err-clause-refuses : goal.returns-in-Err-clause-refuses
 returns-in-Err-clause-refuses g c = λ taken.
@@ -31,7 +31,7 @@ returns-in-Err-clause-refuses g c = λ taken.
     let before = c.args.merge.now in
     let inside : (given : List (List ℕ)) → Give known given → i < length given = λ given gives. given_inside known given i gives c.requires.inside in
     let hinders : (given : List (List ℕ)) → Give known given → IsAddFault before.types before.limit (get_or given i []) c.in-Err.fault =
-    λ given gives. lists_hinders before.types before.limit (get_or given i []) c.in_ok-records.records c.in-Err.fault (c.in_ok-records.ensures.value given gives) (λ bytes layout read. c.in-Err.ensures.refused bytes layout read) in
+    λ given gives. lists_hinders before.types before.limit (get_or given i []) c.in_ok-stream.stream.now c.in-Err.fault (c.in_ok-stream.ensures.value given gives) c.in-Err.ensures.refused in
     file_refuses known i before.limit c.in-Err.fault c.at_file.result c.in_ok-check_rest.ensures.value c.in-Err.ensures.named c.at_file.ensures
     (λ given gives. stops_whole given i before.limit c.in-Err.fault c.at_file.result (inside given gives) c.at_file.ensures
     (taken_stops before (take i given) (get_or given i []) c.in-Err.fault (hinders given gives) (taken given gives)))

@@ -2,10 +2,10 @@ use Rattle.std.proofs.Common.{◌∙◌, refl, sym}
 use Rattle.msf_blocks.proofs.FoundLaws.{layout_holds}
 use Rattle.msf_blocks.proofs.KnownLayoutLaws.{layout_known}
 use Rattle.file_types.proofs.ReadLaws.{sound_at}
-use Rattle.file_types.proofs.read.read_unchecked.Goals as goal
+use Rattle.file_types.proofs.read.read_stream.Goals as goal
 
-pub unchecked_of-requires : goal.unchecked_of-requires
-unchecked_of-requires g c κs = (
+pub lent_stream_of-requires : goal.lent_stream_of-requires
+lent_stream_of-requires g c κs = (
   (refl, (refl, tt)),
   λ file known.
       let read = c.in_ok-layout.ensures in
@@ -15,5 +15,5 @@ unchecked_of-requires g c κs = (
 pub returns-clause-memory : goal.returns-clause-memory
 returns-clause-memory g c =
     let read = c.in_ok-layout.ensures in
-    sound_at (g.R.ReadAt.bytes c.args.input.now) c.unchecked_of.result
+    sound_at (g.R.ReadAt.bytes c.args.input.now) c.lent_stream_of.result
     (λ file known. layout_holds file c.in_ok-layout.layout (read.small file known) (layout_known file c.in_ok-layout.layout (rw known at read.texts)))

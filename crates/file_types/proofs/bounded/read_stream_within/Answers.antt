@@ -1,10 +1,10 @@
 use Rattle.std.proofs.Common.{◌∙◌, inl, inr, refl, sym}
 use Rattle.msf_blocks.proofs.FoundLaws.{layout_holds}
 use Rattle.msf_blocks.proofs.KnownLayoutLaws.{layout_known}
-use Rattle.file_types.proofs.bounded.read_unchecked_within.Goals as goal
+use Rattle.file_types.proofs.bounded.read_stream_within.Goals as goal
 
-pub unchecked_of-requires : goal.unchecked_of-requires
-unchecked_of-requires g c κs = (
+pub lent_stream_of-requires : goal.lent_stream_of-requires
+lent_stream_of-requires g c κs = (
   (refl, (refl, tt)),
   λ file known.
       let read = c.in_ok-layout.ensures in
