@@ -13,20 +13,21 @@
 //! in the list. The *weight* of a list is the number of bytes of its records.
 //!
 //! [`depth_of`] computes the depth of a record from the depths of the records that it names.
-//! [`renumber_into`] makes a record that names the same types by other type indices. Both take the
-//! list of the places at which the record names other records (`list_places` of `cv_leaves`).
+//! [`renumber_in_place`] writes the new type indices of the types that a record names into it. Both
+//! take the list of the places at which the record names other records (`list_places` of
+//! `cv_leaves`).
 //! [`levels_of`] counts the levels.
 //!
-//! What is proved: a renumbered record is the record with the new type index at each place. It is
-//! made only if each reference is simple or has a number. If these numbers are below 2^31, it is
-//! always made, unless memory runs out. The [`laws`] say that there is exactly one tree at each
+//! What is proved: a renumbered record is the record with the new type index at each place. A record
+//! is renumbered only if each reference is simple or has a number, and always if these numbers are
+//! below 2^31. The [`laws`] say that there is exactly one tree at each
 //! position of records that make types, and that it is closed; that each tree branch of a type is a
 //! type; and that a set of types has one canonical list, which reads back as that set.
 //!
 //! # Example
 //!
-//! `closed_trees` makes a record that names the same types by other type indices. This is a test of
-//! the crate `test_examples`:
+//! `closed_trees` makes a record name the same types by other type indices. This is a test of the
+//! crate `test_examples`:
 //!
 //! ```
 //! fn a_record_that_is_renumbered(rt: HostRuntime) -> Result<(), Fail> {
@@ -39,7 +40,8 @@
 //!     // it names only simple types, and these stay
 //!     assert!(rt; places.is_empty());
 //!     let mut copy = Vec::new(rt.alloc());
-//!     assert!(rt; renumber_into(&mut copy, record, &places, &[])?);
+//!     copy.extend_from_slice(record)?;
+//!     assert!(rt; renumber_in_place(&mut copy, &places, &[]));
 //!     assert_eq!(rt; copy.as_slice(), record);
 //!     Ok(())
 //! }
@@ -51,4 +53,4 @@ pub mod laws;
 mod renumber;
 
 pub use depth::{depth_of, height, levels_of};
-pub use renumber::{number_for, renumber_in_place, renumber_into};
+pub use renumber::{number_for, renumber_in_place};

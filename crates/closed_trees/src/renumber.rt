@@ -1,6 +1,6 @@
 //! Renumbering: a record that names the same types by other type indices.
 
-ghost use Rattle.std.specs.Prelude.{◌≡◌, ◌<◌, ◌+◌, IsTrue, IfSome, IfNone, IfOk, length, get_or};
+ghost use Rattle.std.specs.Prelude.{◌≡◌, ◌<◌, ◌+◌, IsTrue, IfSome, IfNone, length, get_or};
 ghost use Rattle.tpi_records.specs.Records.{IsRecord};
 ghost use Rattle.cv_leaves.specs.Place.{IsChecked};
 ghost use Rattle.cv_leaves.specs.References.{references};
@@ -9,7 +9,6 @@ ghost use Rattle.closed_trees.specs.Types.{NamesThere};
 ghost use Rattle.closed_trees.specs.Table.{renumber_one, renumbered, IsNumbered, AreNumbered};
 
 use cv_leaves::{ref_at, set_ref};
-use std::alloc::{AllocError, Allocator};
 use tpi_records::FIRST_INDEX;
 
 /// The new type index for a reference. A simple one stays as it is. `None` where the reference
@@ -50,30 +49,4 @@ pub fn renumber_in_place(record: &mut [u8], places: &[u16], numbers: &[u32]) -> 
         }
     }
     true
-}
-
-/// Makes `copy` the record with its new type indices, as [`renumber_in_place`] does. Returns whether each
-/// reference has one.
-pub fn renumber_into<A: Allocator>(
-    copy: &mut Vec<u8, A>,
-    bytes: &[u8],
-    places: &[u16],
-    numbers: &[u32],
-) -> Result<bool, AllocError>
-    requires framed { IsRecord bytes.now }
-    requires checked { IsChecked bytes.now }
-    requires listed { places.now ≡ named_places bytes.now }
-    ensures value { IfOk result (λ all.
-        IsTrue all → copy.new.items ≡ renumbered (λ k. get_or numbers.now k 0) bytes.now) }
-    ensures there { IfOk result (λ all.
-        IsTrue all → NamesThere (length numbers.now) (references bytes.now)) }
-    ensures named { IfOk result (λ all.
-        AreNumbered numbers.now (references bytes.now) → IsTrue all) }
-    // The copy names records at the same places.
-    ensures still { IfOk result (λ all.
-        IsTrue all → named_places copy.new.items ≡ named_places bytes.now) }
-{
-    copy.clear();
-    copy.extend_from_slice(bytes)?;
-    Ok(renumber_in_place(copy, places, numbers))
 }

@@ -4,7 +4,7 @@ use Rattle.std.specs.List.{concat}
 use Rattle.std.proofs.lemmas.Bool.{cases_lt}
 use Rattle.std.proofs.lemmas.List.{length-map, get_or-map, map-append, take-map, get_or-take, get_or_append_left, length-take-le}
 use Rattle.std.proofs.Math.Seq.{get_or-append_seam}
-use Rattle.text_set.specs.TextSet.{Holds}
+use Rattle.text_set.specs.TextSet.{Holds, IsInterned}
 use Rattle.cv_leaves.specs.Named.{named_places}
 use Rattle.record_set.specs.RecordSet.{HasNamedPlaces}
 
@@ -53,5 +53,12 @@ places_few records places has = rw has.listed (sum_of records has.fit)
 -- ---- a record that is put in
 
 -- a record behind the others is new
-pub placed_last : (before after : List (List ℕ)) (r : List ℕ) (k : ℕ) → Holds before after r → k < length after → k ≡ length before → after ≡ before ++ r ∷ []
+placed_last : (before after : List (List ℕ)) (r : List ℕ) (k : ℕ) → Holds before after r → k < length after → k ≡ length before → after ≡ before ++ r ∷ []
 placed_last before after r k holds inside last = elim holds [ inl same ↦ absurd (omega (arith, ap length same, inside, last)) | inr more ↦ more.0 ]
+
+-- the record that was made of the given bytes is the last one, and gets its list
+pub interned_more : (P : List ℕ → Type 0) (before after places : List (List ℕ)) (list bytes : List ℕ) (k : ℕ) → HasNamedPlaces before places → IsInterned P before after k → length (get_or after k []) ≡ length bytes → k ≡ length before
+    → ((text : List ℕ) → P text → list ≡ named_places text) → 4 * length list ≤ length bytes → HasNamedPlaces after (places ++ list ∷ [])
+interned_more P before after places list bytes k has found same last listed short =
+    rw (placed_last before after found.text k found.holds found.inside last)
+    (places_more before places found.text list has (listed found.text found.made) (omega (arith, short, same, ap length found.at)))

@@ -1,8 +1,8 @@
 //! The set of records.
 
-ghost use Rattle.std.specs.Prelude.{◌≡◌, ◌+◌, ◌*◌, ◌%◌, ◌^◌, ◌<◌, ◌≤◌, ◌↔◌, [], length, get_or, take, IsTrue, IfOk, IfErr};
+ghost use Rattle.std.specs.Prelude.{◌≡◌, ◌+◌, ◌*◌, ◌%◌, ◌^◌, ◌<◌, ◌≤◌, ◌↔◌, [], List, ℕ, length, get_or, take, IsTrue, IfOk, IfErr, IfSome, IfNone};
 ghost use Rattle.std.specs.List.{concat};
-ghost use Rattle.text_set.specs.TextSet.{AreDistinct, Holds};
+ghost use Rattle.text_set.specs.TextSet.{AreDistinct, Holds, IsInterned};
 ghost use Rattle.cv_leaves.specs.Named.{named_places};
 ghost use Rattle.record_set.specs.RecordSet.{HasNamedPlaces};
 
@@ -11,7 +11,7 @@ use packed_texts::PackedTexts;
 use std::alloc::{AllocError, Allocator, Global};
 use std::hash::BuildHasher;
 use std::marker::Model;
-use text_set::TextSet;
+use text_set::{Change, TextSet, Unchanged};
 
 /// Distinct records in the order in which they arrived, each with the places at which it names
 /// other records.
@@ -125,7 +125,41 @@ impl<S: BuildHasher, A: Allocator> RecordSet<S, A> {
         ensures err { IfErr result (λ _. self.new ≡ self.old) }
         ensures small { length self.new < 2 ^ 31 }
     {
-        let position = self.records.intern(bytes)?;
+        let Some(position) = self.intern_changed(bytes, places, &Unchanged)? else {
+            unreachable!();
+        };
+        Ok(position)
+    }
+
+    /// The position of what a change makes of this record, which is appended if it isn't there.
+    /// `None` where the change makes nothing of the record.
+    ///
+    /// `places` has the places at which what is made names other records. The record is changed
+    /// where it will stand. Unless a position is returned, the records stay as they were.
+    #[inline(always)]
+    pub fn intern_changed<C: Change>(
+        &mut self,
+        bytes: &[u8],
+        places: &[u16],
+        change: &C,
+    ) -> Result<Option<usize>, AllocError>
+        requires takes { C.takes change.now bytes.now }
+        requires padded { length bytes.now % 4 ≡ 0 }
+        requires long { 4 ≤ length bytes.now }
+        requires few { length (concat self.old) + length bytes.now < 2 ^ 33 }
+        requires listed { (text : List ℕ) → C.makes change.now bytes.now text →
+            places.now ≡ named_places text }
+        requires short { 4 * length places.now ≤ length bytes.now }
+        ensures found { IfOk result (λ found.
+            IfSome found (IsInterned (C.makes change.now bytes.now) self.old self.new)) }
+        ensures none { IfOk result (λ found.
+            IfNone found (C.refuses change.now bytes.now × (self.new ≡ self.old))) }
+        ensures err { IfErr result (λ _. self.new ≡ self.old) }
+        ensures small { length self.new < 2 ^ 31 }
+    {
+        let Some(position) = self.records.intern_changed(bytes, change)? else {
+            return Ok(None);
+        };
         // A new record is the last one, and has no list yet.
         if position == self.places.len() {
             if let Err(fault) = self.places.push(places) {
@@ -133,7 +167,7 @@ impl<S: BuildHasher, A: Allocator> RecordSet<S, A> {
                 return Err(fault);
             }
         }
-        Ok(position)
+        Ok(Some(position))
     }
 
     /// Keeps the first `len` records, and removes the others. This does not allocate.

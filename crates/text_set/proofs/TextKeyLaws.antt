@@ -126,15 +126,16 @@ key_last keys after key new is_new added is = by (list_any (nat_eq key) keys) re
     by true e same put = absurd (true≢false same)
     by false e same put = (put, λ taken. true≢false (sym (any_from_taken keys key taken) ∙ e))
 
--- ---- Keys of more texts, and of fewer
+-- and the new key stands after the others
+pub key_behind : (keys after : List ℕ) (key position : ℕ) → (after ≡ keys ++ key ∷ []) × (IsTaken keys (length keys) key → ⊥) → (k : ℕ) × (slice_get after position ≡ Some k) × (nat_eq key k ≡ true) → position < length after → position ≡ length keys
+key_behind keys after key position last stored within = elim (cases_lt position (length keys)) [
+  | inl old ↦
+      let at : get_or keys position 0 ≡ key = sym (get_or_append_left keys (key ∷ []) 0 position old) ∙ ap (λ (xs : List ℕ). get_or xs position 0) (sym last.0) ∙ key_at after key position stored in
+      absurd (last.1 (position, old, at))
+  | inr new ↦ omega (arith, new, within, ap length last.0, length-append keys (key ∷ []))
+]
 
--- the keys of the texts lead to a text with its hash
-pub lead_to : (h : List ℕ → ℕ) (texts : List (List ℕ)) (keys text : List ℕ) (hash : ℕ) → HaveKeys h texts keys → hash ≡ h text → LeadTo texts keys text hash
-lead_to h texts keys text hash have is = record {
-  each = have.each;
-  distinct = have.distinct;
-  first_free = λ k inside at. subst (λ (n : ℕ). IsFirstFree keys k n (get_or keys k 0)) (ap h at ∙ sym is) (have.first_free k (omega (arith, inside, have.each)));
-}
+-- ---- Keys of more texts, and of fewer
 
 -- the keys from `end` on don't matter
 free_still : (keys after : List ℕ) (end hash key : ℕ) → ((j : ℕ) → j < end → get_or after j 0 ≡ get_or keys j 0) → IsFirstFree keys end hash key → IsFirstFree after end hash key

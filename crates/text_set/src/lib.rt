@@ -20,8 +20,10 @@
 //! ```
 #![tactic(auto)]
 
+mod change;
 mod find;
-mod insert;
+mod place;
 mod set;
 
+pub use change::{Change, Unchanged};
 pub use set::TextSet;

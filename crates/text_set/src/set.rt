@@ -1,11 +1,12 @@
 //! The set of texts.
 
-ghost use Rattle.std.specs.Prelude.{◌≡◌, ◌+◌, ◌%◌, ◌^◌, ◌<◌, ◌≤◌, ◌↔◌, [], length, get_or, take, IsTrue, IfOk, IfErr};
+ghost use Rattle.std.specs.Prelude.{◌≡◌, ◌+◌, ◌%◌, ◌^◌, ◌<◌, ◌≤◌, ◌↔◌, [], length, get_or, take, IsTrue, IfOk, IfErr, IfSome, IfNone};
 ghost use Rattle.std.specs.List.{concat};
-ghost use Rattle.text_set.specs.TextSet.{AreDistinct, Holds};
+ghost use Rattle.text_set.specs.TextSet.{AreDistinct, Holds, IsInterned};
 
-use crate::find::{Keys, hash_of};
-use crate::insert::insert;
+use crate::change::{Change, Unchanged};
+use crate::find::Keys;
+use crate::place::place_last;
 use indexmap::IndexSet;
 use packed_texts::PackedTexts;
 use std::alloc::{AllocError, Allocator, Global};
@@ -107,7 +108,6 @@ impl<S: BuildHasher, A: Allocator> TextSet<S, A> {
     /// The position of this text. The text is appended if it isn't there.
     ///
     /// If this runs out of memory, the texts stay as they were.
-    #[tactic(auto, using(crate::proofs::TextSetLaws::few_texts, crate::proofs::TextKeyLaws::lead_to))]
     pub fn intern(&mut self, text: &[u8]) -> Result<usize, AllocError>
         requires padded { length text.now % 4 ≡ 0 }
         requires long { 4 ≤ length text.now }
@@ -117,9 +117,44 @@ impl<S: BuildHasher, A: Allocator> TextSet<S, A> {
         ensures err { IfErr result (λ _. self.new ≡ self.old) }
         ensures small { length self.new < 2 ^ 31 }
     {
-        let hash = hash_of(&self.hasher, text);
-        let position = insert(&mut self.texts, &mut self.keys, text, hash)?;
+        let Some(position) = self.intern_changed(text, &Unchanged)? else {
+            unreachable!();
+        };
         Ok(position)
+    }
+
+    /// The position of what a change makes of this text, which is appended if it isn't there.
+    /// `None` where the change makes nothing of the text.
+    ///
+    /// The text is changed where it will stand. Unless a position is returned, the texts stay as
+    /// they were.
+    #[inline(always)]
+    pub fn intern_changed<C: Change>(
+        &mut self,
+        text: &[u8],
+        change: &C,
+    ) -> Result<Option<usize>, AllocError>
+        requires takes { C.takes change.now text.now }
+        requires padded { length text.now % 4 ≡ 0 }
+        requires long { 4 ≤ length text.now }
+        requires few { length (concat self.old) + length text.now < 2 ^ 33 }
+        ensures found { IfOk result (λ found.
+            IfSome found (IsInterned (C.makes change.now text.now) self.old self.new)) }
+        ensures same { IfOk result (λ found.
+            IfSome found (λ k. length (get_or self.new k []) ≡ length text.now)) }
+        ensures none { IfOk result (λ found.
+            IfNone found (C.refuses change.now text.now × (self.new ≡ self.old))) }
+        ensures err { IfErr result (λ _. self.new ≡ self.old) }
+        ensures small { length self.new < 2 ^ 31 }
+    {
+        let last = self.texts.len();
+        // If memory is refused here, nothing has changed.
+        self.texts.push(text)?;
+        // If it is refused here, the text gets no key.
+        let found = place_last(&mut self.texts, &mut self.keys, &self.hasher, last, change);
+        // A text that got no key is cut off again.
+        self.texts.truncate(self.keys.len());
+        found
     }
 
     /// Keeps the first `len` texts, and removes the others. This does not allocate.

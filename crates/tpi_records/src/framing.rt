@@ -15,6 +15,7 @@ pub const STRIDE: usize = 16;
 
 /// The length in bytes of the record that begins at `start`. Its type index is `index`, which a
 /// fault names.
+#[inline(always)]
 fn record_len(bytes: &[u8], start: usize, index: u32) -> Result<usize, TpiFault>
     requires { start < length bytes.now }
     ensures field { IfOk result (λ whole. whole ≡ number_at 2 bytes.now start + 2) }
@@ -44,6 +45,7 @@ fn record_len(bytes: &[u8], start: usize, index: u32) -> Result<usize, TpiFault>
 /// The faults are those of a record in [`Records::read`](crate::Records::read), in the same order:
 /// `RecordShort`, `RecordLen`, `RecordShort`. This does not allocate.
 /// ("The PDB TPI and IPI Streams", "Type Records".)
+#[inline(always)]
 pub fn first_record(bytes: &[u8], index: u32) -> Result<&[u8], TpiFault>
     ensures value { IfOk result (λ r. BeginsWith bytes.now r.now) }
     // Bytes that begin with a record are never refused.

@@ -31,7 +31,7 @@ pub canon_short : (records : List (List ℕ)) → IsCanon records → length (co
 canon_short records c = omega (arith, ap (λ (x : List (List ℕ)). length (concat x)) c.are, weight_of_texts c.trees c.canonical, c.canonical.light)
 
 -- each text is made of bytes if all texts together are
-bytes_each : (xs : List (List ℕ)) → AreBytes (concat xs) → (i : ℕ) → i < length xs → AreBytes (get_or xs i [])
+pub bytes_each : (xs : List (List ℕ)) → AreBytes (concat xs) → (i : ℕ) → i < length xs → AreBytes (get_or xs i [])
 bytes_each [] bytes i inside = absurd (omega (arith, inside))
 bytes_each (x ∷ xs) bytes zero inside = λ k. elim (cases_lt k (length x)) [
   | inl low ↦ rw (← get_or_append_left x (concat xs) 0 k low) (bytes k)

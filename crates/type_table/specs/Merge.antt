@@ -6,6 +6,7 @@ use Rattle.text_set.specs.TextSet.{Holds}
 use Rattle.tpi_records.specs.Records.{Begins, HasRecords}
 use Rattle.cv_leaves.specs.Place.{IsChecked}
 use Rattle.cv_leaves.specs.References.{references}
+use Rattle.cv_leaves.specs.Named.{named_places}
 use Rattle.closed_trees.specs.Tree.{Tree, IsType}
 use Rattle.closed_trees.specs.Types.{AreTypes, NamesThere}
 use Rattle.closed_trees.specs.Table.{IsTable, IsUnion, renumbered}
@@ -14,6 +15,13 @@ use Rattle.closed_trees.specs.Canon.{weight}
 -- the list begins with `front`
 abbrev pub StartsWith : {A : Type 0} → List A → List A → Type 0
 StartsWith list front = (length front ≤ length list) × (take (length front) list ≡ front)
+
+-- this is r with the numbers of the records that it names, which all have one;
+-- it names records at the same places
+pub record IsRenumbered (numbers r made : List ℕ) : Type 0 where
+  pub value : made ≡ renumbered (λ k. get_or numbers k 0) r
+  pub there : NamesThere (length numbers) (references r)
+  pub still : named_places made ≡ named_places r
 
 -- r has places and names only records that have a number;
 -- renumbered, it is at k in the texts `after`, which have at most this one text more than `before`

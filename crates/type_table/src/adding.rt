@@ -18,11 +18,12 @@ ghost use Rattle.type_table.specs.Numbers.{AreNumbers};
 
 use crate::becomes::is_at;
 use checked_types::{Types, record_at};
-use closed_trees::renumber_into;
+use closed_trees::renumber_in_place;
 use cv_leaves::list_places;
 use record_set::RecordSet;
 use std::alloc::{AllocError, Allocator};
 use std::hash::BuildHasher;
+use text_set::Change;
 use tpi_records::{FIRST_INDEX, first_record};
 
 /// Each number of a `&[u8]` is a byte. This function does nothing: its contract is the fact.
@@ -30,13 +31,34 @@ pub fn are_bytes(text: &[u8])
     ensures { AreBytes text.now }
 {}
 
-/// The memory in which a record is made ready for the set. It serves one record after the other.
-#[derive(Debug, Drop)]
-struct Renumbered<A: Allocator> {
-    // the record with its new type indices
-    bytes: Vec<u8, A>,
-    // the places at which it names other records
-    places: Vec<u16, A>,
+/// New type indices for a record, which are written over its references.
+#[derive(Drop)]
+struct Renumbering<'n> {
+    // the places at which the record names other records
+    places: &'n [u16],
+    // for each record that may be named, its position in the set
+    numbers: &'n [u32],
+}
+
+impl Change for Renumbering<'_> {
+    ghost use Rattle.std.specs.Prelude.{◌≡◌};
+    ghost use Rattle.tpi_records.specs.Records.{IsRecord};
+    ghost use Rattle.cv_leaves.specs.Place.{IsChecked};
+    ghost use Rattle.cv_leaves.specs.References.{references};
+    ghost use Rattle.cv_leaves.specs.Named.{named_places};
+    ghost use Rattle.closed_trees.specs.Table.{AreNumbered};
+    ghost use Rattle.type_table.specs.Merge.{IsRenumbered};
+
+    ghost takes = { λ change r.
+        IsRecord r × IsChecked r × (change.places.now ≡ named_places r) };
+
+    ghost makes = { λ change r made. IsRenumbered change.numbers.now r made };
+
+    ghost refuses = { λ change r. AreNumbered change.numbers.now (references r) → ⊥ };
+
+    fn write_over(&self, text: &mut [u8]) -> bool {
+        renumber_in_place(text, self.places, self.numbers)
+    }
 }
 
 // The memory of an input with more records is given back after it.
@@ -47,7 +69,8 @@ const KEPT_NUMBERS: usize = 1 << 16;
 pub struct Workspace<A: Allocator> {
     // for each record of the input, its position in the set, or 0 where it has none yet
     numbers: Vec<u32, A>,
-    copy: Renumbered<A>,
+    // the places at which one record names others
+    places: Vec<u16, A>,
 }
 
 impl<A: Allocator + Copy> Workspace<A> {
@@ -55,10 +78,7 @@ impl<A: Allocator + Copy> Workspace<A> {
     pub fn new(alloc: A) -> Workspace<A> {
         Workspace {
             numbers: Vec::new(alloc),
-            copy: Renumbered {
-                bytes: Vec::new(alloc),
-                places: Vec::new(alloc),
-            },
+            places: Vec::new(alloc),
         }
     }
 
@@ -66,7 +86,7 @@ impl<A: Allocator + Copy> Workspace<A> {
     pub fn into_numbers(self) -> Vec<u32, A>
         ensures { result.items ≡ self.numbers.items }
     {
-        let Workspace { numbers, copy: _ } = self;
+        let Workspace { numbers, places: _ } = self;
         numbers
     }
 
@@ -83,10 +103,12 @@ impl<A: Allocator + Copy> Workspace<A> {
 ///
 /// `numbers` has the positions in the set of the records that may be named. `guess` is the position
 /// where the record is looked for first. Unless a position is returned, the set stays as it was.
+// Two loops call this for each record, and one of them is seldom used.
+#[inline(always)]
 #[tactic(auto, using(closed_trees::proofs::RenumberLaws::padded_record, closed_trees::proofs::RenumberLaws::long_record, closed_trees::proofs::RenumberLaws::renumbered_long, closed_trees::proofs::NamedLaws::listed_short))]
 fn put_record<S: BuildHasher, A: Allocator>(
     records: &mut RecordSet<S, A>,
-    copy: &mut Renumbered<A>,
+    places: &mut Vec<u16, A>,
     bytes: &[u8],
     numbers: &[u32],
     guess: usize,
@@ -104,14 +126,14 @@ fn put_record<S: BuildHasher, A: Allocator>(
     if is_at(records, guess, bytes, numbers) {
         return Ok(Some(guess));
     }
-    if !list_places(bytes, &mut copy.places)? {
+    if !list_places(bytes, places)? {
         return Ok(None);
     }
-    if !renumber_into(&mut copy.bytes, bytes, &copy.places, numbers)? {
+    let change = Renumbering { places, numbers };
+    let Some(position) = records.intern_changed(bytes, places, &change)? else {
         return Ok(None);
-    }
-    are_bytes(&copy.bytes);
-    let position = records.intern(&copy.bytes, &copy.places)?;
+    };
+    are_bytes(records.bytes());
     Ok(Some(position))
 }
 
@@ -131,7 +153,7 @@ pub fn add_framed<S: BuildHasher, A: Allocator>(
         IsTrue all → AreFramedAdded count bytes.now records.old records.new) }
     ensures front { StartsWith records.new records.old }
 {
-    let Workspace { numbers, copy } = work;
+    let Workspace { numbers, places } = work;
     // A record has at least four bytes, so the count takes no more memory than the bytes.
     if bytes.len() / 4 < count as usize {
         return Ok(false);
@@ -144,7 +166,7 @@ pub fn add_framed<S: BuildHasher, A: Allocator>(
         let Ok(record) = first_record(left, FIRST_INDEX) else {
             return Ok(false);
         };
-        let Some(found) = put_record(records, copy, record, numbers, guess)? else {
+        let Some(found) = put_record(records, places, record, numbers, guess)? else {
             return Ok(false);
         };
         numbers.push(found as u32)?;
@@ -173,14 +195,14 @@ pub fn add_in_order<S: BuildHasher, A: Allocator + Copy>(
 {
     let many = types.len();
     let order = types.in_order();
-    let Workspace { numbers, copy } = work;
+    let Workspace { numbers, places } = work;
     numbers.clear();
     numbers.resize(many, 0)?;
     let mut guess = 0;
     let mut cursor = types.records().cursor();
     for position in order {
         let record = record_at(&mut cursor, position);
-        let Some(found) = put_record(records, copy, record, numbers, guess)? else {
+        let Some(found) = put_record(records, places, record, numbers, guess)? else {
             unreachable!();
         };
         numbers[position] = found as u32;

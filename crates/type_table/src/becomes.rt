@@ -80,6 +80,7 @@ pub fn becomes(bytes: &[u8], numbers: &[u32], entry: &[u8], places: &[u16]) -> b
 }
 
 /// Whether a record becomes the record at this position of a table.
+#[inline(always)]
 #[tactic(auto, using(crate::proofs::GuessLaws::entry_framed, crate::proofs::GuessLaws::entry_checked, crate::proofs::GuessLaws::entry_bytes))]
 pub fn is_at<S: BuildHasher, A: Allocator>(
     records: &RecordSet<S, A>,
