@@ -21,20 +21,22 @@ use Rattle.record_set.specs.RecordSet.{HasNamedPlaces}
 use Rattle.record_set.proofs.PlaceLaws.{places_at}
 use Rattle.cv_leaves.specs.Place.{IsChecked}
 use Rattle.cv_leaves.specs.References.{references}
-use Rattle.closed_trees.specs.Tree.{Tree, IsType, NamesLower}
-use Rattle.closed_trees.specs.Depth.{AreDepths, HasLevels}
-use Rattle.closed_trees.specs.Canon.{text, texts, Canonical}
+use Rattle.closed_trees.specs.Tree.{Tree, nothing, IsTreeAt, IsType, NamesLower}
+use Rattle.closed_trees.specs.Depth.{AreDepths, HasLevels, depth}
+use Rattle.closed_trees.specs.Canon.{position_in, text, texts, Canonical}
 use Rattle.closed_trees.specs.Table.{IsTable, AreNumbered, renumbered}
 use Rattle.canonical_list.specs.Links.{NoneFrom}
 use Rattle.canonical_list.specs.declared.row.Row.{Row}
 use Rattle.canonical_list.specs.Rows.{row, positions, AreInOrder, HasHead, HaveHeads}
+use Rattle.canonical_list.specs.Numbers.{AreNumbers}
 use Rattle.canonical_list.specs.Finish.{AtLevel, Numbered, CanRenumber, RowsMade, IsCanonOf}
 use Rattle.closed_trees.proofs.WeightLaws.{weight-none, weight_of_texts}
 use Rattle.closed_trees.proofs.RenumberLaws.{renumbered_long}
 use Rattle.closed_trees.proofs.NextLaws.{HoldsBelow, in_range, table_weighs_all}
 use Rattle.canonical_list.proofs.LinkLaws.{bound}
 use Rattle.canonical_list.proofs.RowLaws.{rows_continue, numbers_continue, AreRows, LevelOf, Numbers}
-use Rattle.closed_trees.proofs.ReadLaws.{weight-many}
+use Rattle.closed_trees.proofs.ReadLaws.{canonical_reads_back, weight-many}
+use Rattle.closed_trees.proofs.SameLaws.{get_or-position_in, position_in-lt-length}
 use Rattle.tpi_records.specs.Header.{first_index}
 
 -- `out` is the canonical list of those types of r that are less deep than d, and f gives the position of each in it
@@ -342,6 +344,15 @@ listed_all r levels out f has l = (
   ),
 )
 
+-- the number of each record is the position of its tree in the list
+listed_stand : (r : List (List ℕ)) (levels : ℕ) (out : List (List ℕ)) (f : ℕ → ℕ) → HasLevels r levels → ListsBelow r levels out f → (i : ℕ) (t : Tree) → IsTreeAt r i t → IsTreeAt out (f i) t
+listed_stand r levels out f has l i t at =
+    let deep : depth t < levels = has.all i t (in_range r i t at) at in
+    let p : ℕ = position_in l.trees t in
+    let inside : p < length l.trees = position_in-lt-length l.trees t ((l.holds t).1 ((i, at), deep)) in
+    let there : IsTreeAt (texts l.trees) p (get_or l.trees p nothing) = (canonical_reads_back l.trees l.canonical).stand p inside in
+    rw (l.are, l.numbers i t at deep) (subst (λ (u : Tree). IsTreeAt (texts l.trees) p u) (get_or-position_in l.trees t inside) there)
+
 -- ---- The order so far
 
 -- the records that are less deep than d are listed: `order` has their positions in canonical order, and `numbers` the position of each in it; they became their rows in `now`, and all others are as they are in the table r
@@ -461,4 +472,10 @@ pub listing_order : (r now : List (List ℕ)) (depths : List ℕ) (levels : ℕ)
 listing_order r now depths levels order numbers table has l = record {
   inside = λ k d inside. let b = l.below k d inside in omega (arith, b.0, l.many);
   whole = canon_weighs r (texts_at now order) table (listing_canon r now depths levels order numbers has l) ∙ sym (as_many now r l.many l.long);
+}
+
+pub listing_numbers : (r now : List (List ℕ)) (depths : List ℕ) (levels : ℕ) (order numbers : List ℕ) → HasLevels r levels → IsListing r now depths levels order numbers → AreNumbers r (texts_at now order) numbers
+listing_numbers r now depths levels order numbers has l = record {
+  many = l.numbered;
+  stand = listed_stand r levels (texts_at now order) (λ k. get_or numbers k 0) has l.listed;
 }

@@ -10,10 +10,11 @@ ghost use Rattle.std.specs.List.{All, concat};
 ghost use Rattle.std.specs.List.Sorted.{IsPermutation};
 ghost use Rattle.packed_texts.specs.PackedTexts.{texts_at, IsOrder};
 ghost use Rattle.record_set.specs.RecordSet.{HasNamedPlaces};
-ghost use Rattle.closed_trees.specs.Depth.{HasDepths};
+ghost use Rattle.closed_trees.specs.Depth.{HasDepths, AreBelow};
 ghost use Rattle.closed_trees.specs.Tree.{IsType};
 ghost use Rattle.closed_trees.specs.Table.{IsTable, renumbered};
 ghost use Rattle.canonical_list.specs.Rows.{positions, row_bytes, AreInOrder, HaveHeads};
+ghost use Rattle.canonical_list.specs.Numbers.{AreNumbers};
 ghost use Rattle.canonical_list.specs.Finish.{AtLevel, Numbered, CanRenumber, RowsMade, IsCanonOf};
 
 use crate::levels::Levels;
@@ -22,7 +23,7 @@ use crate::sort::{ROUNDS, sort_rows};
 use closed_trees::{levels_of, renumber_in_place};
 use packed_texts::PackedTexts;
 use record_set::PlaceLists;
-use std::alloc::{AllocError, Allocator};
+use std::alloc::{AllocError, Allocator, Global};
 
 /// Makes a record its row.
 fn put_row<A: Allocator>(
@@ -102,8 +103,17 @@ fn number_rows<A: Allocator>(
     Ok(())
 }
 
-/// Puts the types of a table in canonical order: returns the positions of their records in this
-/// order. Each record gets the type indices of the canonical list.
+/// The canonical order of a table.
+#[derive(Debug, Drop)]
+pub struct CanonicalOrder<A: Allocator = Global> {
+    /// The positions of the records in the table, in canonical order.
+    pub order: Vec<u32, A>,
+    /// For each record of the table, its position in the canonical list.
+    pub numbers: Vec<u32, A>,
+}
+
+/// Puts the types of a table in canonical order. Each record gets the type indices of the canonical
+/// list.
 ///
 /// `places` has the places at which each record names others, and `depths` the depth of each type.
 /// If this runs out of memory, some of the records have other type indices than before.
@@ -113,14 +123,18 @@ pub fn canonical_order<A: Allocator + Copy>(
     records: &mut PackedTexts<A>,
     places: &PlaceLists<A>,
     depths: &[u32],
-) -> Result<Vec<u32, A>, AllocError>
+) -> Result<CanonicalOrder<A>, AllocError>
     requires table { IsTable records.old }
     requires short { length (concat records.old) < 2 ^ 32 }
     requires listed { HasNamedPlaces records.old places.now }
     requires known { HasDepths records.old depths.now }
-    ensures order { IfOk result (λ order. IsOrder records.new order.items) }
-    ensures canon { IfOk result (λ order.
-        IsCanonOf (texts_at records.new order.items) (IsType records.old)) }
+    ensures order { IfOk result (λ found. IsOrder records.new found.order.items) }
+    ensures canon { IfOk result (λ found.
+        IsCanonOf (texts_at records.new found.order.items) (IsType records.old)) }
+    // The type of each record is in the list at the number of the record.
+    ensures numbers { IfOk result (λ found. AreNumbers
+        records.old (texts_at records.new found.order.items) found.numbers.items) }
+    ensures small { IfOk result (λ found. AreBelow (2 ^ 31) found.numbers.items) }
 {
     let levels = levels_of(depths);
     let chained = Levels::of(alloc, depths, levels)?;
@@ -133,5 +147,5 @@ pub fn canonical_order<A: Allocator + Copy>(
         sort_level(&mut rows, records);
         number_rows(&rows, &mut numbers, &mut order)?;
     }
-    Ok(order)
+    Ok(CanonicalOrder { order, numbers })
 }

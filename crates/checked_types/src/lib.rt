@@ -35,7 +35,7 @@
 //!         return Err("no stream".into());
 //!     };
 //!     // each record names only earlier ones, so the records can be added as they stand
-//!     assert!(rt; table.add_stream(rt.alloc(), stream, 1000));
+//!     assert!(rt; table.add_stream(rt.alloc(), stream, 1000, &mut NoMaps));
 //!     let canon = table.finish(rt.alloc())?;
 //!     assert_eq!(rt; canon.len(), 2);
 //!     assert_eq!(rt; canon.get(1), Some(TO_INT));

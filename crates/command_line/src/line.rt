@@ -49,7 +49,7 @@ pub enum GuidChoice {
 }
 
 /// `merge --guid G --age N [--limit L] [--block-size B] [--max-bytes N] [--files-from LIST] [-0]
-/// [--progress] OUT IN...`
+/// [--map MAP] [--progress] OUT IN...`
 #[derive(Debug, Drop)]
 pub struct Merging {
     pub settings: Settings,
@@ -57,6 +57,8 @@ pub struct Merging {
     pub out: String,
     pub inputs: Vec<String>,
     pub list: Option<PathList>,
+    /// The file for the maps of the inputs.
+    pub map: Option<String>,
     pub shows_progress: bool,
     pub max_bytes: u32,
 }
@@ -249,6 +251,14 @@ fn list_of(alloc: Global, arguments: &ArgMatches<'_>) -> Result<Option<PathList>
     Ok(Some(PathList { path, end }))
 }
 
+/// The path of the file for the maps, where there is one.
+fn map_of(alloc: Global, arguments: &ArgMatches<'_>) -> Result<Option<String>, LineFault> {
+    match arguments.get_str("map") {
+        Some(path) => Ok(Some(String::from_str(alloc, path)?)),
+        None => Ok(None),
+    }
+}
+
 /// What `merge` is asked for.
 fn merging_of(alloc: Global, arguments: &ArgMatches<'_>) -> Result<Merging, LineFault> {
     let (naming, guid) = guid_of(arguments)?;
@@ -258,6 +268,7 @@ fn merging_of(alloc: Global, arguments: &ArgMatches<'_>) -> Result<Merging, Line
         out: argument_of(alloc, arguments, "OUT")?,
         inputs: all_of(alloc, arguments, "IN")?,
         list: list_of(alloc, arguments)?,
+        map: map_of(alloc, arguments)?,
         shows_progress: arguments.get_flag("progress"),
         max_bytes: max_bytes_of(arguments)?,
     })

@@ -152,7 +152,7 @@ const VERBOSE: Choice = Choice {
 };
 
 /// The options of `merge`.
-static OF_MERGE: [Choice; 9] = [
+static OF_MERGE: [Choice; 10] = [
     Choice {
         name: "guid",
         short: None,
@@ -194,6 +194,13 @@ static OF_MERGE: [Choice; 9] = [
         short: Some('0'),
         value: None,
         help: "The paths of LIST end with a NUL, as those of find -print0 do",
+        is_required: false,
+    },
+    Choice {
+        name: "map",
+        short: None,
+        value: Some("MAP"),
+        help: "A file for a line for each record of the inputs: the input, its type index, its new type index",
         is_required: false,
     },
     Choice {

@@ -1,5 +1,6 @@
 pub mod DifferenceLaws
 pub mod RecordsLaws
+pub mod MapsLaws
 pub mod StreamsLaws
 pub mod TextLaws
 pub mod TakeLaws

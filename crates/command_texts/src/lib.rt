@@ -3,7 +3,7 @@
 //! [`push_index`], [`push_kind`], [`push_named`] and [`push_quoted`] append a number, a line with a
 //! name and a number, or bytes in quotes. The others make what one command prints, or a part of it:
 //! [`record_text`], [`record_lines`], [`push_type_line`], [`layout_text`], [`push_checked`],
-//! [`push_difference`], and for `info` [`push_info_header`], [`push_names`] and [`push_features`].
+//! [`push_difference`], [`push_map`], and for `info` [`push_info_header`], [`push_names`] and [`push_features`].
 //!
 //! What is proved: if a call returns Ok, the text is the old text followed by the bytes that
 //! `specs/` defines for the values. The only fault is out of memory, and nothing is said of the
@@ -36,6 +36,7 @@ mod check;
 mod difference;
 mod hexadecimal;
 mod info;
+mod maps;
 mod plain;
 mod record;
 mod records;
@@ -46,6 +47,7 @@ mod types;
 pub use check::push_checked;
 pub use difference::{Scope, push_difference};
 pub use info::{push_features, push_info_header, push_names};
+pub use maps::push_map;
 pub use plain::is_plain;
 pub use record::record_text;
 pub use records::record_lines;

@@ -4,6 +4,9 @@ use Rattle.std.specs.Io.KnownBytes.{Appends}
 use Rattle.byte_io.specs.Inputs.{CanRead, Give}
 use Rattle.byte_io.specs.declared.inputs.InputFault.{InputFault}
 use Rattle.msf_streams.specs.Put.{AppendsPart}
+use Rattle.canonical_list.specs.Finish.{IsCanonOf}
+use Rattle.pdb_merge.specs.Union.{HasType}
+use Rattle.pdb_merge.specs.Merging.{AreMapsOf}
 use Rattle.pdb_merge.specs.Answer.{AcceptsFiles, RefusesFiles, RefusesReading, Writes, WritesPart}
 use Rattle.pdb_merge.specs.Fault.{NamesFault}
 use Rattle.pdb_merge.specs.declared.summary.Summary.{Summary}
@@ -38,6 +41,11 @@ abbrev pub WroteAndBrokeOff : Writes → Option (List ℕ) → Option (List ℕ)
 WroteAndBrokeOff wrote old new told_before told_after =
     (summary : Summary) × wrote old new summary
     × AppendsPart told_before told_after (summary_lines summary)
+
+-- these are the maps of the files into the canonical list of their types
+abbrev pub AreMapsInto : List (List ℕ) → List (List ℕ) → Type 0
+AreMapsInto files maps =
+    (list : List (List ℕ)) → IsCanonOf list (HasType files) → AreMapsOf files list maps
 
 -- a fault that the command can have: a fault of merging, which is not out of memory; or out of
 -- memory; or that a sink broke

@@ -1,18 +1,19 @@
 //! The command `merge`: writes one file with the types of all files, each once.
 
-ghost use Rattle.std.specs.Prelude.{◌≡◌, ◌⊎◌, ◌++◌, true, OnOk, IfErr, string_bytes};
+ghost use Rattle.std.specs.Prelude.{◌≡◌, ◌⊎◌, ◌++◌, ℕ, List, true, OnOk, IfOk, IfErr, IfSome, string_bytes};
 ghost use Rattle.std.specs.Io.KnownBytes.{Appends};
 ghost use Rattle.msf_streams.specs.Put.{AppendsPart};
 ghost use Rattle.pdb_info.specs.Settings.{record_limit};
 ghost use Rattle.pdb_merge.specs.Merged.{Wrote, WrotePart};
 ghost use Rattle.types_guid.specs.Merge.{WroteByTypes, WrotePartByTypes};
-ghost use Rattle.pdb_commands.specs.Merge.{summary_lines, MergesInto};
+ghost use Rattle.byte_io.specs.Inputs.{Give};
+ghost use Rattle.pdb_commands.specs.Merge.{summary_lines, AreMapsInto, MergesInto};
 
 use crate::fault::RunFault;
 use byte_io::{Inputs, Sink, put_all};
 use command_texts::push_named;
 use pdb_info::Settings;
-use pdb_merge::{Summary, merge_to};
+use pdb_merge::{KeepMaps, Summary, merge_to, merge_to_with};
 use std::alloc::{AllocError, Allocator};
 use std::hash::BuildHasher;
 use types_guid::merge_by_types;
@@ -76,16 +77,17 @@ pub fn run_merge<I: Inputs + Drop, W: Sink, V: Sink, S: BuildHasher + Drop, A: A
     report_on(alloc, &summary, report)
 }
 
-/// Runs the command `merge` with a GUID that is made of the types: that of
-/// [`types_guid::guid_of_types`]. The GUID of the settings is not used.
+/// Runs the command `merge` as [`run_merge`] does, and gives the map of each file into the list that was
+/// written.
 ///
-/// Everything else is as in [`run_merge`].
-pub fn run_merge_by_types<
+/// [`TypeMaps`](pdb_merge::TypeMaps) keeps the maps, and [`NoMaps`](pdb_merge::NoMaps) keeps none.
+pub fn run_merge_with<
     I: Inputs + Drop,
     W: Sink,
     V: Sink,
     S: BuildHasher + Drop,
     A: Allocator + Copy,
+    K: KeepMaps + Drop,
 >(
     alloc: A,
     files: I,
@@ -93,11 +95,46 @@ pub fn run_merge_by_types<
     out: &mut W,
     report: &mut V,
     hasher: S,
-) -> Result<(), RunFault<A>>
-    ensures { MergesInto (I.known files) (record_limit settings.now)
+    maps: K,
+) -> Result<K, RunFault<A>>
+    ensures merges { MergesInto (I.known files) (record_limit settings.now)
+        (λ given. Wrote given settings.now) (λ given. WrotePart given settings.now)
+        W.taken W.is_broken out.old out.new V.taken V.is_broken report.old report.new result }
+    ensures maps { (given : List (List ℕ)) → Give (I.known files) given →
+        IfOk result (λ kept. IfSome (K.maps kept) (AreMapsInto given)) }
+{
+    let (summary, maps) = merge_to_with(alloc, files, settings, out, hasher, maps)?;
+    report_on(alloc, &summary, report)?;
+    Ok(maps)
+}
+
+/// Runs the command `merge` with a GUID that is made of the types: that of
+/// [`types_guid::guid_of_types`]. The GUID of the settings is not used.
+///
+/// Everything else is as in [`run_merge_with`].
+pub fn run_merge_by_types<
+    I: Inputs + Drop,
+    W: Sink,
+    V: Sink,
+    S: BuildHasher + Drop,
+    A: Allocator + Copy,
+    K: KeepMaps + Drop,
+>(
+    alloc: A,
+    files: I,
+    settings: &Settings,
+    out: &mut W,
+    report: &mut V,
+    hasher: S,
+    maps: K,
+) -> Result<K, RunFault<A>>
+    ensures merges { MergesInto (I.known files) (record_limit settings.now)
         (λ given. WroteByTypes given settings.now) (λ given. WrotePartByTypes given settings.now)
         W.taken W.is_broken out.old out.new V.taken V.is_broken report.old report.new result }
+    ensures maps { (given : List (List ℕ)) → Give (I.known files) given →
+        IfOk result (λ kept. IfSome (K.maps kept) (AreMapsInto given)) }
 {
-    let summary = merge_by_types(alloc, files, settings, out, hasher)?;
-    report_on(alloc, &summary, report)
+    let (summary, maps) = merge_by_types(alloc, files, settings, out, hasher, maps)?;
+    report_on(alloc, &summary, report)?;
+    Ok(maps)
 }

@@ -8,7 +8,7 @@ use Rattle.pdb_info.specs.Settings.{SettingsView, AreSettings, record_limit}
 use Rattle.closed_trees.specs.Tree.{Tree, IsType}
 use Rattle.closed_trees.specs.Canon.{texts}
 use Rattle.canonical_list.specs.Finish.{IsCanonOf}
-use Rattle.pdb_merge.specs.Answer.{AcceptsFiles, MergesTo, Writes, WritesPart}
+use Rattle.pdb_merge.specs.Answer.{AcceptsFiles, MergesTo, WritesWith, WritesPart}
 use Rattle.file_types.specs.Read.{IsAccepted}
 use Rattle.closed_trees.proofs.WeightLaws.{weight_of_texts}
 use Rattle.closed_trees.proofs.CanonLaws.{one_canonical_list}
@@ -112,14 +112,14 @@ earlier_merge settings are files others x within merged t =
 -- ---- what a sink took
 
 -- the records of a canonical list have as many bytes as its types
-canon_weighs : (P : Tree → Type 0) (records : List (List ℕ)) (bytes : ℕ) → IsCanonOf records P → bytes ≡ length (concat records) → Weighs P bytes
+pub canon_weighs : (P : Tree → Type 0) (records : List (List ℕ)) (bytes : ℕ) → IsCanonOf records P → bytes ≡ length (concat records) → Weighs P bytes
 canon_weighs P records bytes (l, canonical, are, members) is =
     (l, record { distinct = canonical.distinct; members = members }, sym (is ∙ ap (λ (x : List (List ℕ)). length (concat x)) are ∙ weight_of_texts l canonical))
 
-wrote : {E : Type 0} (IsFile : List ℕ → List (List ℕ) → Type 0) (files : List (List ℕ)) (settings : SettingsView) (records : List (List ℕ)) (old new : Option (List ℕ)) (answer : Result Summary E)
-    → IsFile (merged_file settings records) records → IsCanonOf records (HasType files)
-    → IfOk answer (WroteFile records settings old new) → IfOk answer (WroteAs IsFile files old new)
-wrote IsFile files settings records old new (Ok summary) is canon did = record {
+-- the file of a list, as that of the types of some files
+unfoldable pub wrote_as : (IsFile : List ℕ → List (List ℕ) → Type 0) (files : List (List ℕ)) (settings : SettingsView) (records : List (List ℕ)) (old new : Option (List ℕ)) (summary : Summary)
+    → IsFile (merged_file settings records) records → IsCanonOf records (HasType files) → WroteFile records settings old new summary → WroteAs IsFile files old new summary
+wrote_as IsFile files settings records old new summary is canon did = record {
   file = merged_file settings records;
   records = records;
   taken = did.taken;
@@ -128,9 +128,8 @@ wrote IsFile files settings records old new (Ok summary) is canon did = record {
   bytes = canon_weighs (HasType files) records summary.bytes canon did.bytes;
   long = did.long;
 }
-wrote IsFile files settings records old new (Err fault) is canon did = tt
 
-wrote_part : {A E : Type 0} (IsFile : List ℕ → List (List ℕ) → Type 0) (settings : SettingsView) (records : List (List ℕ)) (old new : Option (List ℕ)) (e : E) (answer : Result A E)
+pub wrote_part : {A E : Type 0} (IsFile : List ℕ → List (List ℕ) → Type 0) (settings : SettingsView) (records : List (List ℕ)) (old new : Option (List ℕ)) (e : E) (answer : Result A E)
     → IsFile (merged_file settings records) records
     → IfErr answer (λ fault. fault ≡ e → AppendsPart old new (merged_file settings records)) → IfErr answer (λ fault. fault ≡ e → WrotePartAs IsFile old new)
 wrote_part IsFile settings records old new e (Ok done) is part = tt
@@ -140,10 +139,10 @@ wrote_part IsFile settings records old new e (Err fault) is part = λ same.
 -- ---- the answer of a merge whose files were accepted
 
 -- the answer of writing is that of the merge
-merges_to : {A W : Type 0} (known : Option (List (Result (List ℕ) InputFault))) (limit : ℕ)
-    (wrote : List (List ℕ) → Writes) (part : List (List ℕ) → WritesPart)
+pub merges_to : {A W T : Type 0} (known : Option (List (Result (List ℕ) InputFault))) (limit : ℕ)
+    (wrote : List (List ℕ) → WritesWith T) (part : List (List ℕ) → WritesPart)
     (taken : W → Option (List ℕ)) (is_broken : W → Bool) (before after : W)
-    (result : Result Summary (OutFault A)) → AcceptsFiles known limit
+    (result : Result T (OutFault A)) → AcceptsFiles known limit
     → ((given : List (List ℕ)) → Give known given
     → IfOk result (wrote given (taken before) (taken after)))
     → ((given : List (List ℕ)) → Give known given
@@ -152,7 +151,7 @@ merges_to : {A W : Type 0} (known : Option (List (Result (List ℕ) InputFault))
     → IfErr result (λ fault. fault ≡ outs.Write → is_broken after ≡ true)
     → IfErr result (λ fault. fault ≢ outs.Write → after ≡ before)
     → MergesTo known limit wrote part taken is_broken before after result
-merges_to known limit wrote part taken is_broken before after (Ok summary) accepts value write fault broken untouched = record {
+merges_to known limit wrote part taken is_broken before after (Ok done) accepts value write fault broken untouched = record {
   value = value;
   accepts = accepts;
   refuses = tt;
@@ -170,24 +169,3 @@ merges_to known limit wrote part taken is_broken before after (Err fault) accept
   write = write;
   untouched = untouched;
 }
-
--- where the file of the list of their types was written, the merge answers so
-pub merges_as : {A W : Type 0} (known : Option (List (Result (List ℕ) InputFault))) (limit : ℕ)
-    (IsFile : List (List ℕ) → List ℕ → List (List ℕ) → Type 0) (settings : SettingsView)
-    (records : List (List ℕ)) (taken : W → Option (List ℕ)) (is_broken : W → Bool)
-    (before after : W) (result : Result Summary (OutFault A))
-    → IfOk result (WroteFile records settings (taken before) (taken after))
-    → AcceptsFiles known limit
-    → ((given : List (List ℕ)) → Give known given → IsCanonOf records (HasType given))
-    → ((given : List (List ℕ)) → Give known given → IsFile given (merged_file settings records) records)
-    → IfErr result (λ fault. (fault ≡ outs.Memory) ⊎ (fault ≡ outs.Write))
-    → IfErr result (λ fault. fault ≡ outs.Write → is_broken after ≡ true)
-    → IfErr result (λ fault. fault ≡ outs.Write
-    → AppendsPart (taken before) (taken after) (merged_file settings records))
-    → IfErr result (λ fault. fault ≢ outs.Write → after ≡ before)
-    → MergesTo known limit (λ given. WroteAs (IsFile given) given) (λ given. WrotePartAs (IsFile given)) taken is_broken before after result
-merges_as known limit IsFile settings records taken is_broken before after result value accepts canon file fault broken write untouched =
-    merges_to known limit (λ given. WroteAs (IsFile given) given) (λ given. WrotePartAs (IsFile given)) taken is_broken before after result accepts
-    (λ given gives. wrote (IsFile given) given settings records (taken before) (taken after) result (file given gives) (canon given gives) value)
-    (λ given gives. wrote_part (IsFile given) settings records (taken before) (taken after) outs.Write result (file given gives) write)
-    fault broken untouched

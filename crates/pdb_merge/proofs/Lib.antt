@@ -6,4 +6,5 @@ pub mod FitLaws
 pub mod BytesLaws
 pub mod ReadBackLaws
 pub mod FileLaws
+pub mod MapLaws
 pub mod RefusedLaws

@@ -1,17 +1,22 @@
 -- A merge that takes files one after the other.
-use Rattle.std.proofs.Common.{◌≡◌, ◌↔◌, ℕ, ◌+◌, ◌<◌, ◌≤◌, List, [], ◌∷◌, ◌++◌, length, get_or, take, drop, refl, ap, ◌∙◌, arith, length-append}
-use Rattle.std.proofs.lemmas.List.{get_or_append_left, take_more, take-append-drop, length-take-le}
+use Rattle.std.proofs.Common.{◌≡◌, ◌↔◌, ℕ, ◌+◌, ◌<◌, ◌≤◌, List, [], ◌∷◌, ◌++◌, length, get_or, take, drop, refl, sym, ap, ◌∙◌, arith, inl, inr, length-append}
+use Rattle.std.proofs.lemmas.Bool.{cases_lt}
+use Rattle.std.proofs.lemmas.List.{get_or_append_left, get_or-map, length-map, take_more, take-append-drop, length-take-le}
 use Rattle.std.proofs.Math.Seq.{get_or-append_seam}
 use Rattle.closed_trees.specs.Tree.{Tree, IsType}
-use Rattle.std.specs.Prelude.{Result, Ok, Err, IfOk, IfErr}
+use Rattle.std.specs.Prelude.{Option, Some, None, Result, Ok, Err, IfOk, IfErr, IfSome}
 use Rattle.canonical_list.specs.Finish.{IsCanonOf}
 use Rattle.type_table.proofs.CanonTableLaws.{canon_same}
 use Rattle.byte_io.specs.At.{Bytes, IfKnown, IfOf}
 use Rattle.byte_io.specs.declared.at.AtFault.{AtFault}
 use Rattle.byte_io.specs.declared.at.AtFault.TheVariants as at
 use Rattle.pdb_merge.specs.Fault.{merge_from_add}
-use Rattle.pdb_merge.specs.Merging.{MergeView, HasTaken}
-use Rattle.pdb_merge.specs.Union.{HasType, HasTypeBelow, AcceptedBelow, Within, AddsFile, IsAddFault, CanMerge, CanMergeBelow, IsMergeFault, Unites}
+use Rattle.type_table.specs.Maps.{IsMapped, AreFollowed, followed_by}
+use Rattle.type_table.specs.Merge.{StartsWith}
+use Rattle.type_table.proofs.MapLaws.{numbers_still, numbers_follow}
+use Rattle.file_types.specs.Read.{IsAccepted}
+use Rattle.pdb_merge.specs.Merging.{MergeView, AddsFile, AreMapsOf, HasTaken}
+use Rattle.pdb_merge.specs.Union.{HasType, HasTypeBelow, AcceptedBelow, Within, IsAddFault, CanMerge, CanMergeBelow, IsMergeFault, Unites}
 use Rattle.pdb_merge.specs.declared.fault.AddFault.{AddFault}
 use Rattle.pdb_merge.specs.declared.fault.AddFault.TheVariants as add
 use Rattle.pdb_merge.specs.declared.fault.MergeFault.{MergeFault}
@@ -62,14 +67,42 @@ stops_still files more limit merge.Memory stops = tt
 
 -- ---- one more file
 
+no_maps : (list : List (List ℕ)) (maps : Option (List (List ℕ))) → IfSome maps (λ none. none ≡ []) → IfSome maps (AreMapsOf [] list)
+no_maps list None none = tt
+no_maps list (Some maps) none = record { many = ap length none; each = λ i inside. absurd (omega (arith, inside)) }
+
 -- a merge begins with no files
-pub nothing_taken : (limit : ℕ) → HasTaken (record { types = []; limit = limit }) []
-nothing_taken limit = record { accepted = none_accepted []; unites = none_united []; within = none_within limit }
+pub nothing_taken : (merge : MergeView) → merge.types ≡ [] → IfSome merge.maps (λ none. none ≡ []) → HasTaken merge []
+nothing_taken merge types none = record {
+  accepted = none_accepted [];
+  unites = rw types (none_united []);
+  within = rw types (none_within merge.limit);
+  maps = no_maps merge.types merge.maps none;
+}
 
 last_file : (files : List (List ℕ)) (file : List ℕ) → get_or (files ++ file ∷ []) (length files) [] ≡ file
 last_file files file = get_or-append_seam files file [] []
 
-pub taken_more : (before after : MergeView) (files : List (List ℕ)) (file : List ℕ) → AddsFile before.types after.types file → Within (IsType after.types) after.limit
+-- the maps of the files so far are still right, and the new file has its own
+maps_more : (files : List (List ℕ)) (file : List ℕ) (before after records : List (List ℕ)) (old new : Option (List (List ℕ))) → IsAccepted file records → StartsWith after before → IsMapped records after old new
+    → IfSome old (AreMapsOf files before) → IfSome new (AreMapsOf (files ++ file ∷ []) after)
+maps_more files file before after records None new accepted front mapped are = rw mapped.kept tt
+maps_more files file before after records (Some maps) new accepted front mapped are = rw mapped.kept (record {
+  many = omega (arith, are.many, length-append maps (mapped.numbers ∷ []), length-append files (file ∷ []));
+  each = λ i inside. elim (cases_lt i (length files)) [
+    | inl less ↦
+        let was = are.each i less in
+        rw (same_file files (file ∷ []) i less, get_or_append_left maps (mapped.numbers ∷ []) [] i (omega (arith, less, are.many)))
+        (was.0, was.1, numbers_still was.0 before after (get_or maps i []) was.2 front)
+    | inr le ↦
+        let at : i ≡ length files = omega (arith, le, inside, length-append files (file ∷ [])) in
+        let here : get_or (files ++ file ∷ []) i [] ≡ file = ap (λ k. get_or (files ++ file ∷ []) k []) at ∙ last_file files file in
+        let map : get_or (maps ++ mapped.numbers ∷ []) i [] ≡ mapped.numbers = ap (λ k. get_or (maps ++ mapped.numbers ∷ []) k []) (at ∙ sym are.many) ∙ get_or-append_seam maps mapped.numbers [] [] in
+        rw (here, map) (records, accepted, mapped.are)
+  ];
+})
+
+pub taken_more : (before after : MergeView) (files : List (List ℕ)) (file : List ℕ) → AddsFile before after file → Within (IsType after.types) after.limit
     → HasTaken before files → HasTaken after (files ++ file ∷ [])
 taken_more before after files file takes within taken =
     let all = files ++ file ∷ [] in
@@ -77,10 +110,12 @@ taken_more before after files file takes within taken =
     let many : length files + 1 ≡ length all = omega (arith, length-append files (file ∷ [])) in
     let unites = unites_still before.types files (file ∷ []) (length files) (omega arith) taken.unites in
     let accepted = accepted_still files (file ∷ []) (length files) (omega arith) taken.accepted in
+    let here : IsAccepted (get_or all (length files) []) takes.records = rw last takes.accepted in
     record {
-      accepted = rw (← many) (accepted_more all (length files) takes.records (rw last takes.accepted) accepted);
-      unites = rw (← many) (united_more before.types after.types all (length files) unites (rw last takes));
+      accepted = rw (← many) (accepted_more all (length files) takes.records here accepted);
+      unites = rw (← many) (united_more before.types after.types all takes.records (length files) unites here takes.added.types);
       within = within;
+      maps = maps_more files file before.types after.types takes.records before.maps after.maps takes.accepted takes.added.front takes.added.mapped taken.maps;
     }
 
 -- the fault of a file that is added is the fault of the list of all files
@@ -115,7 +150,7 @@ taken_alone before files more file inner hinders taken can =
 
 -- ---- after one more file that is read by position
 
-pub taken_at : {A E : Type 0} (before after : MergeView) (bytes : Bytes) (answer : Result A E) → IfOk answer (λ _. IfKnown bytes (λ file. AddsFile before.types after.types file))
+pub taken_at : {A E : Type 0} (before after : MergeView) (bytes : Bytes) (answer : Result A E) → IfOk answer (λ _. IfKnown bytes (λ file. AddsFile before after file))
     → IfOk answer (λ _. Within (IsType after.types) after.limit) → IfOk answer (λ _. IfKnown bytes (λ file. (files : List (List ℕ)) → HasTaken before files → HasTaken after (files ++ file ∷ [])))
 taken_at before after bytes (Ok done) takes within = λ file is files taken. taken_more before after files file (takes file is) within taken
 taken_at before after bytes (Err fault) takes within = tt
@@ -157,6 +192,20 @@ pub finished : {E : Type 0} (merge : MergeView) (answer : Result (List (List ℕ
     → IfOk answer (λ canon. (files : List (List ℕ)) → HasTaken merge files → IsCanonOf canon (HasType files))
 finished merge (Ok canon) is = λ files taken. canon_same canon (IsType merge.types) (HasType files) is taken.unites
 finished merge (Err fault) is = tt
+
+maps_followed : (files table list : List (List ℕ)) (old new : Option (List (List ℕ))) → AreFollowed table list old new → IfSome old (AreMapsOf files table) → IfSome new (AreMapsOf files list)
+maps_followed files table list None new all are = rw all.followed tt
+maps_followed files table list (Some maps) new all are = rw all.followed (record {
+  many = length-map maps (λ numbers. followed_by numbers all.numbers) ∙ are.many;
+  each = λ i inside.
+      let was = are.each i inside in
+      rw (get_or-map (λ numbers. followed_by numbers all.numbers) maps i [] [] (omega (arith, inside, are.many)))
+      (was.0, was.1, numbers_follow was.0 table list (get_or maps i []) all.numbers was.2 all.are);
+})
+
+-- and the maps are those of the files into this list
+pub maps_finished : (merge : MergeView) (list files : List (List ℕ)) (new : Option (List (List ℕ))) → AreFollowed merge.types list merge.maps new → HasTaken merge files → IfSome new (AreMapsOf files list)
+maps_finished merge list files new all taken = maps_followed files merge.types list merge.maps new all taken.maps
 
 -- ---- the files of a list so far
 

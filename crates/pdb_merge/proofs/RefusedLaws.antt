@@ -12,7 +12,8 @@ use Rattle.closed_trees.specs.Table.{IsUnion}
 use Rattle.type_table.specs.declared.fault.JoinFault.{JoinFault}
 use Rattle.type_table.specs.declared.fault.JoinFault.TheVariants as join
 use Rattle.file_types.specs.Read.{HasFaultOfTexts, HasFaultOfTypes, HasPdbFaultRead, HasTypes, ListsStream, StreamWasRead}
-use Rattle.pdb_merge.specs.Union.{AddsFile, AddsRead, AddsStream, AddsTexts, IsAddFault, IsAddFaultOfStream, IsAddFaultOfTexts, IsAddFaultRead}
+use Rattle.pdb_merge.specs.Merging.{MergeView, AddsFile, AddsRead, AddsStream, AddsTexts}
+use Rattle.pdb_merge.specs.Union.{IsAddFault, IsAddFaultOfStream, IsAddFaultOfTexts, IsAddFaultRead}
 use Rattle.file_types.proofs.KnownLaws.{accepted_known, fault_lists, texts_fault_known, types_lists}
 use Rattle.file_types.proofs.RefusedLaws.{types_fault_read, types_read}
 use Rattle.pdb_merge.specs.Fault.{add_from_pdb, add_from_join}
@@ -40,8 +41,8 @@ union_hinders before types limit stream join.Memory outer has made large = rw ma
 -- ---- a stream that was read
 
 -- what it adds is what reads gave of its layout
-pub read_adds : (before after : List (List ℕ)) (bytes : Bytes) (layout : LayoutView) (stream : List ℕ) → StreamWasRead bytes layout stream → AddsStream before after stream → AddsRead before after bytes layout
-read_adds before after bytes layout stream read adds = record { records = adds.records; were_read = types_read bytes layout stream adds.records read adds.has; types = adds.types }
+pub read_adds : (before after : MergeView) (bytes : Bytes) (layout : LayoutView) (stream : List ℕ) → StreamWasRead bytes layout stream → AddsStream before after stream → AddsRead before after bytes layout
+read_adds before after bytes layout stream read adds = record { records = adds.records; were_read = types_read bytes layout stream adds.records read adds.has; added = adds.added }
 
 -- and what hinders it hinders what reads gave
 pub read_hinders : {A : Type 0} (before : List (List ℕ)) (limit : ℕ) (bytes : Bytes) (layout : LayoutView) (stream : List ℕ) (fault : AddFault A) → StreamWasRead bytes layout stream
@@ -61,9 +62,9 @@ texts_hinder before limit bytes inner outer made (inr want) = absurd cc
 -- ---- a file that is known
 
 -- what reads gave is added as the file
-pub adds_known : (before after : List (List ℕ)) (file : List ℕ) → AreBytes file → AddsTexts before after (stable file) → AddsFile before after file
+pub adds_known : (before after : MergeView) (file : List ℕ) → AreBytes file → AddsTexts before after (stable file) → AddsFile before after file
 adds_known before after file bytes (layout, has, adds) =
-    record { records = adds.records; accepted = accepted_known file adds.records bytes (layout, has, adds.were_read); types = adds.types }
+    record { records = adds.records; accepted = accepted_known file adds.records bytes (layout, has, adds.were_read); added = adds.added }
 
 -- what hinders it hinders the file
 pub hinders_known : {A : Type 0} (before : List (List ℕ)) (limit : ℕ) (file : List ℕ) (fault : AddFault A) → AreBytes file → IsAddFaultOfTexts before limit (stable file) fault → IsAddFault before limit file fault
@@ -74,7 +75,7 @@ hinders_known before limit file (add.TooLarge heavy) bytes (inr (layout, has, (r
 hinders_known before limit file add.Memory bytes hinders = tt
 
 -- so of each answer
-pub value_known : {T E : Type 0} (before after : List (List ℕ)) (bytes : Bytes) (answer : Result T E) → IfKnown bytes AreBytes → IfOk answer (λ _. AddsTexts before after bytes) → IfOk answer (λ _. IfKnown bytes (λ file. AddsFile before after file))
+pub value_known : {T E : Type 0} (before after : MergeView) (bytes : Bytes) (answer : Result T E) → IfKnown bytes AreBytes → IfOk answer (λ _. AddsTexts before after bytes) → IfOk answer (λ _. IfKnown bytes (λ file. AddsFile before after file))
 value_known before after bytes (Ok done) small adds = λ file known. adds_known before after file (small file known) (rw known at adds)
 value_known before after bytes (Err fault) small adds = tt
 
@@ -85,8 +86,8 @@ first_known before limit bytes (Err at.Read) small hinders = tt
 first_known before limit bytes (Err (at.Of fault)) small hinders = λ file known. hinders_known before limit file fault (small file known) (rw known at hinders)
 
 -- what the stream of a file adds is what the file adds
-pub lists_adds : (before after : List (List ℕ)) (file stream : List ℕ) → ListsStream file stream → AddsStream before after stream → AddsFile before after file
-lists_adds before after file stream lists adds = record { records = adds.records; accepted = types_lists file stream adds.records lists adds.has; types = adds.types }
+pub lists_adds : (before after : MergeView) (file stream : List ℕ) → ListsStream file stream → AddsStream before after stream → AddsFile before after file
+lists_adds before after file stream lists adds = record { records = adds.records; accepted = types_lists file stream adds.records lists adds.has; added = adds.added }
 
 -- and what hinders it hinders the file
 pub lists_hinders : {A : Type 0} (before : List (List ℕ)) (limit : ℕ) (file stream : List ℕ) (fault : AddFault A) → ListsStream file stream → IsAddFaultOfStream before limit stream fault → IsAddFault before limit file fault

@@ -15,7 +15,7 @@ use Rattle.byte_io.specs.declared.inputs.InputFault.{InputFault}
 use Rattle.pdb_merge.specs.Answer.{RefusesFiles}
 use Rattle.pdb_merge.specs.Fault.{NamesFault, merge_from_add}
 use Rattle.pdb_merge.specs.Laws.{TypesOfFirst, TypesOfBoth, AnyOrder, RefusedInAnyOrder, OneWeight}
-use Rattle.pdb_merge.specs.Union.{FileHas, HasTypeBelow, HasType, AcceptedBelow, Weighs, Within, AddsFile, IsAddFault, CanMerge, CanMergeBelow, IsMergeFault, ReadsFirst, Unites}
+use Rattle.pdb_merge.specs.Union.{FileHas, HasTypeBelow, HasType, AcceptedBelow, Weighs, Within, IsAddFault, CanMerge, CanMergeBelow, IsMergeFault, ReadsFirst, Unites}
 use Rattle.pdb_merge.specs.declared.fault.AddFault.{AddFault}
 use Rattle.pdb_merge.specs.declared.fault.AddFault.TheVariants as add
 use Rattle.pdb_merge.specs.declared.fault.MergeFault.{MergeFault}
@@ -54,10 +54,10 @@ pub union_within : (before types after : List (List ℕ)) (limit : ℕ) → (l :
 union_within before types after limit u same =
     within_same (λ t. IsType before t ⊎ IsType types t) (IsType after) limit (λ t. ((same t).1, (same t).0)) (weight u.0, union_weighs before types u.0 (weight u.0) u.1 refl, u.2)
 
--- a table that takes no records stays as it was
-pub not_added : (added : Bool) (before after : List (List ℕ)) → IsTrue added ⊎ (after ≡ before) → added ≡ false → after ≡ before
-not_added added before after (inl is) none = absurd cc
-not_added added before after (inr same) none = same
+-- what holds where nothing was added
+pub not_added : {P : Type 0} (added : Bool) → IsTrue added ⊎ P → added ≡ false → P
+not_added added (inl is) none = absurd cc
+not_added added (inr same) none = same
 
 -- ---- one more file
 
@@ -81,10 +81,10 @@ joined before types files k unites accepted t = (
   ],
 )
 
-pub united_more : (before after files : List (List ℕ)) (k : ℕ) → Unites before files k → AddsFile before after (get_or files k []) → Unites after files (k + 1)
-united_more before after files k unites takes t =
-    let both = joined before takes.records files k unites takes.accepted t in
-    (λ h. both.0 ((takes.types t).0 h), λ h. (takes.types t).1 (both.1 h))
+pub united_more : (before after files records : List (List ℕ)) (k : ℕ) → Unites before files k → IsAccepted (get_or files k []) records → ((t : Tree) → IsType after t ↔ (IsType before t ⊎ IsType records t)) → Unites after files (k + 1)
+united_more before after files records k unites accepted types t =
+    let both = joined before records files k unites accepted t in
+    (λ h. both.0 ((types t).0 h), λ h. (types t).1 (both.1 h))
 
 pub accepted_more : (files : List (List ℕ)) (k : ℕ) (types : List (List ℕ)) → IsAccepted (get_or files k []) types → AcceptedBelow files k → AcceptedBelow files (k + 1)
 accepted_more files k types accepted below i inside = elim (cases_lt i k) [

@@ -1,9 +1,12 @@
 -- What holds of accepted files, and of the files that are written for their types.
-use Rattle.std.specs.Prelude.{ℕ, ◌≡◌, ◌≢◌, ◌⊎◌, ◌↔◌, List, [], ◌∷◌, ◌++◌}
+use Rattle.std.specs.Prelude.{ℕ, ◌≡◌, ◌≢◌, ◌<◌, ◌⊎◌, ◌↔◌, List, [], ◌∷◌, ◌++◌, length, map, drop, get_or}
 use Rattle.pdb_info.specs.Settings.{SettingsView, AreSettings, record_limit}
 use Rattle.closed_trees.specs.Tree.{Tree}
 use Rattle.pdb_merge.specs.Union.{FileHas, HasTypeBelow, HasType, SameFiles, SameTypes, Weighs, Within, CanMerge, IsMergeFault}
-use Rattle.pdb_merge.specs.Merged.{Merged, HoldsJust}
+use Rattle.canonical_list.specs.Finish.{IsCanonOf}
+use Rattle.type_table.specs.Maps.{followed_by}
+use Rattle.pdb_merge.specs.Merging.{AreMapsOf}
+use Rattle.pdb_merge.specs.Merged.{Merged, HoldsJust, merged_file}
 use Rattle.pdb_merge.specs.declared.fault.MergeFault.{MergeFault}
 use Rattle.pdb_merge.specs.declared.fault.MergeFault.TheVariants as merge
 
@@ -55,6 +58,32 @@ OneMergedFile =
     → settings.age ≡ its.age → settings.guid ≡ its.guid → settings.block_size ≡ its.block_size
     → SameTypes files others → Merged (HasType files) settings x → Merged (HasType others) its y
     → x ≡ y
+
+-- ---- maps into files that are written with any settings
+
+-- files are merged into a first list, and its file is merged with others into a second one: the
+-- maps of the files, each followed by the map of that file, and then the maps of the others, are
+-- the maps of all of them into the second list
+abbrev pub MapsFollow : Type 0
+MapsFollow =
+    (settings : SettingsView) → AreSettings settings
+    → (files others first second earlier later whole : List (List ℕ))
+    → Within (HasType files) (record_limit settings)
+    → IsCanonOf first (HasType files) → AreMapsOf files first earlier
+    → IsCanonOf second (HasType (files ++ others))
+    → AreMapsOf (merged_file settings first ∷ others) second later
+    → AreMapsOf (files ++ others) second whole
+    → whole ≡ map (λ numbers. followed_by numbers (get_or later 0 [])) earlier ++ drop 1 later
+
+-- the map of a file that was written, and is merged alone, changes nothing
+abbrev pub MapOfMergedFile : Type 0
+MapOfMergedFile =
+    (settings : SettingsView) → AreSettings settings
+    → (files first second maps : List (List ℕ)) → Within (HasType files) (record_limit settings)
+    → IsCanonOf first (HasType files)
+    → IsCanonOf second (HasType (merged_file settings first ∷ []))
+    → AreMapsOf (merged_file settings first ∷ []) second maps
+    → (i : ℕ) → i < length first → get_or (get_or maps 0 []) i 0 ≡ i
 
 -- ---- lists of files
 

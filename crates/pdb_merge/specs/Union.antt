@@ -55,31 +55,7 @@ Weighs P bytes = (l : List Tree) × Lists l P × (weight l ≡ bytes)
 abbrev pub Within : (Tree → Type 0) → ℕ → Type 0
 Within P limit = (bytes : ℕ) × Weighs P bytes × (bytes ≤ limit)
 
--- ---- one more file
-
--- `after` has the types of `before` and of the file, which is accepted
-pub record AddsFile (before after : List (List ℕ)) (file : List ℕ) : Type 0 where
-  pub records : List (List ℕ)
-  pub accepted : IsAccepted file records
-  pub types : (t : Tree) → IsType after t ↔ (IsType before t ⊎ IsType records t)
-
--- `after` has the types of `before` and of the stream, which has types
-pub record AddsStream (before after : List (List ℕ)) (stream : List ℕ) : Type 0 where
-  pub records : List (List ℕ)
-  pub has : HasTypes stream records
-  pub types : (t : Tree) → IsType after t ↔ (IsType before t ⊎ IsType records t)
-
--- `after` has the types of `before`, and those that reads gave of this layout
-pub record AddsRead (before after : List (List ℕ)) (bytes : Bytes) (layout : LayoutView) : Type 0
-  where
-    pub records : List (List ℕ)
-    pub were_read : TypesWereRead bytes layout records
-    pub types : (t : Tree) → IsType after t ↔ (IsType before t ⊎ IsType records t)
-
--- `after` has the types of `before` and those that reads gave: reads gave a layout, and types of it
-abbrev pub AddsTexts : List (List ℕ) → List (List ℕ) → Bytes → Type 0
-AddsTexts before after bytes =
-    (layout : LayoutView) × HasTexts bytes layout × AddsRead before after bytes layout
+-- ---- why a file is not added
 
 -- this is why the file is not added to the types of `before`: it is not accepted, or the union has
 -- `bytes` bytes, more than the limit, or memory ran out

@@ -3,7 +3,7 @@
 //! Each function here does nothing: its contract is the law. A law on written files holds for all
 //! settings.
 
-ghost use Rattle.pdb_merge.specs.Laws.{MergedReadsBack, MergedHas, MergedFilesDiffer, MergedAgain, EarlierMerge, OneMergedFile, TypesOfFirst, TypesOfBoth, AnyOrder, RefusedInAnyOrder, OneWeight};
+ghost use Rattle.pdb_merge.specs.Laws.{MergedReadsBack, MergedHas, MergedFilesDiffer, MergedAgain, EarlierMerge, OneMergedFile, MapsFollow, MapOfMergedFile, TypesOfFirst, TypesOfBoth, AnyOrder, RefusedInAnyOrder, OneWeight};
 
 use std::alloc::Allocator;
 
@@ -37,6 +37,17 @@ pub fn earlier_merge()
 /// are equal.
 pub fn one_merged_file()
     ensures { OneMergedFile }
+{}
+
+/// Where files were merged before, the maps of the first merge, followed by the map of its file in the
+/// second one, are the maps of one merge of all files.
+pub fn maps_follow()
+    ensures { MapsFollow }
+{}
+
+/// A file that was written, and is merged alone, has the map that changes nothing.
+pub fn map_of_merged_file()
+    ensures { MapOfMergedFile }
 {}
 
 /// The types of a list of files are those of the first file and those of the others.

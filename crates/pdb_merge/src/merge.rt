@@ -1,6 +1,6 @@
 //! A merge in progress.
 
-ghost use Rattle.std.specs.Prelude.{◌≡◌, ◌++◌, [], ◌∷◌, ℕ, List, None, length, IfOk, IfErr};
+ghost use Rattle.std.specs.Prelude.{◌≡◌, ◌++◌, [], ◌∷◌, ℕ, List, None, length, IfOk, IfErr, IfSome};
 ghost use Rattle.byte_fields.specs.Bytes.{AreBytes};
 ghost use Rattle.byte_fields.specs.Check.{first_failing};
 ghost use Rattle.byte_io.specs.At.{IfKnown, IfOf, Reads};
@@ -8,8 +8,9 @@ ghost use Rattle.msf_blocks.specs.Layout.{layout_checks};
 ghost use Rattle.closed_trees.specs.Tree.{IsType};
 ghost use Rattle.canonical_list.specs.Finish.{IsCanonOf};
 ghost use Rattle.pdb_merge.specs.Fault.{merge_from_add, AddNamesFault};
-ghost use Rattle.pdb_merge.specs.Union.{HasType, Within, AddsFile, AddsStream, AddsTexts, IsAddFault, IsAddFaultOfStream, IsAddFaultOfTexts, CanMerge, IsMergeFault};
-ghost use Rattle.pdb_merge.specs.Merging.{HasTaken};
+ghost use Rattle.pdb_merge.specs.Union.{HasType, Within, IsAddFault, IsAddFaultOfStream, IsAddFaultOfTexts, CanMerge, IsMergeFault};
+ghost use Rattle.type_table.specs.Maps.{AreFollowed};
+ghost use Rattle.pdb_merge.specs.Merging.{HasTaken, AddsFile, AddsStream, AddsTexts, AreMapsOf};
 
 use crate::fault::AddFault;
 use byte_io::{AtFault, Lend};
@@ -17,44 +18,61 @@ use file_types::{Buffer, check_types, read_stream};
 use std::alloc::{Allocator, Global};
 use std::hash::BuildHasher;
 use std::marker::Model;
-use type_table::{Canon, JoinFault, Table};
+use type_table::{Canon, JoinFault, KeepMaps, NoMaps, Table};
 
-/// The types of the files so far, and the limit: how many bytes they may have together.
+/// The types of the files so far, and the limit: how many bytes they may have together. It can also
+/// keep the map of each file: where the types of its records went.
 ///
 /// The files are added one after the other, so no two of them need be in memory at once. In
 /// contracts `HasTaken merge files` says which files were taken: [`Merge::new`] has taken none, and
 /// each [`Merge::add`] or [`Merge::add_at`] takes one more.
 #[derive(Debug, Drop)]
-pub struct Merge<S: BuildHasher, A: Allocator = Global> {
+pub struct Merge<S: BuildHasher, A: Allocator = Global, K: KeepMaps = NoMaps> {
     table: Table<S, A>,
     limit: u32,
+    maps: K,
 }
 
-impl<S: BuildHasher, A: Allocator> Model for Merge<S, A> {
+impl<S: BuildHasher, A: Allocator, K: KeepMaps> Model for Merge<S, A, K> {
     ghost use Rattle.pdb_merge.specs.Merging.{MergeView};
 
     ghost Value = { MergeView };
 
-    ghost view = { λ m. record { types = m.table; limit = m.limit } };
+    ghost view = { λ m. record { types = m.table; limit = m.limit; maps = K.maps m.maps } };
 }
 
-impl<S: BuildHasher, A: Allocator + Copy> Merge<S, A> {
+impl<S: BuildHasher, A: Allocator + Copy> Merge<S, A, NoMaps> {
     /// A merge that has taken no files. Its types may have at most `limit` bytes together. This
     /// does not allocate.
-    pub fn new(alloc: A, limit: u32, hasher: S) -> Merge<S, A>
-        ensures value { result ≡ record { types = []; limit = limit } }
+    pub fn new(alloc: A, limit: u32, hasher: S) -> Merge<S, A, NoMaps>
+        ensures value { result ≡ record { types = []; limit = limit; maps = None } }
         ensures none { HasTaken result [] }
     {
+        Merge::with_maps(alloc, limit, hasher, NoMaps)
+    }
+}
+
+impl<S: BuildHasher, A: Allocator + Copy, K: KeepMaps> Merge<S, A, K> {
+    /// A merge that has taken no files, and keeps the map of each file that it takes. Maps from
+    /// before are forgotten. Everything else is as in [`Merge::new`].
+    pub fn with_maps(alloc: A, limit: u32, hasher: S, maps: K) -> Merge<S, A, K>
+        ensures types { result.types ≡ [] }
+        ensures limit { result.limit ≡ limit }
+        ensures none { HasTaken result [] }
+    {
+        let mut maps = maps;
+        maps.clear();
         Merge {
             table: Table::with_hasher(alloc, hasher),
             limit,
+            maps,
         }
     }
 
     /// Adds the types of a stream 2 to the table. If its records can't be added as they stand, they are
     /// first checked for a fault and put in order.
     pub(crate) fn add_stream(&mut self, alloc: A, stream: &[u8]) -> Result<(), AddFault<A>>
-        ensures value { IfOk result (λ _. AddsStream self.old.types self.new.types stream.now) }
+        ensures value { IfOk result (λ _. AddsStream self.old self.new stream.now) }
         ensures within { IfOk result (λ _. Within (IsType self.new.types) self.new.limit) }
         ensures limit { self.new.limit ≡ self.old.limit }
         ensures kept { IfErr result (λ _. self.new ≡ self.old) }
@@ -62,11 +80,15 @@ impl<S: BuildHasher, A: Allocator + Copy> Merge<S, A> {
             (IsAddFaultOfStream self.old.types self.old.limit stream.now) }
         ensures named { IfErr result AddNamesFault }
     {
-        if self.table.add_stream(alloc, stream, self.limit) {
+        if self
+            .table
+            .add_stream(alloc, stream, self.limit, &mut self.maps)
+        {
             return Ok(());
         }
         let types = check_types(alloc, stream)?;
-        self.table.add(alloc, &types, self.limit)?;
+        self.table
+            .add_with_maps(alloc, &types, self.limit, &mut self.maps)?;
         Ok(())
     }
 
@@ -80,7 +102,7 @@ impl<S: BuildHasher, A: Allocator + Copy> Merge<S, A> {
         ensures reads { Reads R.bytes R.is_broken input.old input.new result }
         ensures small { IfKnown (R.bytes input.old) AreBytes }
         ensures texts { IfOk result (λ _.
-            AddsTexts self.old.types self.new.types (R.bytes input.old)) }
+            AddsTexts self.old self.new (R.bytes input.old)) }
         ensures within { IfOk result (λ _. Within (IsType self.new.types) self.new.limit) }
         ensures limit { self.new.limit ≡ self.old.limit }
         ensures kept { IfErr result (λ _. self.new ≡ self.old) }
@@ -108,7 +130,7 @@ impl<S: BuildHasher, A: Allocator + Copy> Merge<S, A> {
     /// bytes that the types of the files so far and of this one have together. `Memory` is out of
     /// memory. After a fault the merge is unchanged, and the next file may be added.
     pub fn add(&mut self, alloc: A, file: &[u8], buffer: &mut Buffer<A>) -> Result<(), AddFault<A>>
-        ensures value { IfOk result (λ _. AddsFile self.old.types self.new.types file.now) }
+        ensures value { IfOk result (λ _. AddsFile self.old self.new file.now) }
         ensures within { IfOk result (λ _. Within (IsType self.new.types) self.new.limit) }
         ensures limit { self.new.limit ≡ self.old.limit }
         ensures kept { IfErr result (λ _. self.new ≡ self.old) }
@@ -158,11 +180,11 @@ impl<S: BuildHasher, A: Allocator + Copy> Merge<S, A> {
     ) -> Result<(), AtFault<AddFault<A>>>
         ensures reads { Reads R.bytes R.is_broken input.old input.new result }
         ensures value { IfOk result (λ _.
-            IfKnown (R.bytes input.old) (λ file. AddsFile self.old.types self.new.types file)) }
+            IfKnown (R.bytes input.old) (λ file. AddsFile self.old self.new file)) }
         // Even if the file's bytes are not known, the merge has taken the types of bytes that reads
         // gave.
         ensures texts { IfOk result (λ _.
-            AddsTexts self.old.types self.new.types (R.bytes input.old)) }
+            AddsTexts self.old self.new (R.bytes input.old)) }
         ensures within { IfOk result (λ _. Within (IsType self.new.types) self.new.limit) }
         ensures limit { self.new.limit ≡ self.old.limit }
         ensures kept { IfErr result (λ _. self.new ≡ self.old) }
@@ -212,11 +234,40 @@ impl<S: BuildHasher, A: Allocator + Copy> Merge<S, A> {
     pub fn into_canon(self, alloc: A) -> Result<Canon<A>, JoinFault>
     where
         S: Drop,
+        K: Drop,
         ensures value { IfOk result (λ canon. IsCanonOf canon (IsType self.types)) }
         ensures taken { IfOk result (λ canon.
             (files : List (List ℕ)) → HasTaken self files → IsCanonOf canon (HasType files)) }
         ensures memory { IfErr result (λ fault. fault ≡ JoinFault.Memory) }
     {
-        self.table.into_canon(alloc)
+        let (canon, _) = self.into_canon_with_maps(alloc)?;
+        Ok(canon)
+    }
+
+    /// The canonical list of the types, with which the merge ends, and the maps of the files into the
+    /// list.
+    ///
+    /// Everything else is as in [`Merge::into_canon`].
+    pub fn into_canon_with_maps(self, alloc: A) -> Result<(Canon<A>, K), JoinFault>
+    where
+        S: Drop,
+        K: Drop,
+        ensures value { IfOk result (λ found. IsCanonOf found.0 (IsType self.types)) }
+        ensures followed { IfOk result (λ found.
+            AreFollowed self.types found.0 self.maps (K.maps found.1)) }
+        ensures taken { IfOk result (λ found.
+            (files : List (List ℕ)) → HasTaken self files → IsCanonOf found.0 (HasType files)) }
+        // For each file that was taken, its map leads to the position of each of its types.
+        ensures maps { IfOk result (λ found. (files : List (List ℕ)) → HasTaken self files →
+            IfSome (K.maps found.1) (AreMapsOf files found.0)) }
+        ensures memory { IfErr result (λ fault. fault ≡ JoinFault.Memory) }
+    {
+        let Merge {
+            table,
+            limit: _,
+            mut maps,
+        } = self;
+        let canon = table.into_canon_with_maps(alloc, &mut maps)?;
+        Ok((canon, maps))
     }
 }

@@ -2,7 +2,7 @@
 //! hold.
 //!
 //! `arguments` takes the arguments from the system. `lists` reads the list of more inputs, and
-//! `report` prints the report of a merge. `hold` keeps files off the numbers of the standard
+//! `map` writes its maps, and `report` prints the report on it. `same` tells whether two paths name one file. `hold` keeps files off the numbers of the standard
 //! streams, and `refusal` prints why a command was refused.
 //! The arguments are read by `command_line`, files are opened and created by `program_files`, and
 //! the commands are those of `pdb_commands`. This module joins these to the system: arguments, the
@@ -12,8 +12,10 @@
 mod arguments;
 mod hold;
 mod lists;
+mod map;
 mod refusal;
 mod report;
+mod same;
 
 use arguments::arguments;
 use byte_io::{In, Out, put_all};
@@ -23,10 +25,12 @@ use command_line::{
 use fault_pages::Page;
 use hold::hold;
 use lists::read_list;
+use map::{refuse_taken, write_map_file};
 use pdb_commands::{
-    Asked, Found, Shown, run_diff, run_diff_members, run_members, run_merge, run_merge_by_types,
-    run_shown, run_shown_file,
+    Asked, Found, Shown, run_diff, run_diff_members, run_members, run_merge_by_types,
+    run_merge_with, run_shown, run_shown_file,
 };
+use pdb_merge::{KeepMaps, NoMaps, TypeMaps};
 use program_files::{InputFiles, NewFile, ProgramFault, Progress, Reading, WholeFile, open_within};
 use refusal::{Refusal, quoted, refuse, refuse_line};
 use report::{REPORT_LENGTH, TakenStreams, print};
@@ -50,7 +54,7 @@ fn inputs_in<'a>(
 }
 
 /// The inputs of a merge, with what tells how many of them were read. It tells that on standard
-/// error, so it tells nothing where that is OUT.
+/// error, so it tells nothing where that is OUT or MAP.
 fn inputs_of<'a>(
     rt: &'a HostRuntime,
     task: &'a Merging,
@@ -64,25 +68,28 @@ fn inputs_of<'a>(
     InputFiles::new(rt, &task.inputs, task.max_bytes, progress)
 }
 
-/// Merges files into a new one, which is stored and closed then. Returns the report on it.
-fn merge_into_out<S: BuildHasher + Drop>(
+/// Merges files into a new one, which is stored and closed then. Returns the report on it, and the
+/// maps of the inputs, if they are kept.
+fn merge_into_out<S: BuildHasher + Drop, K: KeepMaps + Drop>(
     rt: &HostRuntime,
     task: &Merging,
     taken: TakenStreams,
     hasher: S,
-) -> Result<Vec<u8>, ProgramFault> {
+    maps: K,
+) -> Result<(Vec<u8>, K), ProgramFault> {
     let mut new_file = NewFile::new(rt, task.out.as_str());
     let mut report = Vec::with_capacity(rt.alloc(), REPORT_LENGTH)?;
     let inputs = inputs_of(rt, task, taken);
     let mut told = Out::new(&mut report);
     let merged = match task.naming {
-        GuidChoice::Given => run_merge(
+        GuidChoice::Given => run_merge_with(
             rt.alloc(),
             inputs,
             &task.settings,
             &mut new_file,
             &mut told,
             hasher,
+            maps,
         ),
         GuidChoice::ByTypes => run_merge_by_types(
             rt.alloc(),
@@ -91,13 +98,32 @@ fn merge_into_out<S: BuildHasher + Drop>(
             &mut new_file,
             &mut told,
             hasher,
+            maps,
         ),
     };
     if new_file.is_refused() {
         return Err(ProgramFault::Create);
     }
-    merged?;
+    let maps = merged?;
     new_file.store()?;
+    Ok((report, maps))
+}
+
+/// Merges files into a new one, and then writes the maps of the inputs where they are asked for.
+/// Returns the report.
+fn merge_with<S: BuildHasher + Drop>(
+    rt: &HostRuntime,
+    task: &Merging,
+    taken: TakenStreams,
+    hasher: S,
+) -> Result<Vec<u8>, ProgramFault> {
+    let Some(path) = &task.map else {
+        let (report, _) = merge_into_out(rt, task, taken, hasher, NoMaps)?;
+        return Ok(report);
+    };
+    let maps = TypeMaps::new(rt.alloc());
+    let (report, maps) = merge_into_out(rt, task, taken, hasher, maps)?;
+    write_map_file(rt, task.out.as_str(), path.as_str(), &maps)?;
     Ok(report)
 }
 
@@ -106,17 +132,18 @@ fn merge_into_out<S: BuildHasher + Drop>(
 /// The hashes are such that nobody can predict them, where the system gives random numbers. Where it
 /// gives none, the key is fixed, and records that share a hash have to be searched for.
 fn merge(rt: &HostRuntime, task: &Merging) -> Result<ExitCode, ProgramFault> {
-    let taken = TakenStreams::of(rt, task.out.as_str());
+    refuse_taken(rt, task)?;
+    let taken = TakenStreams::of(rt, task);
     let report = match RandomState::new(rt) {
-        Ok(hasher) => merge_into_out(rt, task, taken, hasher)?,
+        Ok(hasher) => merge_with(rt, task, taken, hasher)?,
         Err(_) => {
             let hasher: BuildHasherDefault<DefaultHasher> = BuildHasherDefault::new();
-            merge_into_out(rt, task, taken, hasher)?
+            merge_with(rt, task, taken, hasher)?
         }
     };
     match print(rt, &report, taken) {
         Ok(()) => Ok(ExitCode::SUCCESS),
-        // OUT is whole. The line of a refusal would be written into it.
+        // The line of a refusal would be written into OUT or MAP, which are whole.
         Err(_) if taken.error => Ok(ExitCode::FAILURE),
         Err(fault) => Err(fault),
     }

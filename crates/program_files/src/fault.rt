@@ -1,8 +1,8 @@
 //! Why the program did not do what its arguments ask for.
 
 ghost use Rattle.std.specs.Prelude.{◌≡◌};
-ghost use Rattle.program_files.specs.Fault.{program_from_input, program_number, faulty_input, uncounted};
-ghost use Rattle.program_files.specs.declared.fault.ProgramFault.TheVariants.{Run};
+ghost use Rattle.program_files.specs.Fault.{program_from_input, map_number, program_number, faulty_input, uncounted};
+ghost use Rattle.program_files.specs.declared.fault.ProgramFault.TheVariants.{Run, Map};
 ghost use Rattle.pdb_commands.specs.declared.fault.RunFault.TheVariants.{Memory, Write};
 
 use byte_io::{InputFault, NotTaken};
@@ -10,6 +10,29 @@ use pdb_commands::RunFault;
 use pdb_merge::MergeFault;
 use std::alloc::{AllocError, AllocFailed};
 use thiserror::Error;
+
+/// Why the maps of a merge were not written. The file of the merge is whole then.
+#[derive(Clone, Copy, Debug, PartialEq, Eq, Error)]
+pub enum MapFault {
+    /// The file for them cannot be created, or is one that the merge reads or writes.
+    #[error("41 Create")]
+    Create,
+    /// The file took the first bytes of them, but not all.
+    #[error("36 Write")]
+    Write,
+}
+
+impl MapFault {
+    /// The number of the fault, which stands in its text.
+    pub fn number(&self) -> u32
+        ensures { result ≡ map_number self.now }
+    {
+        match self {
+            MapFault::Create => 41,
+            MapFault::Write => 36,
+        }
+    }
+}
 
 /// Why the program did not do what the arguments ask for.
 #[derive(Debug, PartialEq, Eq, Drop, Error)]
@@ -23,6 +46,9 @@ pub enum ProgramFault {
     /// The file to write cannot be created.
     #[error("41 Create")]
     Create,
+    /// The maps of a merge were not written.
+    #[error("map: {0}")]
+    Map(MapFault),
 }
 
 impl ProgramFault {
@@ -34,6 +60,7 @@ impl ProgramFault {
             ProgramFault::Run(fault) => fault.number(),
             ProgramFault::Open => 40,
             ProgramFault::Create => 41,
+            ProgramFault::Map(fault) => fault.number(),
         }
     }
 
@@ -95,6 +122,14 @@ impl From<NotTaken> for ProgramFault {
 
     fn from(_error: NotTaken) -> ProgramFault {
         ProgramFault::Run(RunFault::Write)
+    }
+}
+
+impl From<MapFault> for ProgramFault {
+    ghost from_gives = { λ inner fault. fault ≡ Map inner };
+
+    fn from(fault: MapFault) -> ProgramFault {
+        ProgramFault::Map(fault)
     }
 }
 

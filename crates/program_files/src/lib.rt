@@ -5,7 +5,8 @@
 //! - [`InputFiles`] are the inputs of a merge, one of which is open at a time. [`Progress`] tells how
 //!   many of them were read.
 //! - [`NewFile`] is a file that is created at its first write.
-//! - [`ProgramFault`] says why the program did not do what it was asked for.
+//! - [`ProgramFault`] says why the program did not do what it was asked for, and [`MapFault`] why it
+//!   did not write the maps of a merge.
 //!
 //! What is proved: the input at a position has the name at that position. A file that was never
 //! created took nothing, one that could not be opened gives nothing, not even its end, and a file
@@ -31,7 +32,7 @@ mod inputs;
 mod output;
 mod progress;
 
-pub use fault::ProgramFault;
+pub use fault::{MapFault, ProgramFault};
 pub use files::{Reading, WholeFile, open_within};
 pub use inputs::InputFiles;
 pub use output::NewFile;

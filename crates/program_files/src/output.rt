@@ -77,7 +77,7 @@ impl<'a, R: Files> NewFile<'a, R> {
     }
 
     /// Creates the file, unless that was tried before. What a created file took stays.
-    fn create(&mut self)
+    pub fn create(&mut self)
         ensures same { ⟦<NewFile<'a, R> as Sink>⟧.is_broken self.new
             ≡ ⟦<NewFile<'a, R> as Sink>⟧.is_broken self.old }
         ensures keeps { Keeps (⟦<NewFile<'a, R> as Sink>⟧.taken self.old)

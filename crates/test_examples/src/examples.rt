@@ -32,7 +32,7 @@ use topological_order::{Graph, topological_order};
 use tpi_records::{Records, tpi_header_bytes};
 use type_changes::push_changes;
 use type_difference::{Standing, compare};
-use type_table::{Canon, Table};
+use type_table::{Canon, NoMaps, Table};
 use type_texts::push_type;
 use types_guid::guid_of_types;
 
@@ -227,7 +227,7 @@ fn types_in_canonical_order(rt: HostRuntime) -> Result<(), Fail> {
         return Err("no stream".into());
     };
     // each record names only earlier ones, so the records can be added as they stand
-    assert!(rt; table.add_stream(rt.alloc(), stream, 1000));
+    assert!(rt; table.add_stream(rt.alloc(), stream, 1000, &mut NoMaps));
     let canon = table.finish(rt.alloc())?;
     assert_eq!(rt; canon.len(), 2);
     assert_eq!(rt; canon.get(1), Some(TO_INT));

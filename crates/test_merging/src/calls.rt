@@ -8,8 +8,8 @@ use msf_blocks::{Out, Sink};
 use msf_streams::WriteFault;
 use pdb_info::Settings;
 use pdb_merge::{
-    AddFault, Buffer, Merge, MergeFault, OutFault, PdbFault, Summary, merge_files, merge_to,
-    read_types, write_merged,
+    AddFault, Buffer, Merge, MergeFault, OutFault, PdbFault, Summary, TypeMaps, merge_files,
+    merge_to, merge_to_with, read_types, write_merged,
 };
 use std::alloc::{Allocator, Global};
 use std::hash::BuildHasher;
@@ -44,6 +44,29 @@ pub fn merge_into<W: Sink, S: BuildHasher + Drop, A: Allocator + Copy>(
     hasher: S,
 ) -> Result<Summary, OutFault<A>> {
     merge_to(alloc, files, settings, out, hasher)
+}
+
+/// Merges files. Returns their maps, and in other memory the bytes that were written.
+pub fn merge_with_maps<S: BuildHasher + Drop, A: Allocator + Copy>(
+    alloc: A,
+    memory: Global,
+    files: &[&[u8]],
+    settings: &Settings,
+    hasher: S,
+) -> (Result<TypeMaps<A>, OutFault<A>>, Vec<u8>) {
+    let mut file = Vec::new(memory);
+    let maps = TypeMaps::new(alloc);
+    match merge_to_with(
+        alloc,
+        files,
+        settings,
+        &mut Out::new(&mut file),
+        hasher,
+        maps,
+    ) {
+        Ok((_, maps)) => (Ok(maps), file),
+        Err(fault) => (Err(fault), file),
+    }
 }
 
 /// Merges files. Returns the answer, and in other memory the bytes that were written.

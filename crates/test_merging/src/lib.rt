@@ -11,6 +11,8 @@ mod damaged;
 #[cfg(test)]
 mod growth;
 #[cfg(test)]
+mod maps;
+#[cfg(test)]
 mod merging;
 #[cfg(test)]
 mod positions;

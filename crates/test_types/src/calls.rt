@@ -8,7 +8,7 @@ use std::alloc::{Allocator, Global};
 use std::hash::BuildHasher;
 use std::test::Fail;
 use tpi_records::Records;
-use type_table::{Canon, JoinFault, Table};
+use type_table::{Canon, JoinFault, NoMaps, Table};
 
 /// The records of a TPI stream.
 fn records_of<A: Allocator + Copy>(alloc: A, stream: &[u8]) -> Result<Records<'_, A>, Fail> {
@@ -62,7 +62,7 @@ pub fn add_as_it_stands<S: BuildHasher, A: Allocator + Copy>(
     stream: &[u8],
     limit: u32,
 ) -> bool {
-    table.add_stream(alloc, stream, limit)
+    table.add_stream(alloc, stream, limit, &mut NoMaps)
 }
 
 /// A table of no types.

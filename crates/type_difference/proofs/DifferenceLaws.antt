@@ -1,5 +1,5 @@
 -- The difference of two lists of types, by the numbers of their types.
-use Rattle.std.proofs.Common.{◌≡◌, ◌≤◌, ◌<◌, ◌⊎◌, ◌+◌, ◌-◌, ◌↔◌, ℕ, zero, suc, Bool, true, false, List, [], ◌∷◌, ◌++◌, length, map, take, drop, set, replicate, get_or, refl, sym, ap, ◌∙◌, subst, arith, inl, inr}
+use Rattle.std.proofs.Common.{◌≡◌, ◌≤◌, ◌<◌, ◌⊎◌, ◌+◌, ◌-◌, ◌↔◌, ℕ, zero, suc, Bool, true, false, List, [], ◌∷◌, ◌++◌, length, map, take, set, replicate, get_or, refl, sym, ap, ◌∙◌, subst, arith, inl, inr}
 use Rattle.std.proofs.lemmas.Bool.{cases_lt, cases_eq}
 use Rattle.std.proofs.lemmas.List.{get_or-replicate, get_or-set_same, get_or-set_other, get_or_default, get_or_append_left, get_or_at, take_more, get_or-take, length-take-le}
 use Rattle.std.proofs.lemmas.List.Elements.{Contains-get_or, Contains-push, Contains-push_cases, Contains-append_left}
@@ -9,35 +9,19 @@ use Rattle.cv_leaves.specs.References.{reference_at, references}
 use Rattle.topological_order.proofs.WalkLaws.{none_in}
 use Rattle.closed_trees.specs.Tree.{Tree, Branches, tree, no_branch, simple, branch, branches_of, trees_in, IsTreeAt, AreBranches, IsType, NamesLower}
 use Rattle.closed_trees.specs.Types.{AreTypes, NamesThere}
-use Rattle.closed_trees.specs.Depth.{AreBelow}
-use Rattle.type_table.specs.Merge.{StartsWith}
 use Rattle.closed_trees.specs.Table.{IsTable}
-use Rattle.type_table.specs.Numbers.{AreNumbers}
+use Rattle.canonical_list.specs.Numbers.{AreNumbers}
 use Rattle.type_difference.specs.Marks.{TellApart, IsMarked, AreMarks, MarkTypesOf, NamesMarked, IsStandingBy}
 use Rattle.type_difference.specs.Difference.{IsLacked, IsOrigin, HasStanding, DifferenceBegins}
 use Rattle.type_difference.specs.declared.standing.Standing.{Standing}
 use Rattle.type_difference.specs.declared.standing.Standing.TheVariants.{Shared, Again, Follows, Origin}
 use Rattle.closed_trees.proofs.TreeLaws.{one, tree_there, branches_are_types}
 use Rattle.closed_trees.proofs.SameLaws.{same_or_not, unlike}
-use Rattle.closed_trees.proofs.TableLaws.{stands_still, table_is_set}
+use Rattle.closed_trees.proofs.TableLaws.{table_is_set}
 use Rattle.closed_trees.proofs.NextLaws.{in_range}
-use Rattle.type_table.proofs.AddLaws.{starts_whole}
 use Rattle.tpi_records.specs.Header.{first_index}
 
 -- ---- Numbers
-
--- the numbers stay right when more types come after those of the table
-pub numbers_still : (records before after : List (List ℕ)) (numbers : List ℕ) → AreNumbers records before numbers → StartsWith after before → AreNumbers records after numbers
-numbers_still records before after numbers are front = record {
-  many = are.many;
-  stand = λ i t stands. subst (λ (x : List (List ℕ)). IsTreeAt x (get_or numbers i 0) t) (starts_whole before after front) (stands_still before (drop (length before) after) (get_or numbers i 0) t (are.stand i t stands));
-}
-
--- each number is a position of the table
-pub numbers_below : (records table : List (List ℕ)) (numbers : List ℕ) → AreTypes records → AreNumbers records table numbers → AreBelow (length table) numbers
-numbers_below records table numbers types are k lt =
-    let there = tree_there records types.ranked.0 k types.ranked.1 (omega (arith, lt, are.many)) in
-    in_range table (get_or numbers k 0) there.0 (are.stand k there.0 there.1)
 
 -- if a record has the number of a type, it is of this type
 same_number : (records table : List (List ℕ)) (numbers : List ℕ) (i : ℕ) (t : Tree) → AreTypes records → AreNumbers records table numbers → i < length records → IsTreeAt table (get_or numbers i 0) t → IsTreeAt records i t

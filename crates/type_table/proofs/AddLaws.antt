@@ -1,5 +1,5 @@
 -- How a table grows by a record.
-use Rattle.std.proofs.Common.{◌≡◌, ◌≤◌, ◌<◌, ◌⊎◌, ◌^◌, ◌+◌, ◌-◌, ◌↔◌, ℕ, List, [], ◌∷◌, ◌++◌, length, take, drop, get_or, refl, sym, ap, ◌∙◌, subst, arith, inl, inr, length-append}
+use Rattle.std.proofs.Common.{Option, ◌≡◌, ◌≤◌, ◌<◌, ◌⊎◌, ◌^◌, ◌+◌, ◌-◌, ◌↔◌, ℕ, List, [], ◌∷◌, ◌++◌, length, take, drop, get_or, refl, sym, ap, ◌∙◌, subst, arith, inl, inr, length-append}
 use Rattle.std.proofs.lemmas.Bool.{cases_lt}
 use Rattle.std.proofs.lemmas.List.{take-append-le, take-append-drop, get_or_default}
 use Rattle.std.proofs.lemmas.List.Elements.{Contains-get_or}
@@ -14,7 +14,9 @@ use Rattle.closed_trees.specs.Tree.{Tree, Branches, tree, no_branch, simple, bra
 use Rattle.closed_trees.specs.Canon.{weight}
 use Rattle.byte_fields.specs.Bytes.{AreBytes}
 use Rattle.closed_trees.specs.Table.{IsTable, IsUnion, renumber, renumbered}
-use Rattle.type_table.specs.Merge.{StartsWith}
+use Rattle.canonical_list.specs.Numbers.{AreNumbers}
+use Rattle.type_table.specs.Maps.{with_map}
+use Rattle.type_table.specs.Merge.{StartsWith, IsAdded, IsAddedWithin}
 use Rattle.type_table.specs.declared.fault.JoinFault.TheVariants as JoinFault
 use Rattle.text_set.proofs.TextSetLaws.{four_each}
 use Rattle.cv_leaves.proofs.FilledLaws.{filled_checked, filled_framed, filled_read}
@@ -250,3 +252,18 @@ pub too_large : (before types after : List (List ℕ)) (found limit : ℕ) → (
 too_large before types after found limit u is more bytes named =
     let same : found ≡ bytes = cc in
     (omega (arith, more, same), (u.0, u.1, u.2 ∙ sym is ∙ same))
+
+-- ---- Types that were added
+
+-- where the table is light enough, and the map was kept
+pub added_within : (records before after : List (List ℕ)) (limit : ℕ) (numbers : List ℕ) (old new : Option (List (List ℕ))) → IsAdded records before after → StartsWith after before → AreNumbers records after numbers → length (concat after) ≤ limit
+    → new ≡ with_map old numbers → IsAddedWithin records limit before after old new
+added_within records before after limit numbers old new added front are light kept =
+    let u = union_weighs before records after added.table added.value in
+    record {
+      value = added.value;
+      front = front;
+      within = (u.0, u.1, omega (arith, u.2, light));
+      bytes = light;
+      mapped = record { numbers = numbers; are = are; kept = kept };
+    }

@@ -13,6 +13,7 @@ use Rattle.cv_leaves.specs.References.{references}
 use Rattle.closed_trees.specs.Tree.{IsRanked}
 use Rattle.closed_trees.specs.Types.{AreTypes, NamesThere}
 use Rattle.closed_trees.specs.Table.{IsTable, renumbered}
+use Rattle.closed_trees.proofs.NextLaws.{in_range}
 use Rattle.closed_trees.proofs.TreeLaws.{tree_there}
 use Rattle.closed_trees.proofs.TableLaws.{stands_still}
 use Rattle.closed_trees.proofs.RenumberLaws.{renumbered_long}
@@ -131,11 +132,13 @@ framed_more bytes left r rest before after grown numbers last short few a framed
 
 -- at the end the table has the types of both
 pub framed_ends : (bytes left : List ℕ) (before after : List (List ℕ)) (numbers : List ℕ) (count : ℕ) → length (concat before) < 2 ^ 32 → length bytes < 2 ^ 32 → IsAddingFramed bytes left before after numbers
-    → length left ≡ 0 → length numbers ≡ count → AreFramedAdded count bytes before after
-framed_ends bytes left before after numbers count short few a none counted = record {
+    → length left ≡ 0 → length numbers ≡ count → count < 2 ^ 30 → AreFramedAdded count bytes before after numbers
+framed_ends bytes left before after numbers count short few a none counted less = record {
   records = a.front;
   framed = subst (Begins bytes a.front) (no_bytes left none) a.begins;
   counted = sym a.many ∙ counted;
+  few = omega (arith, a.many, counted, less);
+  numbered = record { many = a.many; stand = λ i t at. a.adds.stand i t (in_range a.front i t at) at };
   added = record {
     types = early_types a.front a.begins.each a.early;
     table = a.adds.table;

@@ -1,5 +1,6 @@
 pub mod PushLaws
 pub mod AddLaws
+pub mod MapLaws
 pub mod GuessLaws
 pub mod OrderedLaws
 pub mod FramedLaws

@@ -18,7 +18,7 @@ use Rattle.closed_trees.proofs.NextLaws.{in_range}
 use Rattle.checked_types.specs.Graph.{graph_of}
 use Rattle.checked_types.proofs.OrderLaws.{NamesDone, next_in_order, order_lists, order_weighs}
 use Rattle.type_table.specs.Merge.{IsPut, IsAdded}
-use Rattle.type_table.specs.Numbers.{AreNumbers}
+use Rattle.canonical_list.specs.Numbers.{AreNumbers}
 use Rattle.type_table.proofs.AddLaws.{Adds, adds_more, adds_none, adds_all, table_few, holds_short}
 
 -- ---- Record by record

@@ -1,4 +1,4 @@
 pub mod Fault
+pub mod Maps
 pub mod Merge
 pub mod MeasuredTable
-pub mod Numbers

@@ -1,8 +1,10 @@
 -- How records are added to a table, one by one.
-use Rattle.std.specs.Prelude.{ℕ, ◌≡◌, ◌^◌, ◌<◌, ◌≤◌, ◌⊎◌, ◌↔◌, List, [], length, take, get_or}
+use Rattle.std.specs.Prelude.{ℕ, ◌≡◌, ◌^◌, ◌<◌, ◌≤◌, ◌⊎◌, ◌↔◌, List, [], Option, length, take, get_or}
 use Rattle.std.specs.List.{concat}
 use Rattle.byte_fields.specs.Bytes.{AreBytes}
+use Rattle.canonical_list.specs.Numbers.{AreNumbers}
 use Rattle.text_set.specs.TextSet.{Holds}
+use Rattle.type_table.specs.Maps.{IsMapped}
 use Rattle.tpi_records.specs.Records.{Begins, HasRecords}
 use Rattle.cv_leaves.specs.Place.{IsChecked}
 use Rattle.cv_leaves.specs.References.{references}
@@ -42,21 +44,30 @@ pub record IsAdded (records before after : List (List ℕ)) : Type 0 where
   pub few : length after < 2 ^ 31
 
 -- the bytes are this many records, which are types, and the table `after` has their types and those
--- of `before`
-pub record AreFramedAdded (count : ℕ) (bytes : List ℕ) (before after : List (List ℕ)) : Type 0
-  where
-    pub records : List (List ℕ)
-    pub framed : Begins bytes records []
-    pub counted : length records ≡ count
-    pub added : IsAdded records before after
+-- of `before`; these are the numbers of the records
+pub record AreFramedAdded (count : ℕ) (bytes : List ℕ) (before after : List (List ℕ))
+    (numbers : List ℕ) : Type 0 where
+  pub records : List (List ℕ)
+  pub framed : Begins bytes records []
+  pub counted : length records ≡ count
+  pub few : length records < 2 ^ 30
+  pub added : IsAdded records before after
+  pub numbered : AreNumbers records after numbers
 
--- the stream has records that are types, the table `after` has their types and those of `before`,
--- and together these have at most `limit` bytes
-pub record IsStreamAdded (stream : List ℕ) (limit : ℕ) (before after : List (List ℕ)) : Type 0
-  where
-    pub records : List (List ℕ)
-    pub has : HasRecords stream records
-    pub types : AreTypes records
-    pub value : (t : Tree) → IsType after t ↔ (IsType before t ⊎ IsType records t)
-    pub within : (l : List Tree) × IsUnion l before records × (weight l ≤ limit)
-    pub bytes : length (concat after) ≤ limit
+-- the table `after` has the types of these records behind those of `before`, and together they have
+-- at most `limit` bytes; the maps of `old` have one more, if they are kept
+pub record IsAddedWithin (records : List (List ℕ)) (limit : ℕ) (before after : List (List ℕ))
+    (old new : Option (List (List ℕ))) : Type 0 where
+  pub value : (t : Tree) → IsType after t ↔ (IsType before t ⊎ IsType records t)
+  pub front : StartsWith after before
+  pub within : (l : List Tree) × IsUnion l before records × (weight l ≤ limit)
+  pub bytes : length (concat after) ≤ limit
+  pub mapped : IsMapped records after old new
+
+-- the stream has records that are types, and these were added
+pub record IsStreamAdded (stream : List ℕ) (limit : ℕ) (before after : List (List ℕ))
+    (old new : Option (List (List ℕ))) : Type 0 where
+  pub records : List (List ℕ)
+  pub has : HasRecords stream records
+  pub types : AreTypes records
+  pub added : IsAddedWithin records limit before after old new

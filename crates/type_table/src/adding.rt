@@ -14,7 +14,7 @@ ghost use Rattle.byte_fields.specs.Bytes.{AreBytes};
 ghost use Rattle.closed_trees.specs.Table.{IsTable, AreNumbered};
 ghost use Rattle.closed_trees.specs.Types.{AreTypes};
 ghost use Rattle.type_table.specs.Merge.{StartsWith, IsPut, IsAdded, AreFramedAdded};
-ghost use Rattle.type_table.specs.Numbers.{AreNumbers};
+ghost use Rattle.canonical_list.specs.Numbers.{AreNumbers};
 
 use crate::becomes::is_at;
 use checked_types::{Types, record_at};
@@ -98,6 +98,15 @@ impl<A: Allocator + Copy> Workspace<A> {
     }
 }
 
+impl<A: Allocator> Workspace<A> {
+    /// The numbers of the last input.
+    pub fn numbers(&self) -> &[u32]
+        ensures { result.now ≡ self.now.numbers.items }
+    {
+        &self.numbers
+    }
+}
+
 /// Puts a record into the set, if it isn't there yet, and returns its position there. `None` where
 /// the record has a fault, or where it names a record without a number.
 ///
@@ -150,7 +159,8 @@ pub fn add_framed<S: BuildHasher, A: Allocator>(
     requires short { length (concat records.old) < 2 ^ 32 }
     requires few { length bytes.now < 2 ^ 32 }
     ensures added { IfOk result (λ all.
-        IsTrue all → AreFramedAdded count bytes.now records.old records.new) }
+        IsTrue all →
+        AreFramedAdded count bytes.now records.old records.new work.new.numbers.items) }
     ensures front { StartsWith records.new records.old }
 {
     let Workspace { numbers, places } = work;
@@ -187,6 +197,7 @@ pub fn add_in_order<S: BuildHasher, A: Allocator + Copy>(
     requires table { IsTable records.old }
     requires short { length (concat records.old) < 2 ^ 32 }
     ensures types { AreTypes types.now }
+    ensures few { length types.now < 2 ^ 30 }
     ensures added { OnOk result (IsAdded types.now records.old records.new) }
     ensures numbers { OnOk result (AreNumbers types.now records.new work.new.numbers.items) }
     ensures light { OnOk result

@@ -32,7 +32,7 @@
 //!         return Err("no stream".into());
 //!     };
 //!     // each record names only earlier ones, so the records can be added as they stand
-//!     assert!(rt; table.add_stream(rt.alloc(), stream, 1000));
+//!     assert!(rt; table.add_stream(rt.alloc(), stream, 1000, &mut NoMaps));
 //!     let canon = table.finish(rt.alloc())?;
 //!     assert_eq!(rt; canon.len(), 2);
 //!     assert_eq!(rt; canon.get(1), Some(TO_INT));
@@ -46,6 +46,7 @@ mod becomes;
 mod canon;
 mod canon_records;
 mod fault;
+mod maps;
 mod numbers;
 mod table;
 mod table_depths;
@@ -53,5 +54,6 @@ mod table_depths;
 pub use canon::Canon;
 pub use canon_records::CanonRecords;
 pub use fault::JoinFault;
+pub use maps::{KeepMaps, NoMaps, TypeMaps};
 pub use numbers::number_types;
 pub use table::Table;

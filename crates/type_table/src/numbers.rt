@@ -5,7 +5,7 @@ ghost use Rattle.std.specs.List.{concat};
 ghost use Rattle.closed_trees.specs.Table.{IsTable};
 ghost use Rattle.closed_trees.specs.Types.{AreTypes};
 ghost use Rattle.type_table.specs.Merge.{StartsWith, IsAdded};
-ghost use Rattle.type_table.specs.Numbers.{AreNumbers};
+ghost use Rattle.canonical_list.specs.Numbers.{AreNumbers};
 
 use crate::adding::{Workspace, add_in_order};
 use checked_types::Types;

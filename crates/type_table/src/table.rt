@@ -8,15 +8,17 @@ ghost use Rattle.closed_trees.specs.Depth.{HasDepths};
 ghost use Rattle.record_set.specs.RecordSet.{HasNamedPlaces};
 ghost use Rattle.closed_trees.specs.Table.{IsTable, IsUnion};
 ghost use Rattle.type_table.specs.MeasuredTable.{IsMeasuredTable};
-ghost use Rattle.tpi_records.specs.Records.{HasRecords};
-ghost use Rattle.type_table.specs.Merge.{StartsWith, IsAdded, IsStreamAdded};
+ghost use Rattle.packed_texts.specs.PackedTexts.{texts_at, IsOrder};
+ghost use Rattle.type_table.specs.Maps.{AreFollowed};
+ghost use Rattle.type_table.specs.Merge.{StartsWith, IsAddedWithin, IsStreamAdded};
 ghost use Rattle.canonical_list.specs.Finish.{IsCanonOf};
 
 use crate::adding::{Workspace, add_framed, add_in_order, are_bytes};
 use crate::canon::Canon;
 use crate::fault::JoinFault;
+use crate::maps::{KeepMaps, NoMaps};
 use crate::table_depths::measure_new;
-use canonical_list::canonical_order;
+use canonical_list::{CanonicalOrder, canonical_order};
 use checked_types::Types;
 use cv_leaves::list_places;
 use packed_texts::{OrderedTexts, PackedTexts};
@@ -26,41 +28,62 @@ use std::hash::BuildHasher;
 use std::marker::Model;
 use tpi_records::{TpiHeader, framed_bytes};
 
-/// Puts types into the set, and measures the new ones. If memory runs out, some of them may be in
-/// the set.
-fn add_types<S: BuildHasher, A: Allocator + Copy>(
+/// Puts types into the set, measures the new ones, and keeps the map. After a fault some of the types
+/// may be in the set.
+fn add_types<S: BuildHasher, A: Allocator + Copy, K: KeepMaps>(
     records: &mut RecordSet<S, A>,
     depths: &mut Vec<u32, A>,
     work: &mut Workspace<A>,
     types: &Types<'_, A>,
-) -> Result<(), AllocError>
+    limit: u32,
+    maps: &mut K,
+) -> Result<(), JoinFault>
     requires table { IsTable records.old }
     requires short { length (concat records.old) < 2 ^ 32 }
     requires depths { HasDepths records.old depths.old.items }
-    ensures added { OnOk result (IsAdded types.now records.old records.new) }
+    ensures added { OnOk result (IsAddedWithin types.now limit records.old records.new
+        (K.maps maps.old) (K.maps maps.new)) }
+    ensures table { OnOk result (IsTable records.new) }
     ensures depths { OnOk result (HasDepths records.new depths.new.items) }
+    ensures kept { IfErr result (λ _. maps.new ≡ maps.old) }
+    ensures large { IfErr result (λ fault.
+        (bytes : ℕ) → fault ≡ JoinFault.TooLarge bytes →
+        (limit < bytes)
+        × ((l : List Tree) × IsUnion l records.old types.now × (weight l ≡ bytes))) }
     ensures front { StartsWith records.new records.old }
     ensures measured { StartsWith depths.new.items depths.old.items }
 {
     add_in_order(records, work, types)?;
-    measure_new(records, depths)
+    measure_new(records, depths)?;
+    let bytes = records.bytes().len() as u64;
+    if bytes > u64::from(limit) {
+        return Err(JoinFault::TooLarge { bytes });
+    }
+    maps.keep(work.numbers())?;
+    Ok(())
 }
 
-/// Puts the records of a stream into the set, as they stand there, and measures the new ones.
-/// Returns whether that succeeded: the stream has records, and each has places and names only earlier
-/// ones. If it did not, or if memory runs out, some of them may be in the set.
-fn add_records<S: BuildHasher, A: Allocator>(
+/// Puts the records of a stream into the set, as they stand there, measures the new ones, and keeps
+/// the map. Returns whether that succeeded: the stream has records, each has places and names only
+/// earlier ones, and the set is within the limit. If it did not, or if memory runs out, some of them
+/// may be in the set.
+fn add_records<S: BuildHasher, A: Allocator, K: KeepMaps>(
     records: &mut RecordSet<S, A>,
     depths: &mut Vec<u32, A>,
     work: &mut Workspace<A>,
     stream: &[u8],
+    limit: u32,
+    maps: &mut K,
 ) -> Result<bool, AllocError>
     requires table { IsTable records.old }
     requires short { length (concat records.old) < 2 ^ 32 }
     requires depths { HasDepths records.old depths.old.items }
-    ensures added { IfOk result (λ all. IsTrue all → (input : List (List ℕ))
-        × HasRecords stream.now input × IsAdded input records.old records.new) }
+    ensures added { IfOk result (λ all. IsTrue all → IsStreamAdded
+        stream.now limit records.old records.new (K.maps maps.old) (K.maps maps.new)) }
+    ensures table { IfOk result (λ all. IsTrue all → IsTable records.new) }
     ensures depths { IfOk result (λ all. IsTrue all → HasDepths records.new depths.new.items) }
+    ensures kept { IfOk result (λ all. IsTrue all ⊎ (maps.new ≡ maps.old)) }
+    ensures err { IfErr result (λ _. maps.new ≡ maps.old) }
     ensures front { StartsWith records.new records.old }
     ensures measured { StartsWith depths.new.items depths.old.items }
 {
@@ -72,6 +95,10 @@ fn add_records<S: BuildHasher, A: Allocator>(
         return Ok(false);
     }
     measure_new(records, depths)?;
+    if records.bytes().len() as u64 > u64::from(limit) {
+        return Ok(false);
+    }
+    maps.keep(work.numbers())?;
     Ok(true)
 }
 
@@ -89,21 +116,46 @@ fn undo<S: BuildHasher, A: Allocator>(
     depths.truncate(held);
 }
 
-/// The canonical list of the types of a table whose depths are known. The records are not moved.
-fn list_of<A: Allocator + Copy>(
+/// Puts the records of a table whose depths are known in canonical order, and makes the maps follow.
+fn order_of<A: Allocator + Copy, K: KeepMaps>(
+    alloc: A,
+    records: &mut PackedTexts<A>,
+    places: &PlaceLists<A>,
+    depths: &[u32],
+    maps: &mut K,
+) -> Result<Vec<u32, A>, AllocError>
+    requires table { IsMeasuredTable records.old depths.now }
+    requires listed { HasNamedPlaces records.old places.now }
+    ensures order { IfOk result (λ order. IsOrder records.new order.items) }
+    ensures canon { IfOk result (λ order.
+        IsCanonOf (texts_at records.new order.items) (IsType records.old)) }
+    ensures maps { IfOk result (λ order. AreFollowed
+        records.old (texts_at records.new order.items) (K.maps maps.old) (K.maps maps.new)) }
+{
+    let CanonicalOrder { order, numbers } = canonical_order(alloc, records, places, depths)?;
+    maps.follow(&numbers);
+    Ok(order)
+}
+
+/// The canonical list of the types of a table whose depths are known. The records are not moved, and
+/// the maps follow.
+fn list_of<A: Allocator + Copy, K: KeepMaps>(
     alloc: A,
     records: PackedTexts<A>,
     places: &PlaceLists<A>,
     depths: &[u32],
+    maps: &mut K,
 ) -> Result<Canon<A>, JoinFault>
     requires table { IsMeasuredTable records depths.now }
     requires listed { HasNamedPlaces records places.now }
     ensures value { IfOk result (λ canon. IsCanonOf canon (IsType records)) }
+    ensures maps { IfOk result (λ canon.
+        AreFollowed records canon (K.maps maps.old) (K.maps maps.new)) }
     ensures bytes { IfOk result (λ canon. length (concat canon) ≡ length (concat records)) }
     ensures memory { IfErr result (λ fault. fault ≡ JoinFault.Memory) }
 {
     let mut records = records;
-    let order = canonical_order(alloc, &mut records, places, depths)?;
+    let order = order_of(alloc, &mut records, places, depths, maps)?;
     are_bytes(records.bytes());
     let texts = OrderedTexts::new(alloc, records, &order)?;
     Ok(Canon { texts })
@@ -168,40 +220,64 @@ impl<S: BuildHasher, A: Allocator + Copy> Table<S, A> {
             (limit < bytes)
             × ((l : List Tree) × IsUnion l self.old types.now × (weight l ≡ bytes))) }
     {
-        let held = self.records.len();
-        let added = add_types(&mut self.records, &mut self.depths, &mut self.work, types);
-        self.work.clear(alloc);
-        let bytes = self.records.bytes().len() as u64;
-        if let Err(fault) = added {
-            undo(&mut self.records, &mut self.depths, held);
-            return Err(JoinFault::from(fault));
-        }
-        if bytes > u64::from(limit) {
-            undo(&mut self.records, &mut self.depths, held);
-            return Err(JoinFault::TooLarge { bytes });
-        }
+        self.add_with_maps(alloc, types, limit, &mut NoMaps)?;
         Ok(())
     }
 
-    /// Adds the types of a TPI stream, if each of its records names only earlier ones. Returns whether
-    /// they were added.
+    /// Adds types to the table, and keeps the map of their records.
     ///
-    /// The records are checked on the way, and one that is in the table already is only compared.
-    /// Returns false, and leaves the types as they were, if a check fails, if a record names itself
-    /// or a later one, if the records of the union have more than `limit` bytes together, or if
-    /// memory runs out. [`Records::read`](tpi_records::Records::read), [`Types::check`] and
-    /// [`Table::add`] tell the fault. ("The PDB TPI and IPI Streams", "Type Records".)
-    pub fn add_stream(&mut self, alloc: A, stream: &[u8], limit: u32) -> bool
-        ensures added { IsTrue result → IsStreamAdded stream.now limit self.old self.new }
-        ensures kept { IsTrue result ⊎ (self.new ≡ self.old) }
+    /// Everything else is as in [`Table::add`], but memory for the map is taken last. After a fault the
+    /// maps are as before too.
+    pub fn add_with_maps<K: KeepMaps>(
+        &mut self,
+        alloc: A,
+        types: &Types<'_, A>,
+        limit: u32,
+        maps: &mut K,
+    ) -> Result<(), JoinFault>
+        ensures added { OnOk result (IsAddedWithin types.now limit self.old self.new
+            (K.maps maps.old) (K.maps maps.new)) }
+        ensures kept { IfErr result (λ _. (self.new ≡ self.old) × (maps.new ≡ maps.old)) }
+        ensures large { IfErr result (λ fault.
+            (bytes : ℕ) → fault ≡ JoinFault.TooLarge bytes →
+            (limit < bytes)
+            × ((l : List Tree) × IsUnion l self.old types.now × (weight l ≡ bytes))) }
     {
         let held = self.records.len();
-        let added = add_records(&mut self.records, &mut self.depths, &mut self.work, stream);
+        let (records, depths, work) = (&mut self.records, &mut self.depths, &mut self.work);
+        let added = add_types(records, depths, work, types, limit, maps);
+        self.work.clear(alloc);
+        if added.is_err() {
+            undo(&mut self.records, &mut self.depths, held);
+        }
+        added
+    }
+
+    /// Adds the types of a TPI stream, if each of its records names only earlier ones, and keeps the
+    /// map of its records. Returns whether they were added.
+    ///
+    /// The records are checked on the way, and one that is in the table already is only compared.
+    /// Returns false, and leaves types and maps as they were, if a check fails, if a record names
+    /// itself or a later one, if the records of the union have more than `limit` bytes together, or
+    /// if memory runs out. [`Records::read`](tpi_records::Records::read), [`Types::check`] and
+    /// [`Table::add_with_maps`] tell the fault. ("The PDB TPI and IPI Streams", "Type Records".)
+    pub fn add_stream<K: KeepMaps>(
+        &mut self,
+        alloc: A,
+        stream: &[u8],
+        limit: u32,
+        maps: &mut K,
+    ) -> bool
+        ensures added { IsTrue result → IsStreamAdded stream.now limit self.old self.new
+            (K.maps maps.old) (K.maps maps.new) }
+        ensures kept { IsTrue result ⊎ ((self.new ≡ self.old) × (maps.new ≡ maps.old)) }
+    {
+        let held = self.records.len();
+        let (records, depths, work) = (&mut self.records, &mut self.depths, &mut self.work);
+        let added = add_records(records, depths, work, stream, limit, maps);
         self.work.clear(alloc);
         if let Ok(true) = added {
-            if self.records.bytes().len() as u64 <= u64::from(limit) {
-                return true;
-            }
+            return true;
         }
         undo(&mut self.records, &mut self.depths, held);
         false
@@ -246,7 +322,13 @@ impl<S: BuildHasher, A: Allocator + Copy> Table<S, A> {
         ensures memory { IfErr result (λ fault. fault ≡ JoinFault.Memory) }
     {
         let (records, places) = self.records.parts();
-        list_of(alloc, records.copy(alloc)?, places, &self.depths)
+        list_of(
+            alloc,
+            records.copy(alloc)?,
+            places,
+            &self.depths,
+            &mut NoMaps,
+        )
     }
 
     /// Makes the canonical list of the types, and ends the table.
@@ -261,12 +343,32 @@ impl<S: BuildHasher, A: Allocator + Copy> Table<S, A> {
         ensures bytes { IfOk result (λ canon. length (concat canon) ≡ length (concat self)) }
         ensures memory { IfErr result (λ fault. fault ≡ JoinFault.Memory) }
     {
+        self.into_canon_with_maps(alloc, &mut NoMaps)
+    }
+
+    /// Makes the canonical list of the types, and ends the table. The maps of the table are then maps
+    /// into the list.
+    ///
+    /// Everything else is as in [`Table::into_canon`].
+    pub fn into_canon_with_maps<K: KeepMaps>(
+        self,
+        alloc: A,
+        maps: &mut K,
+    ) -> Result<Canon<A>, JoinFault>
+    where
+        S: Drop,
+        ensures value { IfOk result (λ canon. IsCanonOf canon (IsType self)) }
+        ensures maps { IfOk result (λ canon.
+            AreFollowed self canon (K.maps maps.old) (K.maps maps.new)) }
+        ensures bytes { IfOk result (λ canon. length (concat canon) ≡ length (concat self)) }
+        ensures memory { IfErr result (λ fault. fault ≡ JoinFault.Memory) }
+    {
         let Table {
             records,
             depths,
             work: _,
         } = self;
         let (records, places) = records.into_parts();
-        list_of(alloc, records, &places, &depths)
+        list_of(alloc, records, &places, &depths, maps)
     }
 }

@@ -4,12 +4,13 @@ ghost use Rattle.std.specs.Prelude.{◌≡◌};
 ghost use Rattle.pdb_info.specs.Settings.{record_limit};
 ghost use Rattle.pdb_merge.specs.Answer.{MergesTo};
 ghost use Rattle.types_guid.specs.Guid.{named};
-ghost use Rattle.types_guid.specs.Merge.{WroteByTypes, WrotePartByTypes};
+ghost use Rattle.pdb_merge.specs.Merged.{WroteWithMaps};
+ghost use Rattle.types_guid.specs.Merge.{IsFileByTypes, WrotePartByTypes};
 
 use crate::guid::guid_of_types;
 use byte_io::{Inputs, Sink};
 use pdb_info::Settings;
-use pdb_merge::{OutFault, Summary, merge_files, write_canon};
+use pdb_merge::{KeepMaps, OutFault, Summary, merge_files_with, write_canon};
 use std::alloc::Allocator;
 use std::hash::BuildHasher;
 use type_table::Canon;
@@ -29,20 +30,31 @@ fn named<A: Allocator>(settings: &Settings, canon: &Canon<A>) -> Settings
 /// Merges files, and writes the file of their types into a sink. The GUID of the file is made of its
 /// types, and that of the settings is not used.
 ///
-/// The GUID is that of [`guid_of_types`]. Everything else is as in [`pdb_merge::merge_to`]: what is
-/// written, the faults and their order, and what stays.
-pub fn merge_by_types<I: Inputs + Drop, W: Sink, S: BuildHasher + Drop, A: Allocator + Copy>(
+/// The GUID is that of [`guid_of_types`]. Everything else is as in [`pdb_merge::merge_to_with`]: what
+/// is written, the maps of the files, the faults and their order, and what stays.
+pub fn merge_by_types<
+    I: Inputs + Drop,
+    W: Sink,
+    S: BuildHasher + Drop,
+    A: Allocator + Copy,
+    K: KeepMaps + Drop,
+>(
     alloc: A,
     files: I,
     settings: &Settings,
     out: &mut W,
     hasher: S,
-) -> Result<Summary, OutFault<A>>
+    maps: K,
+) -> Result<(Summary, K), OutFault<A>>
     ensures { MergesTo (I.known files) (record_limit settings.now)
-        (λ given. WroteByTypes given settings.now) (λ given. WrotePartByTypes given settings.now)
+        (λ given. WroteWithMaps (IsFileByTypes given settings.now) given K.maps)
+        (λ given. WrotePartByTypes given settings.now)
         W.taken W.is_broken out.old out.new result }
 {
-    let canon = merge_files(alloc, files, settings, hasher)?;
+    let (canon, maps) = merge_files_with(alloc, files, settings, hasher, maps)?;
     let settings = named(settings, &canon);
-    write_canon(alloc, &canon, &settings, out)
+    match write_canon(alloc, &canon, &settings, out) {
+        Ok(summary) => Ok((summary, maps)),
+        Err(fault) => Err(fault),
+    }
 }

@@ -8,7 +8,7 @@ ghost use Rattle.canonical_list.specs.Finish.{IsCanonOf};
 ghost use Rattle.pdb_info.specs.Settings.{record_limit};
 ghost use Rattle.pdb_merge.specs.Answer.{AcceptsFiles, RefusesFiles};
 ghost use Rattle.pdb_merge.specs.Union.{HasType, Within};
-ghost use Rattle.pdb_merge.specs.Merging.{HasTaken};
+ghost use Rattle.pdb_merge.specs.Merging.{HasTaken, AreMapsOf};
 
 use crate::fault::MergeFault;
 use crate::input::{InputBuffer, at_file, check_rest, read_input};
@@ -17,16 +17,16 @@ use byte_io::Inputs;
 use pdb_info::Settings;
 use std::alloc::Allocator;
 use std::hash::BuildHasher;
-use type_table::Canon;
+use type_table::{Canon, KeepMaps, NoMaps};
 
 /// Adds the types of the file at a position. If the file has a fault of its own, the files after it
 /// are checked too, because a file that cannot be read is refused first.
-fn add_input<I: Inputs, S: BuildHasher, A: Allocator + Copy>(
+fn add_input<I: Inputs, S: BuildHasher, A: Allocator + Copy, K: KeepMaps>(
     alloc: A,
     inputs: &I,
     input: usize,
     buffer: &mut InputBuffer<A>,
-    merge: &mut Merge<S, A>,
+    merge: &mut Merge<S, A, K>,
 ) -> Result<(), MergeFault<A>>
     requires few { input + 1 < 2 ^ 64 }
     requires inside { IfSome (I.known inputs.now) (λ each. input < length each) }
@@ -72,7 +72,36 @@ pub fn merge_files<I: Inputs + Drop, S: BuildHasher + Drop, A: Allocator + Copy>
     ensures accepts { OnOk result (AcceptsFiles (I.known files) (record_limit settings.now)) }
     ensures refuses { IfErr result (RefusesFiles (I.known files) (record_limit settings.now)) }
 {
-    let mut merge = Merge::new(alloc, settings.record_limit(), hasher);
+    let (canon, _) = merge_files_with(alloc, files, settings, hasher, NoMaps)?;
+    Ok(canon)
+}
+
+/// The canonical list of the types of these files, and the map of each file into the list.
+///
+/// The maps begin with that of the first file. [`TypeMaps`](crate::TypeMaps) keeps them, in four
+/// bytes for each record of all files, and [`NoMaps`] keeps none. Everything else is as in
+/// [`merge_files`].
+pub fn merge_files_with<
+    I: Inputs + Drop,
+    S: BuildHasher + Drop,
+    A: Allocator + Copy,
+    K: KeepMaps + Drop,
+>(
+    alloc: A,
+    files: I,
+    settings: &Settings,
+    hasher: S,
+    maps: K,
+) -> Result<(Canon<A>, K), MergeFault<A>>
+    ensures value { (given : List (List ℕ)) → Give (I.known files) given →
+        IfOk result (λ found. IsCanonOf found.0 (HasType given)) }
+    ensures maps { (given : List (List ℕ)) → Give (I.known files) given →
+        IfOk result (λ found. IfSome (K.maps found.1) (AreMapsOf given found.0)) }
+    ensures within { IfOk result (λ found. length (concat found.0) ≤ record_limit settings.now) }
+    ensures accepts { OnOk result (AcceptsFiles (I.known files) (record_limit settings.now)) }
+    ensures refuses { IfErr result (RefusesFiles (I.known files) (record_limit settings.now)) }
+{
+    let mut merge = Merge::with_maps(alloc, settings.record_limit(), hasher, maps);
     {
         // The memory of the files is given back before the list is made.
         let mut buffer = InputBuffer::new(alloc);
@@ -80,8 +109,8 @@ pub fn merge_files<I: Inputs + Drop, S: BuildHasher + Drop, A: Allocator + Copy>
             add_input(alloc, &files, input, &mut buffer, &mut merge)?;
         }
     }
-    match merge.into_canon(alloc) {
-        Ok(canon) => Ok(canon),
+    match merge.into_canon_with_maps(alloc) {
+        Ok(found) => Ok(found),
         Err(_) => Err(MergeFault::Memory),
     }
 }

@@ -5,10 +5,10 @@ ghost use Rattle.std.specs.List.{concat};
 ghost use Rattle.msf_streams.specs.Put.{AppendsPart};
 ghost use Rattle.pdb_info.specs.Settings.{AreSettings, record_limit};
 ghost use Rattle.pdb_merge.specs.Answer.{MergesTo};
-ghost use Rattle.pdb_merge.specs.Merged.{merged_file, WroteFile, Wrote, WrotePart};
+ghost use Rattle.pdb_merge.specs.Merged.{merged_file, IsFileOf, WroteFile, Wrote, WroteWithMaps, WrotePart};
 
 use crate::fault::OutFault;
-use crate::merging::merge_files::merge_files;
+use crate::merging::merge_files::merge_files_with;
 use crate::merging::write_merged::write_merged_len;
 use crate::summary::Summary;
 use byte_io::{Inputs, Sink};
@@ -16,7 +16,7 @@ use msf_streams::WriteFault;
 use pdb_info::Settings;
 use std::alloc::Allocator;
 use std::hash::BuildHasher;
-use type_table::Canon;
+use type_table::{Canon, KeepMaps, NoMaps};
 
 /// A fault of writing a file that can be written, as a fault of merging.
 fn out_fault<A: Allocator>(fault: WriteFault) -> OutFault<A>
@@ -85,6 +85,38 @@ pub fn merge_to<I: Inputs + Drop, W: Sink, S: BuildHasher + Drop, A: Allocator +
         (λ given. Wrote given settings.now) (λ given. WrotePart given settings.now)
         W.taken W.is_broken out.old out.new result }
 {
-    let canon = merge_files(alloc, files, settings, hasher)?;
-    write_canon(alloc, &canon, settings, out)
+    match merge_to_with(alloc, files, settings, out, hasher, NoMaps) {
+        Ok((summary, _)) => Ok(summary),
+        Err(fault) => Err(fault),
+    }
+}
+
+/// Merges files as [`merge_to`] does, and gives the map of each file into the list that was written.
+///
+/// The maps begin with that of the first file. [`TypeMaps`](crate::TypeMaps) keeps them, in four
+/// bytes for each record of all files, and [`NoMaps`] keeps none.
+pub fn merge_to_with<
+    I: Inputs + Drop,
+    W: Sink,
+    S: BuildHasher + Drop,
+    A: Allocator + Copy,
+    K: KeepMaps + Drop,
+>(
+    alloc: A,
+    files: I,
+    settings: &Settings,
+    out: &mut W,
+    hasher: S,
+    maps: K,
+) -> Result<(Summary, K), OutFault<A>>
+    ensures { MergesTo (I.known files) (record_limit settings.now)
+        (λ given. WroteWithMaps (IsFileOf given settings.now) given K.maps)
+        (λ given. WrotePart given settings.now)
+        W.taken W.is_broken out.old out.new result }
+{
+    let (canon, maps) = merge_files_with(alloc, files, settings, hasher, maps)?;
+    match write_canon(alloc, &canon, settings, out) {
+        Ok(summary) => Ok((summary, maps)),
+        Err(fault) => Err(fault),
+    }
 }

@@ -7,7 +7,7 @@ use Rattle.canonical_list.specs.Rows.{positions}
 use Rattle.canonical_list.specs.Finish.{AtLevel}
 use Rattle.canonical_list.proofs.LinkLaws.{zeros_small}
 use Rattle.canonical_list.proofs.SortLaws.{bytes_by_positions}
-use Rattle.canonical_list.proofs.FinishLaws.{LevelMade, can_renumber, level_inside, listing_canon, listing_few, listing_more, listing_none, listing_order, moved_level}
+use Rattle.canonical_list.proofs.FinishLaws.{LevelMade, can_renumber, level_inside, listing_canon, listing_few, listing_more, listing_none, listing_numbers, listing_order, moved_level}
 use Rattle.canonical_list.proofs.order.canonical_order.Given.{Over}
 use Rattle.canonical_list.proofs.order.canonical_order.Goals.{In_ok-collect, After-sort_level, After-drop-chained-inside-3}
 use Rattle.canonical_list.proofs.order.canonical_order.Goals as goal
@@ -79,3 +79,10 @@ returns-clause-order g c =
 pub returns-clause-canon : goal.returns-clause-canon
 returns-clause-canon g c =
     listing_canon c.args.records.now c.loop-level.records c.args.depths.now c.loop-level.level c.loop-level.order.items c.loop-level.numbers.items (levels g c) c.loop-level.invariant
+
+pub returns-clause-numbers : goal.returns-clause-numbers
+returns-clause-numbers g c =
+    listing_numbers c.args.records.now c.loop-level.records c.args.depths.now c.loop-level.level c.loop-level.order.items c.loop-level.numbers.items (levels g c) c.loop-level.invariant
+
+pub returns-clause-small : goal.returns-clause-small
+returns-clause-small g c = λ k inside. c.loop-level.invariant.bounded k

@@ -1,4 +1,4 @@
-use Rattle.std.proofs.Common.{◌∙◌, length, drop, sym, arith}
+use Rattle.std.proofs.Common.{◌∙◌, length, drop, sym, arith, rules}
 use Rattle.std.proofs.lemmas.Bool.{eqb-true}
 use Rattle.type_table.specs.Merge.{IsPut}
 use Rattle.type_table.proofs.FramedLaws.{framed_starts, framed_more, framed_ends, split_front}
@@ -19,4 +19,4 @@ loop-places-preserved g c =
 pub returns-clause-added : goal.returns-clause-added
 returns-clause-added g c all =
     let so_far = c.loop-places in
-    framed_ends c.args.bytes.now so_far.left.now c.args.records.now so_far.records so_far.numbers.items c.args.count c.requires.short c.requires.few so_far.invariant (eqb-true (length so_far.left.now) 0 (sym c.is_empty.ensures ∙ c.loop-places-test.false)) (omega (arith, so_far.numbers.ok.0, c.len.ensures, eqb-true c.len.result c.args.count all))
+    framed_ends c.args.bytes.now so_far.left.now c.args.records.now so_far.records so_far.numbers.items c.args.count c.requires.short c.requires.few so_far.invariant (eqb-true (length so_far.left.now) 0 (sym c.is_empty.ensures ∙ c.loop-places-test.false)) (omega (arith, so_far.numbers.ok.0, c.len.ensures, eqb-true c.len.result c.args.count all)) (search (rules, c.requires.few))

@@ -1,16 +1,32 @@
-use Rattle.std.proofs.Common.{rules}
+use Rattle.std.proofs.Common.{rules, Ok, Err}
 use Rattle.pdb_info.specs.Settings.{record_limit}
-use Rattle.pdb_merge.proofs.FileLaws.{merges_as}
+use Rattle.pdb_merge.proofs.MapLaws.{merges_mapped, with_kept}
 use Rattle.types_guid.specs.Merge.{IsFileByTypes}
 use Rattle.types_guid.proofs.NamedLaws.{is_file_by_types}
 use Rattle.types_guid.proofs.merge.merge_by_types.Goals as goal
 
+pub returns-in-Ok : goal.returns-in-Ok
+unfolding with_kept
+returns-in-Ok g c =
+    let settings = c.args.settings.now in
+    let canon = c.in_ok-canon.canon in
+    let named = c.named-settings.ensures in
+    let ok = c.in_ok-canon.ensures in
+    merges_mapped (g.I.Inputs.known c.args.files) (record_limit settings) (λ given. IsFileByTypes given settings) c.named-settings.result canon g.K.KeepMaps.maps c.in_ok-canon.maps g.W.Sink.taken g.W.Sink.is_broken c.args.out.now c.write_canon.new.out (Ok c.in-Ok.summary)
+    (search rules) ok.accepts ok.value
+    (λ given gives. rw named (is_file_by_types given settings canon (rw named at c.write_canon.ensures.settings) (ok.accepts.can given gives).within (ok.value given gives)))
+    ok.maps
+    (search rules) (search rules) (search rules) (search rules)
+
 pub returns : goal.returns
+unfolding with_kept
 returns g c =
     let settings = c.args.settings.now in
+    let canon = c.in_ok-canon.canon in
     let named = c.named-settings.ensures in
-    let accepts = c.in_ok-canon.ensures.accepts in
-    merges_as (g.I.Inputs.known c.args.files) (record_limit settings) (λ given. IsFileByTypes given settings) c.named-settings.result c.in_ok-canon.canon g.W.Sink.taken g.W.Sink.is_broken c.args.out.now c.write_canon.new.out c.write_canon.result
-    (search rules) accepts (search rules)
-    (λ given gives. rw named (is_file_by_types given settings c.in_ok-canon.canon (rw named at c.write_canon.ensures.settings) (accepts.can given gives).within (c.in_ok-canon.ensures.value given gives)))
+    let ok = c.in_ok-canon.ensures in
+    merges_mapped (g.I.Inputs.known c.args.files) (record_limit settings) (λ given. IsFileByTypes given settings) c.named-settings.result canon g.K.KeepMaps.maps c.in_ok-canon.maps g.W.Sink.taken g.W.Sink.is_broken c.args.out.now c.write_canon.new.out (Err c.in-Err.fault)
+    (search rules) ok.accepts ok.value
+    (λ given gives. rw named (is_file_by_types given settings canon (rw named at c.write_canon.ensures.settings) (ok.accepts.can given gives).within (ok.value given gives)))
+    ok.maps
     (search rules) (search rules) (search rules) (search rules)

@@ -4,7 +4,7 @@ use Rattle.pdb_merge.proofs.merge.Merge.add_at.Goals as goal
 
 pub returns-clause-value : goal.returns-clause-value
 returns-clause-value g c =
-    value_known c.args.self.now.types c.add_types_at.new.self.types (g.R.ReadAt.bytes c.args.input.now) c.add_types_at.result c.add_types_at.ensures.small c.add_types_at.ensures.texts
+    value_known c.args.self.now c.add_types_at.new.self (g.R.ReadAt.bytes c.args.input.now) c.add_types_at.result c.add_types_at.ensures.small c.add_types_at.ensures.texts
 
 pub returns-clause-first : goal.returns-clause-first
 returns-clause-first g c =

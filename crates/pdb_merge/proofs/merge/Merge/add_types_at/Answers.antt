@@ -26,7 +26,7 @@ returns-in-Err-clause-memory g c = λ is file known.
 pub returns-in-Ok-add_stream-clause-texts : goal.returns-in-Ok-add_stream-clause-texts
 returns-in-Ok-add_stream-clause-texts g c =
     let read = c.in-Ok.ensures.texts in
-    (read.0, read.1, read_adds c.args.self.now.types c.add_stream.new.self.types _ read.0 c.in-Ok.stream.now read.2 c.in-Ok-add_stream.ensures.value)
+    (read.0, read.1, read_adds c.args.self.now c.add_stream.new.self _ read.0 c.in-Ok.stream.now read.2 c.in-Ok-add_stream.ensures.value)
 
 pub returns-in-Err-clause-refused : goal.returns-in-Err-clause-refused
 returns-in-Err-clause-refused g c =

@@ -2,7 +2,8 @@ use Rattle.std.proofs.Common.{◌<◌, ℕ, List, [], length, take, get_or}
 use Rattle.std.proofs.lemmas.List.{take_more}
 use Rattle.std.proofs.lemmas.Result.{err_from_is_err_and}
 use Rattle.byte_io.specs.Inputs.{Give}
-use Rattle.pdb_merge.specs.Union.{AddsFile, IsAddFault}
+use Rattle.pdb_merge.specs.Merging.{AddsFile}
+use Rattle.pdb_merge.specs.Union.{IsAddFault}
 use Rattle.pdb_merge.proofs.InputLaws.{at_refuses, file_refuses, given_inside}
 use Rattle.pdb_merge.proofs.MergingLaws.{alone_whole, stops_whole, taken_alone, taken_below, taken_more, taken_stops}
 use Rattle.pdb_merge.proofs.RefusedLaws.{lists_adds, lists_hinders}
@@ -20,8 +21,8 @@ pub returns-clause-value : goal.returns-clause-value
 returns-clause-value g c = λ files given taken.
     let inside = given_inside (g.I.Inputs.known c.args.inputs.now) files c.args.input given c.requires.inside in
     let file = get_or files c.args.input [] in
-    let adds : AddsFile c.args.merge.now.types c.add_stream.new.self.types file =
-    lists_adds c.args.merge.now.types c.add_stream.new.self.types file c.in_ok-stream.stream.now (c.in_ok-stream.ensures.value files given) c.in_default.ensures.value in
+    let adds : AddsFile c.args.merge.now c.add_stream.new.self file =
+    lists_adds c.args.merge.now c.add_stream.new.self file c.in_ok-stream.stream.now (c.in_ok-stream.ensures.value files given) c.in_default.ensures.value in
     rw (take_more files c.args.input [] inside) (taken_more c.args.merge.now c.add_stream.new.self (take c.args.input files) file adds c.in_default.ensures.within taken)
 
 pub returns-in-Err-clause-refuses : goal.returns-in-Err-clause-refuses

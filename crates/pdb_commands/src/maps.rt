@@ -1,0 +1,64 @@
+//! The maps of a merge: where the type of each record of its inputs went.
+
+ghost use Rattle.std.specs.Prelude.{◌≡◌, ◌⊎◌, ◌^◌, ◌<◌, ℕ, true, Err, OnOk, IfErr, length, take};
+ghost use Rattle.std.specs.Io.KnownBytes.{Appends};
+ghost use Rattle.closed_trees.specs.Depth.{AreBelow};
+ghost use Rattle.tpi_records.specs.Header.{first_index};
+ghost use Rattle.msf_streams.specs.Put.{AppendsPart};
+ghost use Rattle.command_texts.specs.Maps.{map_lines, lines_of_maps};
+
+use crate::fault::RunFault;
+use byte_io::{Sink, put_all};
+use command_texts::push_map;
+use pdb_merge::TypeMaps;
+use std::alloc::Allocator;
+
+/// Makes the lines of the records of one file, and writes them.
+fn write_map<W: Sink, A: Allocator>(
+    alloc: A,
+    file: usize,
+    numbers: &[u32],
+    out: &mut W,
+) -> Result<(), RunFault<A>>
+    requires few { length numbers.now < 2 ^ 31 }
+    requires small { AreBelow (2 ^ 31) numbers.now }
+    ensures value { OnOk result (Appends (W.taken out.old) (W.taken out.new)
+        (map_lines file first_index numbers.now)) }
+    ensures fault { IfErr result (λ fault. (fault ≡ RunFault.Memory) ⊎ (fault ≡ RunFault.Write)) }
+    ensures write { result ≡ Err RunFault.Write →
+        (W.is_broken out.new ≡ true)
+        × AppendsPart (W.taken out.old) (W.taken out.new)
+        (map_lines file first_index numbers.now) }
+    ensures untouched { result ≡ Err RunFault.Memory → out.new ≡ out.old }
+{
+    let mut text = String::new(alloc);
+    push_map(&mut text, file, numbers)?;
+    put_all(out, text.as_bytes())?;
+    Ok(())
+}
+
+/// Writes the maps of a merge: a line for each record of each input, in their order. A line has the
+/// position of the input, from 0, the type index of the record, and the type index of its type in
+/// the file that was written.
+///
+/// The lines of one input are made at a time. After `Memory`, `out` took whole lines of the first
+/// inputs. After `Write` it is broken, and took the first bytes of the lines.
+pub fn write_maps<W: Sink, A: Allocator + Copy>(
+    alloc: A,
+    maps: &TypeMaps<A>,
+    out: &mut W,
+) -> Result<(), RunFault<A>>
+    ensures value { OnOk result
+        (Appends (W.taken out.old) (W.taken out.new) (lines_of_maps 0 maps.now)) }
+    ensures fault { IfErr result (λ fault. (fault ≡ RunFault.Memory) ⊎ (fault ≡ RunFault.Write)) }
+    ensures write { result ≡ Err RunFault.Write →
+        (W.is_broken out.new ≡ true)
+        × AppendsPart (W.taken out.old) (W.taken out.new) (lines_of_maps 0 maps.now) }
+    ensures memory { result ≡ Err RunFault.Memory →
+        (n : ℕ) × Appends (W.taken out.old) (W.taken out.new) (take n (lines_of_maps 0 maps.now)) }
+{
+    for file in 0..maps.len() {
+        write_map(alloc, file, maps.get(file), out)?;
+    }
+    Ok(())
+}
