@@ -1,7 +1,7 @@
 #!/usr/bin/python3
 """Merges PDB files on a Dask cluster. The result has the bytes of one merge on one machine.
 
-usage: merge_dask.py [--send] [--fan-in N] [--program P] --guid G --age N SCHEDULER OUT IN...
+usage: merge_dask.py [--send] [--fan-in N] [--program P] [--map MAP] --guid G --age N SCHEDULER OUT IN...
 
 SCHEDULER is the address of the scheduler, for example tcp://host:8786. Each worker needs the program,
 which is `pdbmerge`, or what --program names. The Debian package is python3-distributed.
@@ -16,18 +16,25 @@ its contents must not change meanwhile. With --send the client reads the files a
 Merged bytes go from worker to worker, and the last ones to the client. The client writes them to a
 temporary name in the folder of OUT, and renames it.
 
+With --map the file MAP gets the map of one merge of all files, in the same way. Each task follows the
+maps of the tasks before it through its own, as the script `follow` in the folder above this one does.
+
 If a file is refused, the client merges all files itself, as one merge. So the line of the refusal, its
-position and the status are those of this one merge. The status is 3 if the cluster fails: it can't be
+position and the status are those of this one merge. So it is too where MAP can't be written, and where
+it is OUT, an input or no plain file, no task is made. The status is 3 if the cluster fails: it can't be
 reached, a worker lacks the program, or a task has lost more workers than the scheduler allows (three,
 if nothing else is configured)."""
-import argparse, os, pathlib, subprocess, sys, tempfile
+import argparse, io, os, pathlib, runpy, subprocess, sys, tempfile
 
 from distributed import Client
 
+FOLLOW = pathlib.Path(__file__).resolve().parent.parent / 'follow'
 
-def merge(settings, inputs):
-    """The report and the bytes of one merge, or None if it is refused. An input is a path, or bytes, or
-    what an earlier merge gave."""
+
+def merge(settings, follow, inputs):
+    """The report and the bytes of one merge, how many files they are of, and the map of these files; or None
+    if it is refused. An input is a path, or bytes, or what an earlier merge gave. There is no map where
+    there is no function that follows maps."""
     if None in inputs:
         return None
     with tempfile.TemporaryDirectory() as folder:
@@ -39,19 +46,24 @@ def merge(settings, inputs):
             paths.append(os.path.join(folder, f'{number}.pdb'))
             with open(paths[-1], 'wb') as file:
                 file.write(contents[1] if isinstance(contents, tuple) else contents)
-        out = os.path.join(folder, 'merged.pdb')
-        done = subprocess.run([*settings, '--', out, *paths], stdin=subprocess.DEVNULL, capture_output=True)
+        out, mapping = pathlib.Path(folder, 'merged.pdb'), pathlib.Path(folder, 'map')
+        given = [f'--map={mapping}'] if follow else []
+        done = subprocess.run([*settings, *given, '--', out, *paths], stdin=subprocess.DEVNULL, capture_output=True)
         if done.returncode:
             return None
-        with open(out, 'rb') as file:
-            return done.stdout, file.read()
+        merged, lines = out.read_bytes(), mapping.read_bytes() if follow else None
+    if not isinstance(inputs[0], tuple):
+        return done.stdout, merged, len(inputs), lines
+    if follow:
+        lines = b''.join(follow(io.BytesIO(lines), ((count, io.BytesIO(earlier)) for _, _, count, earlier in inputs)))
+    return done.stdout, merged, sum(count for _, _, count, _ in inputs), lines
 
 
-def merge_tree(client, settings, inputs, fan_in):
+def merge_tree(client, settings, follow, inputs, fan_in):
     """What the last merge of the tree gives."""
     while True:
         groups = [inputs[at:at + fan_in] for at in range(0, len(inputs), fan_in)]
-        inputs = [client.submit(merge, settings, group) for group in groups]
+        inputs = [client.submit(merge, settings, follow, group) for group in groups]
         if len(inputs) == 1:
             return inputs[0].result()
 
@@ -72,11 +84,31 @@ def write_whole(path, contents):
         raise
 
 
+def is_taken(path, others):
+    """Whether MAP is one of these paths, or is there and no plain file."""
+    def is_one(other):
+        return path == other or os.path.exists(path) and os.path.exists(other) and os.path.samefile(path, other)
+
+    return os.path.exists(path) and not os.path.isfile(path) or any(map(is_one, others))
+
+
+def writes_map(path, others, lines):
+    """Writes MAP, if it can be written, and is none of these paths. Returns whether it did."""
+    if is_taken(path, others):
+        return False
+    try:
+        write_whole(os.path.abspath(path), lines)
+    except OSError:
+        return False
+    return True
+
+
 def arguments():
     parser = argparse.ArgumentParser(description='Merges PDB files on a Dask cluster.')
     parser.add_argument('--send', action='store_true', help='send the bytes of the files to the workers')
     parser.add_argument('--fan-in', type=int, default=8, metavar='N', help='how many files a task merges (8)')
     parser.add_argument('--program', default='pdbmerge', metavar='P', help='the program on the workers and here (pdbmerge)')
+    parser.add_argument('--map', metavar='MAP', help='write the map of all files into MAP')
     parser.add_argument('--guid', required=True, metavar='G')
     parser.add_argument('--age', required=True, metavar='N')
     parser.add_argument('scheduler', metavar='SCHEDULER')
@@ -88,24 +120,37 @@ def arguments():
     return words
 
 
+def merge_here(settings, words):
+    """One merge of all files by the client, as which the script ends."""
+    given = [] if words.map is None else [f'--map={words.map}']
+    sys.exit(subprocess.run([*settings, *given, '--', words.out, *words.inputs]).returncode)
+
+
 def main():
     words = arguments()
     settings = [words.program, 'merge', '--guid', words.guid, '--age', words.age]
     paths = [os.path.abspath(name) for name in words.inputs]
+    # One merge refuses OUT and inputs, and gives a stream nothing but the map.
+    named = ['/dev/stdout', '/dev/stderr', words.out, *words.inputs]
+    if words.map is not None and is_taken(words.map, named):
+        merge_here(settings, words)
+    follow = runpy.run_path(str(FOLLOW))['followed'] if words.map is not None else None
     merged = None
     # A file that the client can't read is refused below, by the merge of all files.
     if not words.send or all(os.access(path, os.R_OK) and os.path.isfile(path) for path in paths):
         inputs = [pathlib.Path(path).read_bytes() for path in paths] if words.send else paths
         try:
             with Client(words.scheduler, timeout='30s') as client:
-                merged = merge_tree(client, settings, inputs, words.fan_in)
+                merged = merge_tree(client, settings, follow, inputs, words.fan_in)
         except Exception as error:
             print(f'merge_dask.py: the cluster fails: {error}', file=sys.stderr)
             sys.exit(3)
     if merged is None:
-        sys.exit(subprocess.run([*settings, '--', words.out, *words.inputs]).returncode)
-    report, contents = merged
+        merge_here(settings, words)
+    report, contents, _, lines = merged
     write_whole(os.path.abspath(words.out), contents)
+    if follow and not writes_map(words.map, named, lines):
+        merge_here(settings, words)
     sys.stdout.buffer.write(report)
 
 
