@@ -143,6 +143,18 @@ uint32_t pdbmerge_merge(const pdbmerge_slice *files, size_t count,
                         const pdbmerge_settings *settings, uint8_t *out, size_t room,
                         pdbmerge_report *report, pdbmerge_fault *fault);
 
+/* Merges as pdbmerge_merge does, and lists where the types of each file went: for each type record of the
+ * file, in the order of their type indices, the type index of its type in the file that is written. These
+ * maps stand one after the other in `indices`, in the order of the files; `index_room` is how many type
+ * indices there is room for. `counts` has how many records each file has; `count_room` is at least `count`.
+ * `total` is how many records all files have. `report` and `total` are written after PDBMERGE_OK and after
+ * PDBMERGE_ROOM, which says that one of the three rooms is too little. Faults are those of pdbmerge_merge. */
+uint32_t pdbmerge_merge_map(const pdbmerge_slice *files, size_t count,
+                            const pdbmerge_settings *settings, uint8_t *out, size_t room,
+                            uint32_t *indices, size_t index_room,
+                            uint32_t *counts, size_t count_room,
+                            pdbmerge_report *report, uint64_t *total, pdbmerge_fault *fault);
+
 /* Copies a stream of a file, by its number from 0, to the front of `out`. Stream 2 holds the type
  * records. `size` is how many bytes the stream has, also after PDBMERGE_ROOM.
  * Faults, in order: 1 to 10, 11; 33; 100. */

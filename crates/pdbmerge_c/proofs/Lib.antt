@@ -5,3 +5,4 @@ pub mod FaultLaws
 pub mod DiffLaws
 pub mod InfoLaws
 pub mod LayoutLaws
+pub mod MapLaws

@@ -4,6 +4,7 @@ pub mod Identify
 pub mod Container
 pub mod Check
 pub mod Merge
+pub mod MergeMap
 pub mod Stream
 pub mod Info
 pub mod Records

@@ -11,6 +11,7 @@
 //! - `pdbmerge_identify` reads what identifies a file, an [`Identity`].
 //! - `pdbmerge_check` says whether the types of a file can be trusted, with [`Counts`].
 //! - `pdbmerge_merge` writes one file with the types of several, by [`Choices`], and a [`Report`].
+//! - `pdbmerge_merge_map` does so too, and lists where each type of each file went.
 //! - `pdbmerge_layout` reads the container of a file, a [`ContainerCounts`] and the sizes of its streams,
 //!   and `pdbmerge_blocks` lists the blocks of these streams. `pdbmerge_stream` copies a stream.
 //! - `pdbmerge_named_streams`, `pdbmerge_stream_names` and `pdbmerge_features` list what stream 1
@@ -38,6 +39,7 @@ mod info;
 mod layout;
 mod members;
 mod merge;
+mod merge_map;
 mod name;
 mod pair;
 mod records;

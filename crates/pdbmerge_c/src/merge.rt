@@ -3,7 +3,7 @@
 ghost use Rattle.std.specs.Prelude.{◌≡◌, ◌≢◌, ◌⊎◌, ◌↔◌, [], Some, ℕ, List, length, IfOk, IfErr, IfSome, IfNone};
 ghost use Rattle.std.specs.Borrow.{Bor};
 ghost use Rattle.pdb_info.specs.Settings.{SettingsView, record_limit};
-ghost use Rattle.pdb_merge.specs.Merged.{Wrote};
+ghost use Rattle.pdb_merge.specs.Merged.{IsFileOf, WroteWithMaps};
 ghost use Rattle.pdb_merge.specs.Union.{CanMerge};
 ghost use Rattle.pdbmerge_c.specs.Fault.{IsEnded, IsSaid};
 ghost use Rattle.pdbmerge_c.specs.Merge.{AreAllowed, IsRefusal, Merges, LacksRoom, RefusesMerge, bytes_of_files, settings_of};
@@ -13,7 +13,7 @@ use crate::give::give;
 use crate::seed::Seed;
 use byte_io::{Out, Sink};
 use pdb_info::Settings;
-use pdb_merge::{OutFault, Summary, merge_to};
+use pdb_merge::{KeepMaps, NoMaps, OutFault, Summary, merge_to_with};
 use std::alloc::Global;
 use std::hash::RandomState;
 use uuid::Uuid;
@@ -44,15 +44,16 @@ pub struct Report {
     pub bytes: u32,
 }
 
-/// A file that was merged, in memory.
+/// A file that was merged, in memory, and what keeps the maps.
 #[derive(Drop)]
-struct Merged {
-    file: Out<Vec<u8>>,
-    summary: Summary,
+pub(crate) struct Merged<K: KeepMaps + Drop> {
+    pub(crate) file: Out<Vec<u8>>,
+    pub(crate) summary: Summary,
+    pub(crate) maps: K,
 }
 
 /// The settings that were chosen. `None` where no file can have them.
-fn settings_from(choices: &Choices) -> Option<Settings>
+pub(crate) fn settings_from(choices: &Choices) -> Option<Settings>
     ensures value { IfSome result (λ settings. settings ≡ settings_of choices.now) }
     ensures allowed { IfSome result (λ _. AreAllowed choices.now) }
     ensures refused { IfNone result (AreAllowed choices.now → ⊥) }
@@ -62,28 +63,34 @@ fn settings_from(choices: &Choices) -> Option<Settings>
 }
 
 /// Merges files into a file in memory. The sink is in memory, so `Write` means out of memory too.
-fn merge_in_memory(
+pub(crate) fn merge_in_memory<K: KeepMaps + Drop>(
     alloc: Global,
     files: &[&[u8]],
     settings: &Settings,
     seed: &Seed,
-) -> Result<Merged, OutFault>
+    maps: K,
+) -> Result<Merged<K>, OutFault>
     ensures value { IfOk result (λ merged.
-        Wrote (bytes_of_files files.now) settings.now (Some [])
-        (⟦<Out<Vec<u8>> as Sink>⟧.taken merged.file) merged.summary) }
+        WroteWithMaps (IsFileOf (bytes_of_files files.now) settings.now) (bytes_of_files files.now)
+        K.maps (Some []) (⟦<Out<Vec<u8>> as Sink>⟧.taken merged.file)
+        (merged.summary, merged.maps)) }
     ensures refuses { IfErr result (IsRefusal files.now settings.now) }
 {
     let Ok(hasher) = RandomState::new(seed) else {
         return Err(OutFault::Memory);
     };
     let mut file = Out::new(Vec::new(alloc));
-    let summary = merge_to(alloc, files, settings, &mut file, hasher)?;
-    Ok(Merged { file, summary })
+    let (summary, maps) = merge_to_with(alloc, files, settings, &mut file, hasher, maps)?;
+    Ok(Merged {
+        file,
+        summary,
+        maps,
+    })
 }
 
 /// Says why files were not merged.
 #[tactic(auto, using(crate::proofs::NumberLaws::merge_known))]
-fn refuse_merge(fault: &mut Fault, why: &OutFault) -> u32
+pub(crate) fn refuse_merge(fault: &mut Fault, why: &OutFault) -> u32
     ensures told { fault.new.number ≡ result }
     ensures ended { IsEnded fault.new }
     ensures some { result ≢ 0 }
@@ -134,7 +141,7 @@ pub extern "C" fn pdbmerge_merge(
     let Some(settings) = settings_from(choices) else {
         return tell(fault, SETTINGS, None, &"101 Settings");
     };
-    match merge_in_memory(alloc, files, &settings, &choices.seed) {
+    match merge_in_memory(alloc, files, &settings, &choices.seed, NoMaps) {
         Ok(merged) => {
             report.types = merged.summary.types;
             report.bytes = merged.summary.bytes;

@@ -25,6 +25,7 @@ struct results {
     pdbmerge_report report;
     uint64_t size;
     uint32_t numbers[NUMBERS];
+    uint32_t maps[3];
     uint64_t offsets[1 << 12];
     pdbmerge_reference references[1 << 8];
     pdbmerge_difference differences[1 << 12];
@@ -96,6 +97,24 @@ static uint32_t run_merge_refused(struct results *to, pdbmerge_fault *fault) {
 
 static uint32_t run_merge_room(struct results *to, pdbmerge_fault *fault) {
     return merge(2, 0, to, fault);
+}
+
+static uint32_t merge_map(size_t count, size_t index_room, struct results *to, pdbmerge_fault *fault) {
+    pdbmerge_settings settings = settings_of(4096);
+    return pdbmerge_merge_map(files, count, &settings, to->out, sizeof to->out, to->numbers, index_room,
+                              to->maps, count, &to->report, &to->size, fault);
+}
+
+static uint32_t run_merge_map(struct results *to, pdbmerge_fault *fault) {
+    return merge_map(2, NUMBERS, to, fault);
+}
+
+static uint32_t run_merge_map_refused(struct results *to, pdbmerge_fault *fault) {
+    return merge_map(3, NUMBERS, to, fault);
+}
+
+static uint32_t run_merge_map_room(struct results *to, pdbmerge_fault *fault) {
+    return merge_map(2, 0, to, fault);
 }
 
 static uint32_t stream_of(uint32_t number, struct results *to, pdbmerge_fault *fault) {
@@ -203,6 +222,9 @@ static const struct call {
     {"merge", run_merge, PDBMERGE_OK},
     {"merge of a refused file", run_merge_refused, 34},
     {"merge without room", run_merge_room, PDBMERGE_ROOM},
+    {"merge with maps", run_merge_map, PDBMERGE_OK},
+    {"merge with maps of a refused file", run_merge_map_refused, 34},
+    {"merge without room for maps", run_merge_map_room, PDBMERGE_ROOM},
     {"stream", run_stream, PDBMERGE_OK},
     {"named streams", run_named_streams, PDBMERGE_OK},
     {"stream names", run_stream_names, PDBMERGE_OK},

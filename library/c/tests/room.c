@@ -100,6 +100,88 @@ static uint32_t into_merge(void *out, size_t room, uint64_t *size, pdbmerge_faul
     return number;
 }
 
+/* Enough room for each part of a merge with maps. */
+enum { FILE_ROOM = 1 << 20, INDEX_ROOM = 1 << 16, COUNT_ROOM = 2 };
+
+/* The rooms of a merge with maps: of the file, of the type indices and of the counts. */
+struct rooms {
+    uint8_t *out;
+    size_t room;
+    uint32_t *indices;
+    size_t index_room;
+    uint32_t *counts;
+    size_t count_room;
+};
+
+static int is_untouched(const uint8_t *memory, size_t from, size_t to);
+
+/* Memory that is enough for each part, and has the pattern. */
+static struct rooms enough(void) {
+    static uint8_t out[FILE_ROOM];
+    static uint32_t indices[INDEX_ROOM], counts[COUNT_ROOM];
+    memset(out, PATTERN, sizeof out);
+    memset(indices, PATTERN, sizeof indices);
+    memset(counts, PATTERN, sizeof counts);
+    return (struct rooms){out, FILE_ROOM, indices, INDEX_ROOM, counts, COUNT_ROOM};
+}
+
+/* Whether the memory that was enough has the pattern. */
+static int all_untouched(struct rooms to, const void *given) {
+    return (to.out == given || is_untouched(to.out, 0, FILE_ROOM))
+        && (to.indices == given || is_untouched((uint8_t *)to.indices, 0, INDEX_ROOM * sizeof *to.indices))
+        && (to.counts == given || is_untouched((uint8_t *)to.counts, 0, COUNT_ROOM * sizeof *to.counts));
+}
+
+/* The report and the total are looked at as well: those of a merge with enough room. Where one part has too
+ * little, the other two are as before. */
+static uint32_t merge_map_into(struct rooms to, const void *given, pdbmerge_report *report, uint64_t *total,
+                               pdbmerge_fault *fault) {
+    static pdbmerge_report whole;
+    static uint64_t all;
+    pdbmerge_settings settings = settings_of(4096);
+    pdbmerge_slice files[2] = {first, second};
+    uint32_t number = pdbmerge_merge_map(files, 2, &settings, to.out, to.room, to.indices, to.index_room,
+                                         to.counts, to.count_room, report, total, fault);
+    if (whole.length == 0) {
+        whole = *report;
+        all = *total;
+    }
+    hold("the report with maps", memcmp(report, &whole, sizeof whole) == 0, 1);
+    hold("the total of records", *total, all);
+    if (number != PDBMERGE_OK)
+        hold("the other rooms are as before", all_untouched(to, given), 1);
+    return number;
+}
+
+static uint32_t into_mapped_file(void *out, size_t room, uint64_t *size, pdbmerge_fault *fault) {
+    struct rooms to = enough();
+    pdbmerge_report report = {0, 0, 0};
+    uint64_t total = 0;
+    to.out = out;
+    to.room = room;
+    uint32_t number = merge_map_into(to, out, &report, &total, fault);
+    *size = report.length;
+    return number;
+}
+
+static uint32_t into_indices(void *out, size_t room, uint64_t *size, pdbmerge_fault *fault) {
+    struct rooms to = enough();
+    pdbmerge_report report = {0, 0, 0};
+    to.indices = out;
+    to.index_room = room;
+    return merge_map_into(to, out, &report, size, fault);
+}
+
+static uint32_t into_counts(void *out, size_t room, uint64_t *size, pdbmerge_fault *fault) {
+    struct rooms to = enough();
+    pdbmerge_report report = {0, 0, 0};
+    uint64_t total = 0;
+    to.counts = out;
+    to.count_room = room;
+    *size = 2;
+    return merge_map_into(to, out, &report, &total, fault);
+}
+
 /* The calls that take room, and the size of an item. */
 static const struct row {
     const char *name;
@@ -119,6 +201,9 @@ static const struct row {
     {"members", into_members, 1},
     {"changes", into_changes, 1},
     {"merge", into_merge, 1},
+    {"file of a merge with maps", into_mapped_file, 1},
+    {"indices of maps", into_indices, sizeof(uint32_t)},
+    {"counts of maps", into_counts, sizeof(uint32_t)},
 };
 
 /* Whether memory holds the pattern from one place to another. */
@@ -365,6 +450,24 @@ static void hold_null_room(void) {
 
 /* ---- Merges that are refused */
 
+/* A merge with maps has the same fault, and leaves all memory as it was. */
+static void hold_refused_maps(const pdbmerge_slice *files, size_t count, pdbmerge_settings settings,
+                              const pdbmerge_fault *wanted) {
+    struct rooms to = enough();
+    pdbmerge_report report;
+    pdbmerge_fault fault;
+    uint64_t total = 7;
+    memset(&report, PATTERN, sizeof report);
+    uint32_t number = pdbmerge_merge_map(files, count, &settings, to.out, to.room, to.indices, to.index_room,
+                                         to.counts, to.count_room, &report, &total, &fault);
+    hold("a merge with maps that is refused", number, wanted->number);
+    hold("its input", fault.input, wanted->input);
+    hold_text("its text", fault.text, wanted->text);
+    hold("its rooms are as before", all_untouched(to, NULL), 1);
+    hold("its report is as before", is_untouched((uint8_t *)&report, 0, sizeof report), 1);
+    hold("its total is as before", total, 7);
+}
+
 /* A merge that is refused leaves memory and report as they were. */
 static pdbmerge_fault refused(const pdbmerge_slice *files, size_t count, pdbmerge_settings settings,
                               uint32_t wanted) {
@@ -378,6 +481,7 @@ static pdbmerge_fault refused(const pdbmerge_slice *files, size_t count, pdbmerg
     hold("its fault", fault.number, wanted);
     hold("out is as before", is_untouched(out, 0, sizeof out), 1);
     hold("the report is as before", is_untouched((uint8_t *)&report, 0, sizeof report), 1);
+    hold_refused_maps(files, count, settings, &fault);
     return fault;
 }
 

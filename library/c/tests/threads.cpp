@@ -41,6 +41,19 @@ Answer merged(const pdbmerge_slice *files, size_t count) {
     return answer_of(number, out, number == PDBMERGE_OK ? report.length : 0);
 }
 
+Answer mapped(const pdbmerge_slice *files, size_t count) {
+    const pdbmerge_settings settings = settings_of(4096);
+    std::vector<uint8_t> out(1 << 20);
+    std::vector<uint32_t> indices(1 << 16), counts(count);
+    pdbmerge_report report;
+    pdbmerge_fault fault;
+    uint64_t total = 0;
+    const uint32_t number =
+        pdbmerge_merge_map(files, count, &settings, out.data(), out.size(), indices.data(), indices.size(),
+                           counts.data(), counts.size(), &report, &total, &fault);
+    return answer_of(number, indices, number == PDBMERGE_OK ? total : 0);
+}
+
 Answer identified(pdbmerge_slice file) {
     pdbmerge_identity identity{};
     pdbmerge_fault fault;
@@ -128,6 +141,7 @@ std::vector<Answer> all_answers(const pdbmerge_slice *files) {
             list_of(pdbmerge_blocks, files[0]),
             checked(files[0]),
             merged(files, 2),
+            mapped(files, 2),
             stream_of(files[0], 2),
             list_of(pdbmerge_named_streams, info),
             list_of(pdbmerge_stream_names, info),
@@ -163,6 +177,7 @@ void hold_empty() {
     const std::vector<pdbmerge_slice> none;
     hold("check of an empty vector", checked({empty.data(), empty.size()}).number, 1);
     hold("merge of an empty vector of files", merged(none.data(), none.size()).number, PDBMERGE_OK);
+    hold("maps of an empty vector of files", mapped(none.data(), none.size()).number, PDBMERGE_OK);
 }
 
 // What a thread with a small stack merges, and into what.

@@ -8,13 +8,14 @@ A call that refuses raises PdbError. The numbers and texts are those of the prog
 """
 from __future__ import annotations
 
+import array
 import builtins
 import ctypes as c
 import dataclasses
 import itertools
 import os
 import uuid
-from typing import Callable, Dict, Iterable, Iterator, List, Optional, Tuple, Type, TypeVar, Union
+from typing import TYPE_CHECKING, Callable, Dict, Iterable, Iterator, List, Optional, Tuple, Type, TypeVar, Union
 
 from . import _definitions, _library
 from ._definitions import Change, Definition, Member
@@ -53,6 +54,12 @@ __all__ = [
     'version',
 ]
 
+# At run time an array takes no type of its items before Python 3.12.
+if TYPE_CHECKING:
+    _Words = array.array[int]
+else:
+    _Words = array.array
+
 # The stream that holds the names of streams and the feature codes.
 _INFO = 1
 # The stream that holds the type records, and the type index of the first of them.
@@ -60,6 +67,8 @@ _TYPES = 2
 _FIRST = 0x1000
 _LARGEST = 2**32 - 1
 _LARGEST_BLOCK = 32768
+# Few records have less bytes. Where there are more than the room for maps holds, it is merged once more.
+_RECORD = 8
 # Room for a text at first. What changed between two files mostly takes less.
 _TEXT = 2**20
 
@@ -135,11 +144,16 @@ class Counts:
 
 @dataclasses.dataclass(frozen=True)
 class Merged:
-    """A file that was written, how many types it has, and how many bytes their records have."""
+    """A file that was written, how many types it has, and how many bytes their records have.
+
+    `maps` is None unless they were asked for. The map of a file has for each of its type records the type
+    index of its type in the file that was written: `maps[0][index - 0x1000]` for one of the first file.
+    """
 
     file: builtins.bytes
     types: int
     bytes: int
+    maps: Optional[Tuple[_Words, ...]] = dataclasses.field(default=None, repr=False)
 
 
 @dataclasses.dataclass(frozen=True)
@@ -304,12 +318,19 @@ def check(file: Buffer) -> Counts:
 
 
 def merge(
-    files: Iterable[Buffer], *, guid: uuid.UUID, age: int, limit: int = 2**30, block_size: int = 4096
+    files: Iterable[Buffer],
+    *,
+    guid: uuid.UUID,
+    age: int,
+    limit: int = 2**30,
+    block_size: int = 4096,
+    maps: bool = False,
 ) -> Merged:
     """One file with exactly the types of all files, each once, in canonical order.
 
     The same types give the same bytes, whatever the order of the files and however often one is given.
-    `limit` is the most bytes that the type records may have together.
+    `limit` is the most bytes that the type records may have together. With `maps` the answer also has the
+    map of each file, in the order of the files.
     """
     settings = _library.Settings(
         guid=(c.c_uint8 * 16)(*guid.bytes),
@@ -321,14 +342,46 @@ def merge(
     report, fault = _library.Report(), _library.Fault()
     with _library.lent(*files) as slices:
         table = (_library.Slice * len(slices))(*slices)
+        mapping = _Maps(slices) if maps else None
+
+        def call(out: int, room: int) -> int:
+            merging = (table, len(table), settings, out, room)
+            if mapping is None:
+                return _library.merge(*merging, report, fault)
+            return _library.merge_map(*merging, *mapping.rooms(), report, mapping.total, fault)
+
         file = _made(
             _room(slices, settings.limit),
             lambda: report.length,
-            lambda out, room: _done(
-                _library.merge(table, len(table), settings, out, room, report, fault), fault
-            ),
+            lambda out, room: _done(call(out, room), fault),
         )
-    return Merged(file, report.types, report.bytes)
+    return Merged(file, report.types, report.bytes, mapping.each() if mapping else None)
+
+
+class _Maps:
+    """Room for the maps of files."""
+
+    def __init__(self, files: List[_library.Slice]) -> None:
+        self._counts = (c.c_uint32 * len(files))()
+        self._indices = _words_of(sum(file.length for file in files) // _RECORD)
+        self.total = c.c_uint64()
+
+    def rooms(self) -> Tuple[c.Array[c.c_uint32], int, c.Array[c.c_uint32], int]:
+        """Room for the indices and for the counts, as a call takes them."""
+        if len(self._indices) < self.total.value:
+            self._indices = _words_of(self.total.value)
+        indices = (c.c_uint32 * len(self._indices)).from_buffer(self._indices)
+        return indices, len(indices), self._counts, len(self._counts)
+
+    def each(self) -> Tuple[_Words, ...]:
+        """The map of each file."""
+        ends = list(itertools.accumulate(self._counts))
+        return tuple(self._indices[end - count:end] for end, count in zip(ends, self._counts))
+
+
+def _words_of(count: int) -> _Words:
+    """So many numbers of 32 bits."""
+    return array.array('I', [0]) * count
 
 
 def _room(files: List[_library.Slice], limit: int) -> int:

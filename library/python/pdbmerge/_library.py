@@ -126,6 +126,18 @@ check = _declared('pdbmerge_check', *_bytes, c.POINTER(Counts), _fault)
 merge = _declared(
     'pdbmerge_merge', c.POINTER(Slice), c.c_size_t, c.POINTER(Settings), *_bytes, c.POINTER(Report), _fault
 )
+merge_map = _declared(
+    'pdbmerge_merge_map',
+    c.POINTER(Slice),
+    c.c_size_t,
+    c.POINTER(Settings),
+    *_bytes,
+    *_words,
+    *_words,
+    c.POINTER(Report),
+    _size,
+    _fault,
+)
 stream = _declared('pdbmerge_stream', *_bytes, c.c_uint32, *_bytes, _size, _fault)
 named_streams = _declared('pdbmerge_named_streams', *_bytes, *_words, _size, _fault)
 stream_names = _declared('pdbmerge_stream_names', *_bytes, *_bytes, _size, _fault)

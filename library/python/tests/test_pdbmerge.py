@@ -39,6 +39,10 @@ from pdbmerge import Change, Definition, Member
 
 EXAMPLES = ROOT / 'examples'
 GUID = uuid.UUID('00112233-4455-6677-8899-aabbccddeeff')
+# The type index of the first record of a file.
+FIRST = 0x1000
+# Two files that share some types.
+PAIR = ['chain-200.1.pdb', 'chain-200.2.pdb']
 # What the refusal of a row begins with: the position of a file, a type index, and the number.
 REFUSED = re.compile(r'pdbmerge: (?:file (\d+): )?(?:index 0x[0-9a-f]+: )?(\d+) ')
 # Runs in a process that gets no more memory.
@@ -740,6 +744,41 @@ class Merges(Checks):
         made = merged([])
         self.hold('nothing', (made.types, made.bytes), (0, 0))
         self.hold('accepted', pdbmerge.check(made.file), pdbmerge.Counts(0, 0, 0))
+
+    def hold_map(self, what, file, numbers, types):
+        """Each record of the file has the kind and the name of the record to which the map leads."""
+        told = [(each.kind, each.name(), len(each.data)) for each in pdbmerge.types(file)]
+        found = [types[index - FIRST] for index in numbers]
+        self.hold(what, [(each.kind, each.name(), len(each.data)) for each in found], told)
+
+    def test_maps(self):
+        for pair in (PAIR, ['memptr.pdb', 'data.pdb'], ['differences/edited-1.pdb', 'differences/edited-2.pdb']):
+            one, other = map(content, pair)
+            made = merged([one, other, one], maps=True)
+            plain = merged([one, other, one])
+            self.hold(f'file of {pair}', (made.file, made.types, made.bytes), (plain.file, plain.types, plain.bytes))
+            self.hold('how many maps', (len(made.maps), plain.maps), (3, None))
+            self.hold('the same map twice', made.maps[0] == made.maps[2], True)
+            self.hold('a map is an array', [each.typecode for each in made.maps], ['I', 'I', 'I'])
+            types = list(pdbmerge.types(made.file))
+            for name, file, numbers in zip(pair, [one, other], made.maps):
+                self.hold_map(f'map of {name}', file, numbers, types)
+            self.hold('all types', {n for each in made.maps for n in each}, {FIRST + n for n in range(made.types)})
+
+    def test_maps_of_a_merge(self):
+        made = merged(map(content, PAIR))
+        again = merged([made.file], maps=True)
+        self.hold('each type stays', list(again.maps[0]), [FIRST + n for n in range(made.types)])
+        self.hold('no files', merged([], maps=True).maps, ())
+        self.hold('no types', list(merged([small_files.written([])], maps=True).maps[0]), [])
+        self.refuses('a refusal', pdbmerge.PdbError, 1, 1, merged, [made.file, b''], maps=True)
+
+    def test_room_for_maps(self):
+        files = [content(name) for name in PAIR]
+        want = merged(files, maps=True)
+        for what, patched in ('the file', {'_room': lambda *_: 0}), ('the maps', {'_RECORD': 2**20}):
+            with mock.patch.multiple(pdbmerge, **patched):
+                self.hold(f'little room for {what}', merged(files, maps=True), want)
 
     def test_identity(self):
         guid = uuid.uuid4()

@@ -210,6 +210,22 @@ extern "C" {
         fault: *mut pdbmerge_fault,
     ) -> u32;
 
+    /// Merges, and lists where the types of each file went.
+    pub fn pdbmerge_merge_map(
+        files: *const pdbmerge_slice,
+        count: usize,
+        settings: *const pdbmerge_settings,
+        out: *mut u8,
+        room: usize,
+        indices: *mut u32,
+        index_room: usize,
+        counts: *mut u32,
+        count_room: usize,
+        report: *mut pdbmerge_report,
+        total: *mut u64,
+        fault: *mut pdbmerge_fault,
+    ) -> u32;
+
     /// Copies a stream of a file.
     pub fn pdbmerge_stream(
         file: *const u8,

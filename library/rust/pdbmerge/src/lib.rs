@@ -33,6 +33,7 @@ mod definition;
 mod error;
 mod info;
 mod layout;
+mod maps;
 mod record;
 mod settings;
 
@@ -49,6 +50,9 @@ pub use definition::{
 pub use error::{Error, ErrorKind};
 pub use info::{features, named_streams, NamedStream};
 pub use layout::{layout, Layout, Stream};
+#[cfg(feature = "std")]
+pub use maps::merge_with_maps;
+pub use maps::merge_with_maps_and_seed;
 pub use record::{records, types, Iter, Record, Records, Reference};
 pub use settings::{Seed, Settings};
 
@@ -165,7 +169,7 @@ pub fn merge_with_seed<T: AsRef<[u8]>>(
 }
 
 /// Bytes as a call takes several of them.
-fn lent(bytes: &[u8]) -> sys::pdbmerge_slice {
+pub(crate) fn lent(bytes: &[u8]) -> sys::pdbmerge_slice {
     sys::pdbmerge_slice {
         bytes: bytes.as_ptr(),
         length: bytes.len(),
@@ -174,7 +178,7 @@ fn lent(bytes: &[u8]) -> sys::pdbmerge_slice {
 
 /// Room for what is merged, unless streams share blocks: the types, the lists of blocks, and the other
 /// streams.
-fn room(files: &[sys::pdbmerge_slice], limit: u32) -> usize {
+pub(crate) fn room(files: &[sys::pdbmerge_slice], limit: u32) -> usize {
     const LARGEST_BLOCK: usize = 32768;
     let total = files
         .iter()

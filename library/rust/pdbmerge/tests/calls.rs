@@ -10,9 +10,9 @@ use common::{content, root, settings};
 use container::{container, words, BLOCK};
 use pdbmerge::{
     changes, changes_with_seed, check, diff, features, identify, layout, members, members_named,
-    merge, merge_with_seed, named_streams, records, stream, types, version, Change, Definition,
-    DefinitionKind, Error, ErrorKind, Layout, Member, NamedStream, Record, Reference, Seed,
-    Settings,
+    merge, merge_with_maps, merge_with_maps_and_seed, merge_with_seed, named_streams, records,
+    stream, types, version, Change, Definition, DefinitionKind, Error, ErrorKind, Layout, Member,
+    NamedStream, Record, Reference, Seed, Settings,
 };
 
 /// The number, the file and the kind of a refusal.
@@ -112,6 +112,45 @@ fn a_file_keeps_its_settings() {
         assert_eq!((identity.guid, identity.age), (settings.guid, settings.age));
         assert_eq!(identity.block_size, block_size);
     }
+}
+
+/// The kind, the name and the length of a record.
+fn outline<'a>(record: &Record<'a>) -> (u16, Option<Vec<u8>>, usize) {
+    let name = record.name().expect("a name or none");
+    (record.kind(), name, record.bytes().len())
+}
+
+#[test]
+fn maps_lead_to_the_same_types() {
+    let (one, other) = (content("chain-200.1.pdb"), content("chain-200.2.pdb"));
+    let files = [&one, &other, &one];
+    let (merged, maps) = merge_with_maps(&files, &settings()).expect("a merge");
+    assert_eq!(merge(&files, &settings()).as_ref(), Ok(&merged));
+    let seeded = merge_with_maps_and_seed(&files, &settings(), Seed([7; 16]));
+    assert_eq!(seeded, Ok((merged.clone(), maps.clone())));
+    assert_eq!((maps.len(), &maps[0]), (3, &maps[2]));
+    let written = types(&merged.file).expect("types");
+    let outlines: Vec<_> = written.iter().map(|record| outline(&record)).collect();
+    for (file, map) in files.iter().zip(&maps) {
+        let records = types(file).expect("types");
+        assert_eq!(map.len(), records.iter().count());
+        for (record, index) in records.iter().zip(map) {
+            assert_eq!(outlines[*index as usize - 0x1000], outline(&record));
+        }
+    }
+}
+
+#[test]
+fn maps_of_what_was_merged() {
+    let files = [content("chain-200.1.pdb"), content("chain-200.2.pdb")];
+    let merged = merge(&files, &settings()).expect("a merge");
+    let (again, maps) = merge_with_maps(&[&merged.file], &settings()).expect("a merge");
+    assert_eq!(again, merged);
+    assert_eq!(maps, [(0x1000..0x1000 + merged.types).collect::<Vec<_>>()]);
+    let none = merge_with_maps::<&[u8]>(&[], &settings()).expect("a merge");
+    assert_eq!((none.0.types, none.1.len()), (0, 0));
+    let refused = merge_with_maps(&[&merged.file[..], b""], &settings());
+    assert_eq!(refusal(refused), (1, Some(1), ErrorKind::Refused));
 }
 
 #[test]
