@@ -62,6 +62,7 @@ test:
 	tests/explain
 	tests/inputs
 	tests/guid
+	tests/maps
 	tests/difference
 	tests/members
 	tests/changes

@@ -35,7 +35,7 @@ _pdbmerge() {
         return
     fi
     case $command in
-        merge) options='--guid --age --limit --block-size --max-bytes --files-from -0 --null --progress -v --verbose -h --help' ;;
+        merge) options='--guid --age --limit --block-size --max-bytes --files-from -0 --null --map --progress -v --verbose -h --help' ;;
         diff) options='--origins --members --max-bytes -v --verbose -h --help' ;;
         members | records | record | types | check | streams | info) options='--max-bytes -v --verbose -h --help' ;;
         explain) options='-v --verbose -h --help' ;;
@@ -57,7 +57,7 @@ _pdbmerge() {
             _pdbmerge_words "$word" types
             return
             ;;
-        --files-from)
+        --files-from | --map)
             _pdbmerge_any_files "$word"
             return
             ;;

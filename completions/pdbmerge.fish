@@ -54,6 +54,7 @@ complete -c pdbmerge -n '__pdbmerge_command_is merge diff members records record
 complete -c pdbmerge -n '__pdbmerge_command_is merge' -x -l block-size -a '512 1024 2048 4096 8192 16384 32768' -d 'How many bytes a block of the file has'
 complete -c pdbmerge -n '__pdbmerge_command_is merge' -r -F -l files-from -d 'A file with the paths of more inputs'
 complete -c pdbmerge -n '__pdbmerge_command_is merge' -s 0 -l null -d 'The paths of the list end with a NUL'
+complete -c pdbmerge -n '__pdbmerge_command_is merge' -r -F -l map -d 'A file that tells where each type went'
 complete -c pdbmerge -n '__pdbmerge_command_is merge' -l progress -d 'Tells how many of the inputs were read'
 complete -c pdbmerge -n '__pdbmerge_command_is merge diff members records record types check streams info explain help' -s v -l verbose -d 'Says more after a refusal'
 # One of these two is enough.

@@ -289,7 +289,7 @@ def told(fault):
 
 def number_of(line):
     """The number of the fault that a refusal names."""
-    return int(re.fullmatch(r'pdbmerge: (?:file \d+: )?(?:index 0x[0-9a-f]+: )?(\d+) .*\n', line)[1])
+    return int(re.fullmatch(r'pdbmerge: (?:file \d+: |map: )?(?:index 0x[0-9a-f]+: )?(\d+) .*\n', line)[1])
 
 
 def quoted(path):
