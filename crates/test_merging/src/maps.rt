@@ -1,7 +1,8 @@
 //! Maps of files: by two hashers, of later references and repeated types, and while memory is refused.
 
 use super::calls::merge_with_maps;
-use pdb_merge::{MergeFault, OutFault, TypeMaps};
+use pdb_info::Settings;
+use pdb_merge::TypeMaps;
 use std::alloc::{Allocator, Global};
 use std::hash::BuildHasher;
 use std::test::Fail;
@@ -71,6 +72,26 @@ fn where_each_type_went(rt: HostRuntime) -> Result<(), Fail> {
     Ok(())
 }
 
+/// The number of the fault where memory is refused.
+const MEMORY: u32 = 33;
+
+/// Merges files. Returns whether memory was refused. It is a failure if the answer is neither that nor
+/// the whole one.
+fn lacks_memory<A: Allocator + Copy>(
+    heap: A,
+    alloc: Global,
+    files: &[&[u8]],
+    settings: &Settings,
+    want: &[u8],
+) -> Result<bool, Fail> {
+    let (answer, file) = merge_with_maps(heap, alloc, files, settings, folding());
+    match &answer {
+        Ok(maps) if are_right(maps) && file.as_slice() == want => Ok(false),
+        Err(fault) if fault.number() == MEMORY && file.is_empty() => Ok(true),
+        _ => Err("another answer".into()),
+    }
+}
+
 /// Merges files while memory is refused. Returns whether it was.
 fn is_refused(
     heap: &TestHeap,
@@ -81,14 +102,10 @@ fn is_refused(
 ) -> Result<bool, Fail> {
     let settings = settings(LIMIT, 4096)?;
     let filler = refusal.begin(heap);
-    let (answer, file) = merge_with_maps(heap, alloc, files, &settings, folding());
+    let refused = lacks_memory(heap, alloc, files, &settings, want);
     drop(filler);
     heap.stop_failing();
-    match answer {
-        Ok(maps) if are_right(&maps) && file.as_slice() == want => Ok(false),
-        Err(OutFault::Memory | OutFault::Merge(MergeFault::Memory)) if file.is_empty() => Ok(true),
-        _ => Err("another answer".into()),
-    }
+    refused
 }
 
 #[test]
