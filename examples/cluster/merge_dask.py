@@ -24,7 +24,7 @@ position and the status are those of this one merge. So it is too where MAP can'
 it is OUT, an input or no plain file, no task is made. The status is 3 if the cluster fails: it can't be
 reached, a worker lacks the program, or a task has lost more workers than the scheduler allows (three,
 if nothing else is configured)."""
-import argparse, io, os, pathlib, runpy, subprocess, sys, tempfile
+import argparse, io, logging, os, pathlib, runpy, subprocess, sys, tempfile
 
 from distributed import Client
 
@@ -128,6 +128,8 @@ def merge_here(settings, words):
 
 def main():
     words = arguments()
+    # A client that ends leaves futures that nobody waits for, and says so on standard error.
+    logging.getLogger('asyncio').setLevel(logging.CRITICAL)
     settings = [words.program, 'merge', '--guid', words.guid, '--age', words.age]
     paths = [os.path.abspath(name) for name in words.inputs]
     # One merge refuses OUT and inputs, and gives a stream nothing but the map.
