@@ -15,7 +15,7 @@ indices_of maps = concat (map (map (λ n. first_index + n)) maps)
 
 -- the file is reported, and these are the maps of the files into its records: their type indices,
 -- and how many each map has
-pub record IsMapped (files : List (Bor (List ℕ))) (choices : Choices) (report : Report)
+pub record HasFileAndMaps (files : List (Bor (List ℕ))) (choices : Choices) (report : Report)
     (file indices counts : List ℕ) : Type 0 where
   pub is_reported : IsReported files choices report file
   pub maps : List (List ℕ)
@@ -31,7 +31,7 @@ pub record MergesWithMaps (files : List (Bor (List ℕ))) (choices : Choices) (r
     pub file : List ℕ
     pub indices : List ℕ
     pub counts : List ℕ
-    pub is_mapped : IsMapped files choices report file indices counts
+    pub has : HasFileAndMaps files choices report file indices counts
     pub total_is : total ≡ length indices
     pub fills : Fills file out_old out_new
     pub fills_indices : Fills indices indices_old indices_new
@@ -48,6 +48,6 @@ pub record LacksRoomOfMaps (files : List (Bor (List ℕ))) (choices : Choices) (
   pub file : List ℕ
   pub indices : List ℕ
   pub counts : List ℕ
-  pub is_mapped : IsMapped files choices report file indices counts
+  pub has : HasFileAndMaps files choices report file indices counts
   pub total_is : total ≡ length indices
   pub long : AreTooLong file indices counts room index_room count_room

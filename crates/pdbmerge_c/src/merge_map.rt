@@ -1,13 +1,13 @@
 //! One file with the types of several, and where each of their types went.
 
-ghost use Rattle.std.specs.Prelude.{◌≡◌, ◌≢◌, ◌⊎◌, ◌↔◌, ◌+◌, ◌<◌, ◌^◌, [], length, map, OnOk, IfOk, IfErr, IfSome};
-ghost use Rattle.std.specs.List.{All, concat};
+ghost use Rattle.std.specs.Prelude.{◌≡◌, ◌≢◌, ◌⊎◌, ◌↔◌, ◌+◌, ◌^◌, ◌++◌, length, map, OnOk, IfOk, IfErr, IfSome};
+ghost use Rattle.closed_trees.specs.Depth.{AreBelow};
 ghost use Rattle.pdb_info.specs.Settings.{record_limit};
 ghost use Rattle.pdb_merge.specs.Union.{CanMerge};
 ghost use Rattle.pdbmerge_c.specs.Fault.{IsEnded, IsSaid, IsTold, no_number};
 ghost use Rattle.pdbmerge_c.specs.Given.{Fills};
 ghost use Rattle.pdbmerge_c.specs.Merge.{AreAllowed, IsRefusal, RefusesMerge, bytes_of_files, settings_of};
-ghost use Rattle.pdbmerge_c.specs.MergeMap.{AreTooLong, IsMapped, LacksRoomOfMaps, MergesWithMaps, indices_of};
+ghost use Rattle.pdbmerge_c.specs.MergeMap.{AreTooLong, HasFileAndMaps, LacksRoomOfMaps, MergesWithMaps, indices_of};
 
 use crate::fault::{Fault, ROOM, SETTINGS, clear, tell};
 use crate::give::fill;
@@ -36,54 +36,31 @@ struct Mapped {
     lists: Lists,
 }
 
-/// Appends the positions of all maps.
-#[tactic(auto, using(crate::proofs::MapLaws::concat_more))]
-fn push_positions(positions: &mut Vec<u32>, maps: &TypeMaps) -> Result<(), AllocError>
-    requires { positions.old.items ≡ [] }
-    ensures { OnOk result (positions.new.items ≡ concat maps.now) }
+/// Appends the type indices of the records at these positions.
+fn push_indices(indices: &mut Vec<u32>, positions: &[u32]) -> Result<(), AllocError>
+    requires { AreBelow (2 ^ 31) positions.now }
+    ensures { OnOk result
+        (indices.new.items ≡ indices.old.items ++ map (λ p. FIRST_INDEX + p) positions.now) }
 {
-    for file in 0..maps.len() {
-        positions.extend_from_slice(maps.get(file))?;
-    }
-    Ok(())
-}
-
-/// Replaces each position with the type index of the record there.
-fn to_indices(positions: &mut [u32])
-    requires { All (λ p. p < 2 ^ 30) positions.old }
-    ensures { positions.new ≡ map (λ p. FIRST_INDEX + p) positions.old }
-{
-    for position in positions.iter_mut() {
-        *position += FIRST_INDEX;
-    }
-}
-
-/// Appends how many positions each map has.
-#[tactic(auto, using(crate::proofs::MapLaws::lengths_more))]
-fn push_counts(counts: &mut Vec<u32>, maps: &TypeMaps) -> Result<(), AllocError>
-    requires empty { counts.old.items ≡ [] }
-    requires few { All (λ each. length each < 2 ^ 30) maps.now }
-    ensures { OnOk result (counts.new.items ≡ map length maps.now) }
-{
-    for file in 0..maps.len() {
-        counts.push(maps.get(file).len() as u32)?;
+    for position in positions {
+        indices.push(FIRST_INDEX + *position)?;
     }
     Ok(())
 }
 
 /// The maps as they are copied.
-#[tactic(auto, using(crate::proofs::MapLaws::indices_at_once))]
+#[tactic(auto, using(crate::proofs::MapLaws::indices_more, crate::proofs::MapLaws::lengths_more))]
 fn list_maps(alloc: Global, maps: &TypeMaps) -> Result<Lists, AllocError>
-    requires few { All (λ each. length each < 2 ^ 30) maps.now }
-    requires low { All (λ p. p < 2 ^ 30) (concat maps.now) }
     ensures indices { IfOk result (λ lists. lists.indices.items ≡ indices_of maps.now) }
     ensures counts { IfOk result (λ lists. lists.counts.items ≡ map length maps.now) }
 {
     let mut indices = Vec::new(alloc);
-    push_positions(&mut indices, maps)?;
-    to_indices(&mut indices);
     let mut counts = Vec::new(alloc);
-    push_counts(&mut counts, maps)?;
+    for file in 0..maps.len() {
+        let positions = maps.get(file);
+        push_indices(&mut indices, positions)?;
+        counts.push(positions.len() as u32)?;
+    }
     Ok(Lists { indices, counts })
 }
 
@@ -97,7 +74,7 @@ fn merge_with_maps(
     requires { settings.now ≡ settings_of choices.now }
     ensures value { IfOk result (λ mapped.
         IfSome (⟦<Out<Vec<u8>> as Sink>⟧.taken mapped.file) (λ file.
-        IsMapped files.now choices.now mapped.report
+        HasFileAndMaps files.now choices.now mapped.report
         file mapped.lists.indices.items mapped.lists.counts.items)) }
     ensures refuses { IfErr result (IsRefusal files.now (settings_of choices.now)) }
 {
