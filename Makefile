@@ -4,7 +4,7 @@ PREFIX ?= /usr/local
 PROGRAM := build/pdbmerge
 SOURCES := $(shell find crates -name '*.rt' -o -name '*.antt') crates.txt
 
-.PHONY: all try announce demo test bench install library dist clean
+.PHONY: all try announce demo test bench install uninstall library dist static arm64 windows web ports clean distclean
 
 all: $(PROGRAM)
 
@@ -38,8 +38,9 @@ demo: announce $(PROGRAM)
 # The gate: every proof from nothing, every must-fail edit, every test; then the program as a
 # process, on the shipped files, with each call to the system failing in turn, with what is built
 # around it, and a minute of damaged files; then half a minute of them over the libraries, by the
-# program of campaign_driver. tests/tools installs the tools that this needs, `rt ci` leaves the
-# programs that it proved and linked, and tools/archive compiles the library for C.
+# program of campaign_driver. tests/tools installs the tools that this needs, and `rt ci` leaves the
+# programs that it proved and linked. Of a program that it has kept it leaves no object file, so that
+# is compiled again; tools/archive compiles the library for C.
 # Every script takes the program that this variable names.
 test: export PDBMERGE := $(CURDIR)/$(PROGRAM)
 test:
@@ -47,6 +48,7 @@ test:
 	$(RT) ci
 	mkdir -p build
 	cp crates/pdbmerge/out/pdbmerge $(PROGRAM)
+	[ -f $(OBJECT) ] || tools/compile pdbmerge x86_64-unknown-linux-gnu $(OBJECT)
 	tools/archive
 	tools/figures --check
 	tools/readmes --check
@@ -84,15 +86,27 @@ test:
 bench: $(PROGRAM)
 	PDBMERGE=$(PROGRAM) bench/sizes
 
+# Where each file is installed.
 SHARE = $(DESTDIR)$(PREFIX)/share
-install: $(PROGRAM)
-	install -D $(PROGRAM) $(DESTDIR)$(PREFIX)/bin/pdbmerge
-	install -D -m 644 man/pdbmerge.1 $(SHARE)/man/man1/pdbmerge.1
-	install -D -m 644 completions/pdbmerge.bash $(SHARE)/bash-completion/completions/pdbmerge
-	install -D -m 644 completions/_pdbmerge $(SHARE)/zsh/site-functions/_pdbmerge
-	install -D -m 644 completions/pdbmerge.fish $(SHARE)/fish/vendor_completions.d/pdbmerge.fish
+INSTALLED = $(DESTDIR)$(PREFIX)/bin/pdbmerge
+PAGE = $(SHARE)/man/man1/pdbmerge.1
+FOR_BASH = $(SHARE)/bash-completion/completions/pdbmerge
+FOR_ZSH = $(SHARE)/zsh/site-functions/_pdbmerge
+FOR_FISH = $(SHARE)/fish/vendor_completions.d/pdbmerge.fish
 
-# The static library of the crate, from which the libraries for C are made. Its crate is proved first.
+install: $(PROGRAM)
+	install -D $(PROGRAM) $(INSTALLED)
+	install -D -m 644 man/pdbmerge.1 $(PAGE)
+	install -D -m 644 completions/pdbmerge.bash $(FOR_BASH)
+	install -D -m 644 completions/_pdbmerge $(FOR_ZSH)
+	install -D -m 644 completions/pdbmerge.fish $(FOR_FISH)
+
+uninstall:
+	rm -f $(INSTALLED) $(PAGE) $(FOR_BASH) $(FOR_ZSH) $(FOR_FISH)
+
+# The object file of the program, which is left beside the program, and the static library of the crate, from which the
+# libraries for C are made. Its crate is proved first.
+OBJECT := crates/pdbmerge/out/pdbmerge.o
 ARCHIVE := crates/pdbmerge_c/out/libpdbmerge_c.a
 $(ARCHIVE): $(SOURCES)
 	cd crates/pdbmerge_c && $(RT) lib
@@ -101,9 +115,42 @@ $(ARCHIVE): $(SOURCES)
 library: $(ARCHIVE)
 	tools/library $(ARCHIVE) build/library
 
-# All packages, in build/dist.
+# All packages for Linux on x86-64, in build/dist.
 dist: $(PROGRAM) $(ARCHIVE)
-	tools/dist $(PROGRAM) build/dist $(ARCHIVE)
+	tools/dist $(OBJECT) build/dist $(ARCHIVE)
 
+# The program with the C library inside, in build/static.
+static: $(PROGRAM)
+	tools/static $(OBJECT) build/static
+
+# Packages for other systems, each in build/ under its name. What was proved is compiled again: for aarch64 by the kit,
+# for others from the module that the kit gave its compiler. tests/ports installs what they need, and tries them.
+arm64: $(PROGRAM) $(ARCHIVE)
+	tools/compile pdbmerge aarch64-unknown-linux-gnu build/compiled/arm64/pdbmerge.o
+	tools/compile pdbmerge_c aarch64-unknown-linux-gnu build/compiled/arm64/libpdbmerge_c.a
+	tools/dist build/compiled/arm64/pdbmerge.o build/arm64 build/compiled/arm64/libpdbmerge_c.a
+
+MODULES := build/compiled/modules
+$(MODULES)/pdbmerge.bc: $(PROGRAM)
+	mkdir -p $(MODULES)
+	tools/module pdbmerge $@
+
+$(MODULES)/pdbmerge_c.bc: $(ARCHIVE)
+	mkdir -p $(MODULES)
+	tools/module pdbmerge_c $@
+
+windows: $(MODULES)/pdbmerge_c.bc $(MODULES)/pdbmerge.bc
+	tools/windows $^ build/windows
+
+web: $(MODULES)/pdbmerge_c.bc
+	tools/web $< build/web
+
+ports: static arm64 windows web
+
+# Removes what was built. The proofs are kept: they take forty minutes.
 clean:
-	rm -rf build crates/*/out
+	rm -rf build
+
+# Removes the proofs too.
+distclean: clean
+	rm -rf crates/*/out
