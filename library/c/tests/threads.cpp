@@ -3,7 +3,7 @@
 // usage: threads FIRST SECOND, two accepted files
 //
 // Each thread makes each call, with results of its own, and compares them with those that one thread
-// got before. A thread with a stack of 16 KiB merges both files.
+// got before. A thread with the least stack merges both files.
 #include "checks.h"
 #include <pthread.h>
 #include <thread>
@@ -12,6 +12,12 @@
 namespace {
 
 constexpr int THREADS = 8, TIMES = 20;
+// The least stack of a thread, which Linux on aarch64 wants to be larger.
+#ifdef __aarch64__
+constexpr size_t STACK = 128 << 10;
+#else
+constexpr size_t STACK = 16 << 10;
+#endif
 // The records of a type stream begin behind its header.
 constexpr size_t HEADER = 56;
 
@@ -204,7 +210,7 @@ void hold_small_stack(const pdbmerge_slice *files) {
     pthread_attr_t attributes;
     pthread_t thread;
     pthread_attr_init(&attributes);
-    hold("a stack of 16 KiB", static_cast<uint64_t>(pthread_attr_setstacksize(&attributes, 16 << 10)), 0);
+    hold("a small stack", static_cast<uint64_t>(pthread_attr_setstacksize(&attributes, STACK)), 0);
     hold("a thread with that stack",
          static_cast<uint64_t>(pthread_create(&thread, &attributes, merge_in_thread, &merge)), 0);
     pthread_join(thread, nullptr);

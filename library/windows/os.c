@@ -1,0 +1,377 @@
+/* What the program pdbmerge calls of the system, for Windows on x86-64.
+ *
+ * The proved module calls functions of glibc and of the kit, whose contracts the proof assumes. Here they are over
+ * Windows' own calls. Nothing proves them: README.md has the contract of each beside what is done here. The program
+ * has one thread. Names and arguments are UTF-8, and no byte of a file is changed. */
+#include <cpuid.h>
+#include <stddef.h>
+#include <stdint.h>
+#include <string.h>
+#include <windows.h>
+#include <shellapi.h>
+
+/* ---- Errors */
+
+enum { LINUX_EIO = 5 };
+
+static int last_error;
+
+int rattle_errno(void) {
+    return last_error;
+}
+
+void rattle_set_errno(int error) {
+    last_error = error;
+}
+
+/* The program tells no error from another, but for EINTR, at which it tries again. Windows has no such error. */
+static int fail(void) {
+    last_error = LINUX_EIO;
+    return -1;
+}
+
+/* ---- Arguments */
+
+static wchar_t **words;
+static size_t word_count;
+
+/* Puts a character into `to` as UTF-8. Half of a pair that stands alone becomes three bytes that are no UTF-8. */
+static size_t encode(uint32_t code, uint8_t to[4]) {
+    if (code < 0x80) {
+        to[0] = (uint8_t)code;
+        return 1;
+    }
+    size_t length = code < 0x800 ? 2 : code < 0x10000 ? 3 : 4;
+    for (size_t at = length - 1; at > 0; at--, code >>= 6)
+        to[at] = (uint8_t)(0x80 | (code & 0x3f));
+    to[0] = (uint8_t)(0xf00 >> length | code);
+    return length;
+}
+
+int64_t rattle_arg(size_t position, uint8_t *to, size_t room) {
+    if (position >= word_count)
+        return -1;
+    size_t length = 0;
+    for (const wchar_t *from = words[position]; *from != 0; from++) {
+        uint32_t code = *from;
+        if (IS_SURROGATE_PAIR(from[0], from[1]))
+            code = 0x10000 + ((code & 0x3ff) << 10 | (*++from & 0x3ff));
+        uint8_t bytes[4];
+        size_t count = encode(code, bytes);
+        for (size_t at = 0; at < count; at++) {
+            if (length == room)
+                return -2;
+            to[length++] = bytes[at];
+        }
+    }
+    return (int64_t)length;
+}
+
+/* ---- The numbers of open files */
+
+/* The program has few files open at a time. */
+enum { MOST_FILES = 16 };
+
+/* The handle of each number. NULL stands at a number that is free. */
+static HANDLE files[MOST_FILES];
+
+static HANDLE handle_of(int number) {
+    return 0 <= number && number < MOST_FILES ? files[number] : NULL;
+}
+
+/* Gives a handle the lowest number that is free, as Linux does. */
+static int numbered(HANDLE handle) {
+    if (handle == INVALID_HANDLE_VALUE)
+        return fail();
+    for (int number = 0; number < MOST_FILES; number++)
+        if (files[number] == NULL) {
+            files[number] = handle;
+            return number;
+        }
+    CloseHandle(handle);
+    return fail();
+}
+
+int close(int number) {
+    HANDLE handle = handle_of(number);
+    if (handle == NULL)
+        return fail();
+    files[number] = NULL;
+    return CloseHandle(handle) ? 0 : fail();
+}
+
+/* ---- Names */
+
+/* The kit's PATH_MAX, the longest name that is made whole, and what may stand before such a name. */
+enum { MOST_GIVEN = 4096, MOST_WHOLE = 32768, MARK = 6 };
+
+/* The standard stream that a name means on Linux, or -1. */
+static int standard_of(const char *name) {
+    static const char *const names[] = {"/dev/stdin",      "/dev/stdout",     "/dev/stderr",
+                                        "/dev/fd/0",       "/dev/fd/1",       "/dev/fd/2",
+                                        "/proc/self/fd/0", "/proc/self/fd/1", "/proc/self/fd/2"};
+    for (int at = 0; at < 9; at++)
+        if (strcmp(name, names[at]) == 0)
+            return at % 3;
+    return -1;
+}
+
+/* Whether a name begins so that Windows takes it as it is. */
+static int is_plain(const wchar_t *name) {
+    return wcsncmp(name, L"\\\\?\\", 4) == 0 || wcsncmp(name, L"\\\\.\\", 4) == 0;
+}
+
+/* A name as Windows takes it, or NULL. A carriage return at its end is left out: no file of Windows has one in its
+ * name, and a list whose lines end with CR LF has one behind each name. A name of 260 characters or more has to be
+ * whole, with a mark before it. */
+static const wchar_t *widened(const char *name) {
+    static wchar_t given[MOST_GIVEN], room[MARK + MOST_WHOLE];
+    int length = MultiByteToWideChar(CP_UTF8, MB_ERR_INVALID_CHARS, name, -1, given, MOST_GIVEN);
+    if (length == 0)
+        return NULL;
+    if (length > 1 && given[length - 2] == L'\r')
+        given[length - 2] = 0;
+    wchar_t *whole = room + MARK;
+    DWORD count = GetFullPathNameW(given, MOST_WHOLE, whole, NULL);
+    if (count == 0 || count >= MOST_WHOLE)
+        return NULL;
+    if (count < MAX_PATH || is_plain(whole))
+        return given;
+    if (wcsncmp(whole, L"\\\\", 2) != 0)
+        return memcpy(whole - 4, L"\\\\?\\", 4 * sizeof *whole);
+    /* Of \\server\share the first of its two backslashes makes room for the mark. */
+    return memcpy(whole - MARK, L"\\\\?\\UNC", 7 * sizeof *whole);
+}
+
+/* ---- What a file is */
+
+/* Linux's struct statx. */
+typedef struct {
+    uint32_t mask, block_size;
+    uint64_t attributes;
+    uint32_t links, user, group;
+    uint16_t mode, spare;
+    uint64_t number, size, blocks, attributes_mask;
+    uint64_t times[8];
+    uint32_t own_major, own_minor, device_major, device_minor;
+    uint64_t more[14];
+} statx_answer;
+_Static_assert(sizeof(statx_answer) == 256 && offsetof(statx_answer, device_major) == 136, "as on Linux");
+
+/* Linux's kinds of files. */
+enum { A_PIPE = 0010000, A_DEVICE = 0020000, A_FOLDER = 0040000, A_FILE = 0100000 };
+
+/* Whether two handles are of one open file. Windows can tell since version 10. */
+static int is_same(HANDLE one, HANDLE other) {
+    BOOL (WINAPI *compare)(HANDLE, HANDLE);
+    FARPROC found = GetProcAddress(GetModuleHandleW(L"kernelbase.dll"), "CompareObjectHandles");
+    memcpy(&compare, &found, sizeof compare);
+    return one == other || (compare != NULL && compare(one, other));
+}
+
+/* A number for what has none on a disk: that of the first standard stream that it is, or one that nothing else has. */
+static uint64_t own_number(HANDLE handle) {
+    static uint64_t given = 2;
+    for (uint64_t number = 0; number <= 2; number++)
+        if (files[number] != NULL && is_same(handle, files[number]))
+            return number;
+    return ++given;
+}
+
+static int describe(HANDLE handle, statx_answer *to) {
+    BY_HANDLE_FILE_INFORMATION info;
+    LARGE_INTEGER size = {.QuadPart = 0};
+    DWORD type = GetFileType(handle);
+    memset(to, 0, sizeof *to);
+    if (type == FILE_TYPE_DISK && GetFileInformationByHandle(handle, &info)) {
+        to->mode = info.dwFileAttributes & FILE_ATTRIBUTE_DIRECTORY ? A_FOLDER : A_FILE;
+        to->size = (uint64_t)info.nFileSizeHigh << 32 | info.nFileSizeLow;
+        to->number = (uint64_t)info.nFileIndexHigh << 32 | info.nFileIndexLow;
+        to->device_minor = info.dwVolumeSerialNumber;
+        return 0;
+    }
+    if (type == FILE_TYPE_UNKNOWN || (type == FILE_TYPE_DISK && !GetFileSizeEx(handle, &size)))
+        return fail();
+    to->mode = type == FILE_TYPE_DISK ? A_FILE : type == FILE_TYPE_PIPE ? A_PIPE : A_DEVICE;
+    to->size = (uint64_t)size.QuadPart;
+    to->number = own_number(handle);
+    /* No disk has this number. */
+    to->device_major = UINT32_MAX;
+    return 0;
+}
+
+/* ---- Files */
+
+/* The two sets of flags with which the program opens a file. */
+enum { TO_READ = 0x80100, TO_OVERWRITE = 0x80341 };
+
+/* Opens a file, or a folder to read it, and locks nobody out. */
+static HANDLE opened(const char *name, DWORD access, DWORD creation) {
+    const wchar_t *wide = widened(strcmp(name, "/dev/null") == 0 ? "NUL" : name);
+    /* Without this flag no folder can be opened. */
+    DWORD flags = access == GENERIC_WRITE ? FILE_ATTRIBUTE_NORMAL : FILE_FLAG_BACKUP_SEMANTICS;
+    DWORD shared = FILE_SHARE_READ | FILE_SHARE_WRITE | FILE_SHARE_DELETE;
+    if (wide == NULL)
+        return INVALID_HANDLE_VALUE;
+    return CreateFileW(wide, access, shared, NULL, creation, flags, NULL);
+}
+
+/* Opens a standard stream once more. A file is read from its start, and what is written to it is all that it has. A
+ * stream that was closed is a folder since the program began. */
+static HANDLE opened_again(HANDLE stream, int is_written) {
+    LARGE_INTEGER start = {.QuadPart = 0};
+    HANDLE self = GetCurrentProcess(), copy;
+    statx_answer is;
+    if (describe(stream, &is) != 0 || (is_written && is.mode == A_FOLDER))
+        return INVALID_HANDLE_VALUE;
+    if (is.mode == A_FILE) {
+        SetFilePointerEx(stream, start, NULL, FILE_BEGIN);
+        if (is_written && is.size != 0 && !SetEndOfFile(stream))
+            return INVALID_HANDLE_VALUE;
+    }
+    return DuplicateHandle(self, stream, self, &copy, 0, FALSE, DUPLICATE_SAME_ACCESS) ? copy : INVALID_HANDLE_VALUE;
+}
+
+int open(const char *name, int flags, ...) {
+    int standard = standard_of(name), is_written = flags == TO_OVERWRITE;
+    if (flags != TO_READ && !is_written)
+        return fail();
+    if (standard >= 0)
+        return numbered(opened_again(files[standard], is_written));
+    return numbered(is_written ? opened(name, GENERIC_WRITE, CREATE_ALWAYS)
+                               : opened(name, GENERIC_READ, OPEN_EXISTING));
+}
+
+/* How many bytes are moved at a time. A console of an old Windows takes fewer than 64 KiB. */
+static DWORD piece(HANDLE handle, size_t length) {
+    size_t most = GetFileType(handle) == FILE_TYPE_CHAR ? 1 << 14 : 1 << 30;
+    return (DWORD)(length < most ? length : most);
+}
+
+int64_t read(int number, uint8_t *to, size_t room) {
+    HANDLE handle = handle_of(number);
+    DWORD count;
+    if (ReadFile(handle, to, piece(handle, room), &count, NULL))
+        return count;
+    /* A pipe that nobody writes any more has ended. */
+    return GetLastError() == ERROR_BROKEN_PIPE ? 0 : fail();
+}
+
+int64_t write(int number, const uint8_t *from, size_t length) {
+    HANDLE handle = handle_of(number);
+    DWORD count;
+    /* The reader of a pipe would take a write of no bytes for the end. */
+    if (length == 0)
+        return 0;
+    return WriteFile(handle, from, piece(handle, length), &count, NULL) ? (int64_t)count : fail();
+}
+
+int64_t lseek(int number, int64_t offset, int whence) {
+    HANDLE handle = handle_of(number);
+    LARGE_INTEGER distance = {.QuadPart = offset}, position;
+    /* `whence` has the same numbers on both systems. */
+    if (GetFileType(handle) != FILE_TYPE_DISK || !SetFilePointerEx(handle, distance, &position, (DWORD)whence))
+        return fail();
+    return position.QuadPart;
+}
+
+int fsync(int number) {
+    return FlushFileBuffers(handle_of(number)) ? 0 : fail();
+}
+
+int statx(int number, const char *name, int flags, unsigned mask, statx_answer *to) {
+    (void)flags, (void)mask;
+    int standard = standard_of(name);
+    if (name[0] == 0)
+        return describe(handle_of(number), to);
+    if (standard >= 0)
+        return describe(files[standard], to);
+    HANDLE handle = opened(name, 0, OPEN_EXISTING);
+    if (handle == INVALID_HANDLE_VALUE)
+        return fail();
+    int answer = describe(handle, to);
+    CloseHandle(handle);
+    return answer;
+}
+
+/* ---- Random bytes, the clock, signals */
+
+/* RtlGenRandom, which Windows exports under this name alone. */
+BOOLEAN NTAPI SystemFunction036(PVOID to, ULONG length);
+
+int getentropy(uint8_t *to, size_t length) {
+    return length <= 256 && SystemFunction036(to, (ULONG)length) ? 0 : fail();
+}
+
+typedef struct {
+    int64_t seconds, nanoseconds;
+} timespec_answer;
+
+int clock_gettime(int clock, timespec_answer *to) {
+    LARGE_INTEGER ticks, each;
+    /* Only the clock that never goes back is asked for. */
+    if (clock != 1 || !QueryPerformanceCounter(&ticks) || !QueryPerformanceFrequency(&each))
+        return fail();
+    to->seconds = ticks.QuadPart / each.QuadPart;
+    to->nanoseconds = ticks.QuadPart % each.QuadPart * 1000000000 / each.QuadPart;
+    return 0;
+}
+
+/* Windows has no signal at a write that nobody reads: the write fails, as the program wants it. */
+int64_t __sysv_signal(int signal, int64_t handler) {
+    (void)signal, (void)handler;
+    return 0;
+}
+
+/* ---- The processor */
+
+enum { LEAVES = 3 };
+
+/* What the processor has, of a leaf: its four registers, and the same as far as the system lets a program use it. The
+ * program asks for what x86-64-v2 has, and each system lets that be used. */
+const uint32_t *__x86_get_cpuid_feature_leaf(unsigned position) {
+    static const unsigned leaves[LEAVES] = {1, 7, 0x80000001};
+    static uint32_t told[LEAVES + 1][8];
+    uint32_t *at = told[position < LEAVES ? position : LEAVES];
+    if (position < LEAVES && __get_cpuid_count(leaves[position], 0, &at[0], &at[1], &at[2], &at[3]))
+        memcpy(at + 4, at, 4 * sizeof *at);
+    return at;
+}
+
+/* `write`, by the name by which the program says what the processor lacks. */
+int64_t __write(int number, const uint8_t *from, size_t length) {
+    return write(number, from, length);
+}
+
+/* ---- The start */
+
+int main(void);
+
+/* `main` calls this to have constructors run. There are none. */
+void __main(void) {
+}
+
+/* The standard stream, or NULL where it is closed. */
+static HANDLE standard_stream(DWORD which) {
+    HANDLE handle = GetStdHandle(which);
+    SetLastError(NO_ERROR);
+    return GetFileType(handle) == FILE_TYPE_UNKNOWN && GetLastError() != NO_ERROR ? NULL : handle;
+}
+
+/* Where the program begins. The C runtime's own start is not linked in. */
+void start(void) {
+    static const char refusal[] = "pdbmerge: 33 Memory\n";
+    int count = 0;
+    /* An empty drive is an error, and no window. */
+    SetErrorMode(SEM_FAILCRITICALERRORS);
+    files[0] = standard_stream(STD_INPUT_HANDLE);
+    files[1] = standard_stream(STD_OUTPUT_HANDLE);
+    files[2] = standard_stream(STD_ERROR_HANDLE);
+    words = CommandLineToArgvW(GetCommandLineW(), &count);
+    if (words == NULL) {
+        write(2, (const uint8_t *)refusal, sizeof refusal - 1);
+        ExitProcess(1);
+    }
+    word_count = (size_t)count;
+    ExitProcess((UINT)main());
+}
