@@ -15,7 +15,9 @@ import dataclasses
 import itertools
 import os
 import uuid
-from typing import TYPE_CHECKING, Callable, Dict, Iterable, Iterator, List, Optional, Tuple, Type, TypeVar, Union
+from typing import (
+    TYPE_CHECKING, Callable, Dict, Iterable, Iterator, List, Optional, Sequence, Tuple, Type, TypeVar, Union, overload,
+)
 
 from . import _definitions, _library
 from ._definitions import Change, Definition, Member
@@ -35,6 +37,7 @@ __all__ = [
     'OutOfMemory',
     'PdbError',
     'Record',
+    'Records',
     'Reference',
     'SettingsError',
     'Stream',
@@ -208,6 +211,48 @@ class Record:
             )
         return None if size.value == _library.NO_NAME else made
 
+    def __reduce__(self) -> Tuple[Callable[[int, builtins.bytes], Record], Tuple[int, builtins.bytes]]:
+        # A view can't be pickled.
+        return _record_of, (self.index, self.data.tobytes())
+
+
+def _record_of(index: int, data: bytes) -> Record:
+    return Record(index, memoryview(data))
+
+
+class Records(Sequence[Record]):
+    """The type records of a file, in the order of their type indices: the first has 0x1000.
+
+    Each is cut out of one copy of their stream when it is asked for. `next` gives one after the other, from the
+    first one on, as it does of an iterator.
+    """
+
+    def __init__(self, held: memoryview, offsets: Sequence[int]) -> None:
+        self._held, self._offsets, self._given = held, offsets, 0
+
+    def __len__(self) -> int:
+        return len(self._offsets)
+
+    @overload
+    def __getitem__(self, at: int) -> Record: ...
+    @overload
+    def __getitem__(self, at: slice) -> List[Record]: ...
+    def __getitem__(self, at: Union[int, slice]) -> Union[Record, List[Record]]:
+        places = range(len(self))[at]
+        return self._at(places) if isinstance(places, int) else [self._at(place) for place in places]
+
+    def __iter__(self) -> Iterator[Record]:
+        return map(self._at, range(len(self)))
+
+    def __next__(self) -> Record:
+        if self._given == len(self):
+            raise StopIteration
+        self._given += 1
+        return self._at(self._given - 1)
+
+    def _at(self, place: int) -> Record:
+        return _cut(self._held, _FIRST + place, self._offsets[place])
+
 
 _EXCEPTIONS: Dict[int, Type[PdbError]] = {_library.MEMORY: OutOfMemory, _library.SETTINGS: SettingsError}
 
@@ -280,6 +325,9 @@ def version() -> Tuple[int, int, int]:
     return number >> 16, number >> 8 & 255, number & 255
 
 
+__version__ = '.'.join(map(str, version()))
+
+
 def identify(file: Buffer) -> Identity:
     """What identifies a file. Its types are not looked at."""
     identity, fault = _library.Identity(), _library.Fault()
@@ -320,7 +368,7 @@ def check(file: Buffer) -> Counts:
 def merge(
     files: Iterable[Buffer],
     *,
-    guid: uuid.UUID,
+    guid: Union[uuid.UUID, str],
     age: int,
     limit: int = 2**30,
     block_size: int = 4096,
@@ -329,9 +377,10 @@ def merge(
     """One file with exactly the types of all files, each once, in canonical order.
 
     The same types give the same bytes, whatever the order of the files and however often one is given.
-    `limit` is the most bytes that the type records may have together. With `maps` the answer also has the
+    A GUID that is a `str` is read as `uuid.UUID` reads it. `limit` is the most bytes that the type records may have together. With `maps` the answer also has the
     map of each file, in the order of the files.
     """
+    guid = guid if isinstance(guid, uuid.UUID) else uuid.UUID(guid)
     settings = _library.Settings(
         guid=(c.c_uint8 * 16)(*guid.bytes),
         age=_word(age, 'age'),
@@ -412,20 +461,14 @@ def features(file: Buffer) -> List[int]:
         return _numbers(0, lambda *answer: _library.features(data.bytes, data.length, *answer))
 
 
-def records(file: Buffer) -> Iterator[Record]:
+def records(file: Buffer) -> Records:
     """The type records of a file, which are not checked as types. A fault is raised at once."""
     held = memoryview(stream(file, _TYPES))
     with _library.lent(held) as [data]:
         offsets, count = _listed(
             c.c_uint64, 0, lambda *answer: _library.records(data.bytes, data.length, *answer)
         )
-    return _each(held, itertools.islice(offsets, count))
-
-
-def _each(held: memoryview, offsets: Iterable[int]) -> Iterator[Record]:
-    """The records that begin at these offsets."""
-    for index, at in enumerate(offsets, _FIRST):
-        yield _cut(held, index, at)
+    return Records(held, array.array('Q', offsets[:count]))
 
 
 def _cut(held: memoryview, index: int, at: int) -> Record:
@@ -443,7 +486,7 @@ def record(file: Buffer, index: int) -> Record:
     return _cut(held, index, offset.value)
 
 
-def types(file: Buffer) -> Iterator[Record]:
+def types(file: Buffer) -> Records:
     """The type records of a file that `check` accepts. A fault is raised at once."""
     check(file)
     return records(file)

@@ -6,11 +6,12 @@ import ctypes as c
 import mmap
 import os
 import pathlib
+import sys
 from typing import Callable, Iterator, List, Optional, Union
 
 Buffer = Union[bytes, bytearray, memoryview, mmap.mmap]
 
-SONAME = 'libpdbmerge.so.1'
+SONAME = 'pdbmerge.dll' if sys.platform == 'win32' else 'libpdbmerge.so.1'
 
 MEMORY = 33
 ROOM = 100
@@ -176,7 +177,10 @@ class _View(c.Structure):
 
 
 # A handle of its own: what is declared on c.pythonapi is seen by all modules.
-_python = c.PyDLL(None)
+if sys.platform == 'win32':
+    _python = c.PyDLL('Python', handle=sys.dllhandle)
+else:
+    _python = c.PyDLL(None)
 _python.PyObject_GetBuffer.argtypes = [c.py_object, c.POINTER(_View), c.c_int]
 _python.PyBuffer_Release.argtypes = [c.POINTER(_View)]
 _python.PyBuffer_Release.restype = None

@@ -671,6 +671,18 @@ class Faults(Checks):
         ended = subprocess.run([sys.executable, '-c', STARVED], input=file, stdout=subprocess.PIPE, check=True)
         self.hold('without memory', ended.stdout, b'OutOfMemory 33 Memory 33 None\n')
 
+    def test_pickled_records(self):
+        records = list(pdbmerge.types(content('memptr.pdb')))
+        again = pickle.loads(pickle.dumps(records))
+        self.hold('records', again, records)
+        self.hold('their lines', [type_line(one) for one in again], [type_line(one) for one in records])
+
+    def test_guid_as_text(self):
+        for text in str(GUID), '{' + str(GUID) + '}', GUID.hex:
+            self.hold(text, merged([content('sample.pdb')], guid=text), merged([content('sample.pdb')]))
+        with self.assertRaises(ValueError):
+            merged([], guid='no GUID')
+
     def test_pickled(self):
         for kind in pdbmerge.PdbError, pdbmerge.OutOfMemory, pdbmerge.SettingsError:
             fault = pickle.loads(pickle.dumps(kind('file 1: 2 Magic', 2, 1)))
@@ -823,6 +835,7 @@ class Others(Checks):
         header = (ROOT / 'include' / 'pdbmerge.h').read_text(encoding='utf-8')
         number = int(re.search(r'#define PDBMERGE_VERSION (0x\w+)', header)[1], 16)
         self.hold('version', pdbmerge.version(), tuple(number.to_bytes(3, 'big')))
+        self.hold('version in words', pdbmerge.__version__, '.'.join(map(str, pdbmerge.version())))
 
     def test_records(self):
         records = list(pdbmerge.records(content('faults/25-leaf.pdb')))
@@ -830,6 +843,23 @@ class Others(Checks):
         stream = pdbmerge.stream(content('plain.pdb'), 2)
         together = b''.join(each.data for each in pdbmerge.records(content('plain.pdb')))
         self.hold('all bytes', together, stream[56:56 + len(together)])
+
+    def test_sequence(self):
+        for call in pdbmerge.records, pdbmerge.types:
+            records = call(content('plain.pdb'))
+            each = list(records)
+            self.hold('one after the other', [next(records) for _ in each], each)
+            self.hold('and no more', next(records, None), None)
+            self.hold('length and indices', (len(records), [one.index for one in each]),
+                      (len(each), list(range(FIRST, FIRST + len(each)))))
+            self.hold('at a place', (records[0], records[2], records[-1]), (each[0], each[2], each[-1]))
+            self.hold('a part', records[1:-1:2], each[1:-1:2])
+            self.hold('contains', (each[3] in records, pdbmerge.record(content('sample.pdb'), FIRST) in records),
+                      (True, False))
+            for place in len(each), -len(each) - 1:
+                with self.assertRaises(IndexError):
+                    records[place]
+        self.hold('no records', list(pdbmerge.records(merged([]).file)), [])
 
     def test_record(self):
         for name in 'plain.pdb', 'faults/25-leaf.pdb':
