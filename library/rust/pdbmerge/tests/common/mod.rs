@@ -5,9 +5,16 @@ use std::path::{Path, PathBuf};
 
 use pdbmerge::Settings;
 
-/// The top of the repository.
+/// The top of what the tests read: `tests/files` where the crate was packed with it, else the top of the
+/// repository.
 pub fn root() -> PathBuf {
-    Path::new(env!("CARGO_MANIFEST_DIR")).join("../../..")
+    let own = Path::new(env!("CARGO_MANIFEST_DIR"));
+    let packed = own.join("tests/files");
+    if packed.is_dir() {
+        packed
+    } else {
+        own.join("../../..")
+    }
 }
 
 /// The bytes of a shipped file.
