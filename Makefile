@@ -16,12 +16,20 @@ $(PROGRAM): $(SOURCES)
 
 GUID := 00112233-4455-6677-8899-aabbccddeeff
 
-# Compiles the program, and merges two shipped files. Nothing is proved.
+# Compiles the program once, merges two shipped files, and shows the first types of the merge. Nothing is proved or
+# kept. The kit runs the program for each file of a folder, here twice without an input. The arguments of a run are the
+# lines of the file with the ending .args.
 TRIED := memptr.pdb sample.pdb
+RUNS := build/try
 try:
-	@echo 'The program is compiled and run. Nothing of it is proved here.'
-	cd crates/pdbmerge && $(RT) try $(foreach file,$(TRIED),--data $(file)=../../examples/$(file)) -- \
-		merge --guid $(GUID) --age 1 one.pdb $(TRIED)
+	@echo 'The program is compiled and run. Nothing of it is proved here, and no file is kept.'
+	@rm -rf $(RUNS) && mkdir -p $(RUNS)/runs && touch $(RUNS)/runs/1-merge $(RUNS)/runs/2-types
+	@printf '%s\n' merge --guid $(GUID) --age 1 '$(CURDIR)/$(RUNS)/one.pdb' $(TRIED) >$(RUNS)/runs/1-merge.args
+	@printf '%s\n' types '$(CURDIR)/$(RUNS)/one.pdb' >$(RUNS)/runs/2-types.args
+	cd crates/pdbmerge && $(RT) try $(foreach file,$(TRIED),--data $(file)=../../examples/$(file)) \
+		--cases ../../$(RUNS)/runs >../../$(RUNS)/printed
+	@head -n 10 $(RUNS)/printed && echo ..
+	@rm -rf $(RUNS)
 
 # Merges two shipped files in both orders, and compares what comes out.
 MERGE := $(PROGRAM) merge --guid $(GUID) --age 1
