@@ -23,6 +23,10 @@ summary_lines summary =
     named_line (codes "types") summary.types ++ named_line (codes "bytes") summary.bytes
     ++ named_line (codes "file") summary.length
 
+-- the report on a file that was written while this many files were left out
+unfoldable pub accepted_lines : Summary → ℕ → List ℕ
+accepted_lines summary refused = summary_lines summary ++ named_line (codes "refused") refused
+
 -- a sink took the whole file
 abbrev pub WroteWhole : Writes → Option (List ℕ) → Option (List ℕ) → Type 0
 WroteWhole wrote old new = (summary : Summary) × wrote old new summary

@@ -3,7 +3,8 @@
 //! Most commands show a file: [`run_records`], [`run_record`], [`run_types`], [`run_check`],
 //! [`run_info`] and [`run_streams`]. Such a command reads a [`Source`](msf_blocks::Source) to its
 //! end, makes its whole text, and then writes it into a [`Sink`](msf_blocks::Sink). [`run_merge`]
-//! writes one file with the types of several files, and a report on it. [`run_diff`] shows the
+//! writes one file with the types of several files, and a report on it. [`merge_accepted`] leaves out the
+//! files that are not accepted, and [`report_accepted`] says how many they were. [`run_diff`] shows the
 //! types that only one of two files has. [`run_members`] shows the definitions of the types of a
 //! file, with their members, and [`run_diff_members`] which of them came, went or changed between
 //! two files. Each refusal is a [`RunFault`]. [`run_shown`] runs any
@@ -77,10 +78,11 @@ pub use fault::RunFault;
 pub use info::run_info;
 pub use maps::write_maps;
 pub use members::run_members;
-pub use merge::{run_merge, run_merge_by_types, run_merge_with};
+pub use merge::{report_accepted, run_merge, run_merge_by_types, run_merge_with};
 pub use record::run_record;
 pub use records::run_records;
 pub use shown::{Shown, run_shown, run_shown_at, run_shown_file};
 pub use streams::run_streams;
 pub use type_texts::{Asked, Found, Query};
 pub use types::run_types;
+pub use types_guid::{GuidChoice, SiftedFile, merge_accepted};

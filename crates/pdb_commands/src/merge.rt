@@ -7,7 +7,7 @@ ghost use Rattle.pdb_info.specs.Settings.{record_limit};
 ghost use Rattle.pdb_merge.specs.Merged.{Wrote, WrotePart};
 ghost use Rattle.types_guid.specs.Merge.{WroteByTypes, WrotePartByTypes};
 ghost use Rattle.byte_io.specs.Inputs.{Give};
-ghost use Rattle.pdb_commands.specs.Merge.{summary_lines, AreMapsInto, MergesInto};
+ghost use Rattle.pdb_commands.specs.Merge.{accepted_lines, summary_lines, AreMapsInto, MergesInto};
 
 use crate::fault::RunFault;
 use byte_io::{Inputs, Sink, put_all};
@@ -27,6 +27,47 @@ fn push_summary<A: Allocator>(text: &mut String<A>, summary: &Summary) -> Result
     push_named(text, "types", summary.types)?;
     push_named(text, "bytes", summary.bytes)?;
     push_named(text, "file", summary.length)?;
+    Ok(())
+}
+
+/// Appends these numbers, and how many files were left out, one per line.
+#[tactic(auto, unfolding(crate::specs::Merge::accepted_lines))]
+fn push_accepted<A: Allocator>(
+    text: &mut String<A>,
+    summary: &Summary,
+    refused: u32,
+) -> Result<(), AllocError>
+    ensures { OnOk result
+        (string_bytes text.new ≡ string_bytes text.old ++ accepted_lines summary.now refused) }
+{
+    push_summary(text, summary)?;
+    push_named(text, "refused", refused)?;
+    Ok(())
+}
+
+/// Makes the report on a file that was written while some files were left out, and writes it: the lines
+/// of [`run_merge`], and a fourth one with the number of these files.
+///
+/// After `Memory` nothing was written. After `Write` the sink is broken, and took the first bytes of
+/// the report.
+pub fn report_accepted<V: Sink, A: Allocator>(
+    alloc: A,
+    summary: &Summary,
+    refused: u32,
+    report: &mut V,
+) -> Result<(), RunFault<A>>
+    ensures value { OnOk result (Appends (V.taken report.old) (V.taken report.new)
+        (accepted_lines summary.now refused)) }
+    ensures fault { IfErr result (λ fault. (fault ≡ RunFault.Memory) ⊎ (fault ≡ RunFault.Write)) }
+    ensures write { result ≡ Err RunFault.Write →
+        (V.is_broken report.new ≡ true)
+        × AppendsPart (V.taken report.old) (V.taken report.new)
+        (accepted_lines summary.now refused) }
+    ensures untouched { result ≡ Err RunFault.Memory → report.new ≡ report.old }
+{
+    let mut text = String::new(alloc);
+    push_accepted(&mut text, summary, refused)?;
+    put_all(report, text.as_bytes())?;
     Ok(())
 }
 

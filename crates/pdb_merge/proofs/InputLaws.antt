@@ -10,23 +10,20 @@ use Rattle.byte_io.specs.declared.inputs.Opened.{Opened}
 use Rattle.byte_io.specs.declared.inputs.InputFault.{InputFault}
 use Rattle.byte_io.specs.declared.inputs.InputFault.TheVariants as inputs
 use Rattle.byte_io.specs.declared.input.ReadFault.TheVariants as reads
-use Rattle.pdb_merge.specs.Fault.{merge_from_input, merge_from_add, add_from_pdb, AddNamesFault, NamesFault}
+use Rattle.pdb_merge.specs.Fault.{merge_from_input, merge_from_add, AddNamesFault, NamesFault}
 use Rattle.pdb_merge.specs.Answer.{RefusesFiles, RefusesReading}
-use Rattle.file_types.specs.Read.{HasPdbFault}
-use Rattle.pdb_merge.specs.Union.{AcceptedBelow, CanMerge, CanMergeBelow, IsMergeFault, IsReadingFault, IsReadingFaultAt, ReadsFirst}
+use Rattle.pdb_merge.specs.Union.{AcceptedBelow, IsReadingFault, IsReadingFaultAt, ReadsFirst}
 use Rattle.file_types.proofs.ReadLaws.{accepted_unrefused}
-use Rattle.pdb_merge.proofs.UnionLaws.{refuses_files, stopped_alone}
+use Rattle.pdb_merge.proofs.UnionLaws.{refuses_files}
 use Rattle.pdb_merge.specs.declared.fault.AddFault.{AddFault}
 use Rattle.pdb_merge.specs.declared.fault.AddFault.TheVariants as add
 use Rattle.pdb_merge.specs.declared.fault.MergeFault.{MergeFault}
 use Rattle.pdb_merge.specs.declared.fault.MergeFault.TheVariants as merge
-use Rattle.file_types.specs.declared.fault.PdbFault.{PdbFault}
-use Rattle.file_types.specs.declared.fault.PdbFault.TheVariants as pdb
 
 -- ---- files that can all be read
 
 -- what is read of an input that gives its file: an input with bytes has those of the file there
-file_read : (files : List (List ℕ)) (i : ℕ) (entry : Result (List ℕ) InputFault) → slice_get (map Ok files) i ≡ Some entry → (i < length files) × (entry ≡ Ok (get_or files i []))
+pub file_read : (files : List (List ℕ)) (i : ℕ) (entry : Result (List ℕ) InputFault) → slice_get (map Ok files) i ≡ Some entry → (i < length files) × (entry ≡ Ok (get_or files i []))
 file_read files i entry is = elim (slice_get_cases files i).1 [
   | inl (bytes, inside, there, at) ↦
       let both : Some entry ≡ Some (Ok bytes) = sym is ∙ slice_get-map Ok files i ∙ ap (option_map Ok) there in
@@ -150,12 +147,6 @@ unread_refuses known i limit inner outer before is made =
     let memory : (given : List (List ℕ)) → Give known given → outer ≡ merge.Memory = λ given gives. given_unread known given i inner outer gives is made in
     refuses_files known limit outer (λ given gives. rw (memory given gives) tt) (unread_first known i inner outer before is made) (input_named i inner outer made) (λ given gives can. memory given gives)
 
--- the fault of a file refuses the files, where all are read
-pub file_refuses : {A : Type 0} (known : Option (List (Result (List ℕ) InputFault))) (i limit : ℕ) (inner : AddFault A) (outer : MergeFault A) → IfSome known (λ each. CanRead each (length each))
-    → AddNamesFault inner → outer ≡ merge_from_add i inner → ((given : List (List ℕ)) → Give known given → IsMergeFault given limit outer)
-    → ((given : List (List ℕ)) → Give known given → CanMerge given limit → outer ≡ merge.Memory) → RefusesFiles known limit outer
-file_refuses known i limit inner outer all named made first found = refuses_files known limit outer first (refused_last known i inner outer all made) (add_named i inner outer named made) found
-
 -- ---- inputs whose types are not read
 
 -- where every file is accepted, only out of memory stops the reading
@@ -187,17 +178,6 @@ take_given known files i end given count past =
     let long : end ≡ length files = rw length-map at (rw given at count) in
     take_all i files (omega (arith, long, past))
 
--- the fault of a file is a fault at its position
-pub file_stops_at : {A : Type 0} (files : List (List ℕ)) (i : ℕ) (inner : PdbFault A) (outer : MergeFault A) → outer ≡ merge_from_add i (add_from_pdb inner)
-    → HasPdbFault (get_or files i []) inner ⊎ (inner ≡ pdb.Memory) → IsReadingFaultAt files i outer
-file_stops_at files i pdb.Memory outer made is = rw made tt
-file_stops_at files i inner outer made (inl refused) = rw made (refl, refused)
-file_stops_at files i inner outer made (inr memory) = absurd cc
-
--- so is out of memory
-pub memory_stops_at : {A : Type 0} (files : List (List ℕ)) (i : ℕ) (outer : MergeFault A) → outer ≡ merge.Memory → IsReadingFaultAt files i outer
-memory_stops_at files i outer is = rw is tt
-
 -- a fault at a position is the first one, where the files before it are accepted
 stops_there : {A : Type 0} (files : List (List ℕ)) (i : ℕ) (fault : MergeFault A) → i < length files → AcceptedBelow files i → IsReadingFaultAt files i fault → IsReadingFault files fault
 stops_there files i (merge.Refused file inner) inside below (is, refused) = rw is (inside, below, refused)
@@ -209,16 +189,3 @@ pub at_refuses_reading : {A : Type 0} (known : Option (List (Result (List ℕ) I
     → ((given : List (List ℕ)) → Give known given → AcceptedBelow given i) → ((given : List (List ℕ)) → Give known given → IsReadingFaultAt given i fault) → RefusesReading known fault
 at_refuses_reading known i fault inside reads named below at =
     refuses_reading known fault (λ given gives. stops_there given i fault (given_inside known given i gives inside) (below given gives) (at given gives)) reads named
-
--- it stops a merge, where the files before it can be merged
-stops_merge : {A : Type 0} (files : List (List ℕ)) (i limit : ℕ) (fault : MergeFault A) → i < length files → CanMergeBelow files i limit → IsReadingFaultAt files i fault → IsMergeFault files limit fault
-stops_merge files i limit (merge.Refused file inner) inside below (is, refused) = rw is (inside, below, refused)
-stops_merge files i limit merge.Memory inside below at = tt
-stops_merge files i limit fault inside below at = absurd at
-
--- so it refuses the files
-pub at_refuses : {A : Type 0} (known : Option (List (Result (List ℕ) InputFault))) (i limit : ℕ) (fault : MergeFault A) → IfSome known (λ each. i < length each) → IfSome known (λ each. ReadsFirst each fault) → NamesFault fault
-    → ((given : List (List ℕ)) → Give known given → CanMergeBelow given i limit) → ((given : List (List ℕ)) → Give known given → IsReadingFaultAt given i fault) → RefusesFiles known limit fault
-at_refuses known i limit fault inside reads named below at =
-    let first : (given : List (List ℕ)) → Give known given → IsMergeFault given limit fault = λ given gives. stops_merge given i limit fault (given_inside known given i gives inside) (below given gives) (at given gives) in
-    refuses_files known limit fault first reads named (λ given gives can. stopped_alone given limit fault (first given gives) can)

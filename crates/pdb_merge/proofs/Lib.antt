@@ -8,3 +8,5 @@ pub mod ReadBackLaws
 pub mod FileLaws
 pub mod MapLaws
 pub mod RefusedLaws
+pub mod OwnLaws
+pub mod SiftLaws

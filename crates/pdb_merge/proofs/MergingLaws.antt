@@ -21,12 +21,12 @@ use Rattle.pdb_merge.specs.declared.fault.AddFault.{AddFault}
 use Rattle.pdb_merge.specs.declared.fault.AddFault.TheVariants as add
 use Rattle.pdb_merge.specs.declared.fault.MergeFault.{MergeFault}
 use Rattle.pdb_merge.specs.declared.fault.MergeFault.TheVariants as merge
-use Rattle.pdb_merge.proofs.UnionLaws.{none_within, none_united, none_accepted, united_more, accepted_more, hindered, added_alone, weighs_same, within_same, all_merged, merged_below}
+use Rattle.pdb_merge.proofs.UnionLaws.{none_within, none_united, none_accepted, united_more, accepted_more, hindered, added_alone, weighs_same, within_same, all_merged}
 
 -- ---- files with more files after them
 
 -- more files change no file before them
-same_file : (files more : List (List ℕ)) (i : ℕ) → i < length files → get_or (files ++ more) i [] ≡ get_or files i []
+pub same_file : (files more : List (List ℕ)) (i : ℕ) → i < length files → get_or (files ++ more) i [] ≡ get_or files i []
 same_file files more i inside = get_or_append_left files more [] i inside
 
 -- more files do not change the types of those before them
@@ -39,7 +39,7 @@ same_below files more end inside t = (
 accepted_still : (files more : List (List ℕ)) (end : ℕ) → end ≤ length files → AcceptedBelow files end → AcceptedBelow (files ++ more) end
 accepted_still files more end inside accepted i below = rw (same_file files more i (omega (arith, below, inside))) (accepted i below)
 
-unites_still : (records files more : List (List ℕ)) (end : ℕ) → end ≤ length files → Unites records files end → Unites records (files ++ more) end
+pub unites_still : (records files more : List (List ℕ)) (end : ℕ) → end ≤ length files → Unites records files end → Unites records (files ++ more) end
 unites_still records files more end inside unites t =
     let same = same_below files more end inside t in
     (λ h. same.0 ((unites t).0 h), λ h. (unites t).1 (same.1 h))
@@ -80,7 +80,7 @@ nothing_taken merge types none = record {
   maps = no_maps merge.types merge.maps none;
 }
 
-last_file : (files : List (List ℕ)) (file : List ℕ) → get_or (files ++ file ∷ []) (length files) [] ≡ file
+pub last_file : (files : List (List ℕ)) (file : List ℕ) → get_or (files ++ file ∷ []) (length files) [] ≡ file
 last_file files file = get_or-append_seam files file [] []
 
 -- the maps of the files so far are still right, and the new file has its own
@@ -208,11 +208,3 @@ pub maps_finished : (merge : MergeView) (list files : List (List ℕ)) (new : Op
 maps_finished merge list files new all taken = maps_followed files merge.types list merge.maps new all taken.maps
 
 -- ---- the files of a list so far
-
--- the files that a merge has taken can be merged
-pub taken_below : (merge : MergeView) (files : List (List ℕ)) (k : ℕ) → k < length files → HasTaken merge (take k files) → CanMergeBelow files k merge.limit
-taken_below merge files k inside taken =
-    let some = take k files in
-    let many : length some ≡ k = length-take-le k files (omega (arith, inside)) in
-    let below = merged_below merge.types some (length some) merge.limit taken.unites taken.accepted taken.within in
-    rw (take-append-drop k files, many) at (can_still some (drop k files) (length some) merge.limit (omega arith) below)

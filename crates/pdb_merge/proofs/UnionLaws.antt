@@ -64,7 +64,7 @@ not_added added (inr same) none = same
 pub none_united : (files : List (List ℕ)) → Unites [] files 0
 none_united files t = (λ h. absurd (no_types t h), λ h. absurd (omega (arith, h.1)))
 
-joined : (before types files : List (List ℕ)) (k : ℕ) → Unites before files k → IsAccepted (get_or files k []) types
+pub joined : (before types files : List (List ℕ)) (k : ℕ) → Unites before files k → IsAccepted (get_or files k []) types
     → (t : Tree) → (IsType before t ⊎ IsType types t) ↔ HasTypeBelow files (k + 1) t
 joined before types files k unites accepted t = (
   λ h. elim h [

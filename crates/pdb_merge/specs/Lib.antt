@@ -4,3 +4,5 @@ pub mod Union
 pub mod Merged
 pub mod Merging
 pub mod Answer
+pub mod Own
+pub mod Sift

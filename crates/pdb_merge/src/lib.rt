@@ -8,6 +8,7 @@
 //! - [`merge_to`] merges files: it writes one file with the types of all of them, each once, into
 //!   a sink. [`merge_files`] returns their canonical list, and [`write_merged`] writes the file of
 //!   such a list. [`Merge`] takes files one after the other, whole or by position.
+//! - [`sift_files`] leaves out the files that are not accepted, and tells which ([`LeftOut`]).
 //! - [`MergeFault`] names the first file that is at fault, by its position, from 0.
 //!
 //! What is proved: files are merged exactly if each is accepted and their types are within the
@@ -55,6 +56,7 @@ pub use input::{InputBuffer, read_input_types};
 pub use merge::Merge;
 pub use merging::merge_files::{merge_files, merge_files_with};
 pub use merging::merge_to::{merge_to, merge_to_with, write_canon};
+pub use merging::sift_files::{LeftOut, Sifted, sift_files};
 pub use merging::write_merged::write_merged;
 pub use summary::Summary;
 pub use type_table::{KeepMaps, NoMaps, TypeMaps};

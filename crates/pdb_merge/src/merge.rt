@@ -1,6 +1,6 @@
 //! A merge in progress.
 
-ghost use Rattle.std.specs.Prelude.{◌≡◌, ◌++◌, [], ◌∷◌, ℕ, List, None, length, IfOk, IfErr, IfSome};
+ghost use Rattle.std.specs.Prelude.{◌≡◌, ◌++◌, [], ◌∷◌, ℕ, List, None, length, OnOk, IfOk, IfErr, IfSome};
 ghost use Rattle.byte_fields.specs.Bytes.{AreBytes};
 ghost use Rattle.byte_fields.specs.Check.{first_failing};
 ghost use Rattle.byte_io.specs.At.{IfKnown, IfOf, Reads};
@@ -9,13 +9,13 @@ ghost use Rattle.closed_trees.specs.Tree.{IsType};
 ghost use Rattle.canonical_list.specs.Finish.{IsCanonOf};
 ghost use Rattle.pdb_merge.specs.Fault.{merge_from_add, AddNamesFault};
 ghost use Rattle.pdb_merge.specs.Union.{HasType, Within, IsAddFault, IsAddFaultOfStream, IsAddFaultOfTexts, CanMerge, IsMergeFault};
-ghost use Rattle.type_table.specs.Maps.{AreFollowed};
+ghost use Rattle.type_table.specs.Maps.{AreFollowed, with_map};
 ghost use Rattle.pdb_merge.specs.Merging.{HasTaken, AddsFile, AddsStream, AddsTexts, AreMapsOf};
 
 use crate::fault::AddFault;
 use byte_io::{AtFault, Lend};
 use file_types::{Buffer, check_types, read_stream};
-use std::alloc::{Allocator, Global};
+use std::alloc::{AllocError, Allocator, Global};
 use std::hash::BuildHasher;
 use std::marker::Model;
 use type_table::{Canon, JoinFault, KeepMaps, NoMaps, Table};
@@ -215,6 +215,15 @@ impl<S: BuildHasher, A: Allocator + Copy, K: KeepMaps> Merge<S, A, K> {
             CanMerge ((files ++ file ∷ []) ++ more) self.old.limit → fault ≡ AddFault.Memory))) }
     {
         self.add_types_at(alloc, input, buffer)
+    }
+
+    /// Keeps a map of no records, for a file that is left out.
+    pub(crate) fn keep_no_records(&mut self) -> Result<(), AllocError>
+        ensures types { self.new.types ≡ self.old.types }
+        ensures limit { self.new.limit ≡ self.old.limit }
+        ensures maps { OnOk result (self.new.maps ≡ with_map self.old.maps []) }
+    {
+        self.maps.keep(&[])
     }
 
     /// The canonical list of the types so far. The merge is unchanged. The only fault is `Memory`.

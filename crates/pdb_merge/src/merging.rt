@@ -2,4 +2,5 @@
 
 pub(crate) mod merge_files;
 pub(crate) mod merge_to;
+pub(crate) mod sift_files;
 pub(crate) mod write_merged;

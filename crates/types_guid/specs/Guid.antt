@@ -6,6 +6,8 @@ use Rattle.uuid.specs.Parts.{with_version, with_variant}
 use Rattle.uuid.specs.declared.Variant.TheVariants as variant
 use Rattle.uuid.specs.declared.Version.TheVariants as version
 use Rattle.pdb_info.specs.Settings.{SettingsView}
+use Rattle.types_guid.specs.declared.merge.GuidChoice.{GuidChoice}
+use Rattle.types_guid.specs.declared.merge.GuidChoice.TheVariants.{Given, ByTypes}
 
 -- the GUID of the types of a canonical list of these records
 abbrev pub types_guid : List (List ℕ) → List ℕ
@@ -15,3 +17,8 @@ types_guid records =
 -- these settings, with the GUID of the types of these records
 abbrev pub named : SettingsView → List (List ℕ) → SettingsView
 named settings records = record settings { guid = types_guid records }
+
+-- these settings, with the GUID that is chosen for the types of these records
+abbrev pub chosen : GuidChoice → SettingsView → List (List ℕ) → SettingsView
+chosen Given settings records = settings
+chosen ByTypes settings records = named settings records

@@ -1,2 +1,3 @@
 pub mod Guid
 pub mod Merge
+pub mod Sift

@@ -2,11 +2,15 @@
 //!
 //! - [`guid_of_types`] makes the GUID of a canonical list: a UUID of version 8, whose other bits are
 //!   the first of the SHA-256 of the bytes of all records.
+//! - [`merge_accepted`] leaves out the files that are not accepted, and tells which. Its file has either
+//!   GUID.
 //! - [`merge_by_types`] merges files as [`pdb_merge::merge_to`] does, and gives the file this GUID.
 //!
 //! What is proved: the file is the one that `merge_to` writes with this GUID, so all that is proved
 //! of such a file holds (`IsFileOf` of `pdb_merge`). And files with the same types give the same
-//! GUID and the same bytes, if age and block size are equal (`IsSameByTypes`).
+//! GUID and the same bytes, if age and block size are equal (`IsSameByTypes`). Where files are left
+//! out, the types are exactly those of the others, and each was left out for its first fault
+//! (`SiftsTo`).
 //!
 //! # Example
 //!
@@ -25,4 +29,4 @@ mod guid;
 mod merge;
 
 pub use guid::guid_of_types;
-pub use merge::merge_by_types;
+pub use merge::{GuidChoice, SiftedFile, merge_accepted, merge_by_types};

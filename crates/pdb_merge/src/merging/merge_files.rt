@@ -1,6 +1,6 @@
 //! The types of several files, each once.
 
-ghost use Rattle.std.specs.Prelude.{◌≡◌, ◌<◌, ◌≤◌, ◌+◌, ◌^◌, ℕ, List, length, take, OnOk, IfOk, IfErr, IfSome};
+ghost use Rattle.std.specs.Prelude.{◌≡◌, ◌<◌, ◌≤◌, ◌+◌, ◌^◌, [], ℕ, List, length, take, get_or, OnOk, IfOk, IfErr, IfSome};
 ghost use Rattle.std.specs.List.{concat};
 ghost use Rattle.byte_io.specs.Inputs.{CanRead, Give};
 ghost use Rattle.closed_trees.specs.Tree.{IsType};
@@ -8,16 +8,47 @@ ghost use Rattle.canonical_list.specs.Finish.{IsCanonOf};
 ghost use Rattle.pdb_info.specs.Settings.{record_limit};
 ghost use Rattle.pdb_merge.specs.Answer.{AcceptsFiles, RefusesFiles};
 ghost use Rattle.pdb_merge.specs.Union.{HasType, Within};
-ghost use Rattle.pdb_merge.specs.Merging.{HasTaken, AreMapsOf};
+ghost use Rattle.pdb_merge.specs.Merging.{AddsFile, HasTaken, AreMapsOf};
+ghost use Rattle.pdb_merge.specs.Own.{IsOwnFault, OwnNamesFault, ReadsTo};
 
 use crate::fault::MergeFault;
-use crate::input::{InputBuffer, at_file, check_rest, read_input};
+use crate::input::{InputBuffer, OwnFault, read_input, refuse};
 use crate::merge::Merge;
 use byte_io::Inputs;
 use pdb_info::Settings;
 use std::alloc::Allocator;
 use std::hash::BuildHasher;
 use type_table::{Canon, KeepMaps, NoMaps};
+
+/// Adds the types of the file at a position. The fault is that of this file alone: later files are not
+/// looked at.
+pub(crate) fn add_own<I: Inputs, S: BuildHasher, A: Allocator + Copy, K: KeepMaps>(
+    alloc: A,
+    inputs: &I,
+    input: usize,
+    buffer: &mut InputBuffer<A>,
+    merge: &mut Merge<S, A, K>,
+) -> Result<(), OwnFault<A>>
+    requires inside { IfSome (I.known inputs.now) (λ each. input < length each) }
+    requires before { IfSome (I.known inputs.now) (λ each. CanRead each input) }
+    ensures value { (files : List (List ℕ)) → Give (I.known inputs.now) files →
+        OnOk result (AddsFile merge.old merge.new (get_or files input [])) }
+    ensures within { OnOk result (Within (IsType merge.new.types) merge.new.limit) }
+    ensures read { OnOk result (IfSome (I.known inputs.now) (λ each. CanRead each (input + 1))) }
+    ensures limit { merge.new.limit ≡ merge.old.limit }
+    ensures kept { IfErr result (λ _. merge.new ≡ merge.old) }
+    ensures own { (files : List (List ℕ)) → Give (I.known inputs.now) files →
+        IfErr result (IsOwnFault merge.old.types merge.old.limit (get_or files input [])) }
+    ensures first { IfErr result (λ fault.
+        IfSome (I.known inputs.now) (λ each. ReadsTo each input fault)) }
+    ensures named { IfErr result OwnNamesFault }
+{
+    let stream = read_input(alloc, inputs, input, buffer)?;
+    match merge.add_stream(alloc, stream) {
+        Ok(()) => Ok(()),
+        Err(fault) => Err(OwnFault::Of(fault)),
+    }
+}
 
 /// Adds the types of the file at a position. If the file has a fault of its own, the files after it
 /// are checked too, because a file that cannot be read is refused first.
@@ -41,12 +72,10 @@ fn add_input<I: Inputs, S: BuildHasher, A: Allocator + Copy, K: KeepMaps>(
         HasTaken merge.old (take input files)) →
         IfErr result (RefusesFiles (I.known inputs.now) merge.old.limit) }
 {
-    let stream = read_input(alloc, inputs, input, buffer)?;
-    if let Err(fault) = merge.add_stream(alloc, stream) {
-        check_rest(inputs, input + 1)?;
-        return Err(at_file(input, fault));
+    match add_own(alloc, inputs, input, buffer, merge) {
+        Ok(()) => Ok(()),
+        Err(fault) => Err(refuse(inputs, input, fault)),
     }
-    Ok(())
 }
 
 /// The canonical list of the types of these files.

@@ -1,17 +1,18 @@
 use Rattle.std.proofs.Common.{refl}
-use Rattle.pdb_merge.proofs.InputLaws.{opened_file, opened_read, more_read, given_unread, memory_stops_at}
+use Rattle.pdb_merge.proofs.InputLaws.{opened_file, opened_read, more_read}
+use Rattle.pdb_merge.proofs.OwnLaws.{given_memory}
 use Rattle.pdb_merge.proofs.input.read_input.Goals as goal
 
 pub read_with-requires : goal.read_with-requires
 read_with-requires g c κs =
     let known = g.I.Inputs.known c.args.inputs.now in (
       (refl, (refl, tt)),
-      (c.requires.few, (c.requires.inside, more_read known c.args.input c.requires.before (opened_read known c.args.input g.I.File.ReadAt.bytes c.in-Ok.opened c.in-Ok.ensures.value))),
+      more_read known c.args.input c.requires.before (opened_read known c.args.input g.I.File.ReadAt.bytes c.in-Ok.opened c.in-Ok.ensures.value),
     )
 
 pub returns-in-Err-clause-own : goal.returns-in-Err-clause-own
 returns-in-Err-clause-own g c = λ files given.
-    memory_stops_at files c.args.input c.input_fault.result (given_unread (g.I.Inputs.known c.args.inputs.now) files c.args.input c.in-Err.fault c.input_fault.result given c.in-Err.ensures.fault c.input_fault.ensures)
+    given_memory (g.I.Inputs.known c.args.inputs.now) files c.args.input c.in-Err.fault given c.in-Err.ensures.fault
 
 pub returns-in-Ok-read_with-clause-value : goal.returns-in-Ok-read_with-clause-value
 returns-in-Ok-read_with-clause-value g c = λ files given.

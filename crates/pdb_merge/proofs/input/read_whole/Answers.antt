@@ -1,18 +1,19 @@
 use Rattle.std.proofs.Common.{ap, refl, sym}
 use Rattle.byte_io.specs.At.{stable}
-use Rattle.pdb_merge.proofs.InputLaws.{given_file, some_bytes, more_read, given_unread, memory_stops_at}
+use Rattle.pdb_merge.proofs.InputLaws.{given_file, some_bytes, more_read}
+use Rattle.pdb_merge.proofs.OwnLaws.{given_memory}
 use Rattle.pdb_merge.proofs.input.read_whole.Goals as goal
 
 pub read_with-requires : goal.read_with-requires
 read_with-requires g c κs =
     let known = g.I.Inputs.known c.args.inputs.now in (
       (refl, (refl, tt)),
-      (c.requires.few, (c.requires.inside, more_read known c.args.input c.requires.before (some_bytes known c.args.input c.in-Ok.file.now c.in-Ok.ensures.value))),
+      more_read known c.args.input c.requires.before (some_bytes known c.args.input c.in-Ok.file.now c.in-Ok.ensures.value),
     )
 
 pub returns-in-Err-clause-own : goal.returns-in-Err-clause-own
 returns-in-Err-clause-own g c = λ files given.
-    memory_stops_at files c.args.input c.input_fault.result (given_unread (g.I.Inputs.known c.args.inputs.now) files c.args.input c.in-Err.fault c.input_fault.result given c.in-Err.ensures.fault c.input_fault.ensures)
+    given_memory (g.I.Inputs.known c.args.inputs.now) files c.args.input c.in-Err.fault given c.in-Err.ensures.fault
 
 pub returns-in-Ok-read_with-clause-value : goal.returns-in-Ok-read_with-clause-value
 returns-in-Ok-read_with-clause-value g c = λ files given.

@@ -1,0 +1,78 @@
+-- The fault of one input, as far as this input goes.
+use Rattle.std.proofs.Common.{◌≡◌, ◌⊎◌, ◌<◌, ℕ, List, [], Option, get_or, length, take, refl, inl, inr}
+use Rattle.std.specs.Prelude.{Result, Err, IfSome}
+use Rattle.byte_io.specs.Inputs.{Give}
+use Rattle.byte_io.specs.declared.input.ReadFault.TheVariants as reads
+use Rattle.byte_io.specs.declared.inputs.InputFault.{InputFault}
+use Rattle.byte_io.specs.declared.inputs.InputFault.TheVariants as inputs
+use Rattle.file_types.specs.Read.{HasPdbFault}
+use Rattle.file_types.specs.declared.fault.PdbFault.{PdbFault}
+use Rattle.file_types.specs.declared.fault.PdbFault.TheVariants as pdb
+use Rattle.pdb_merge.specs.Fault.{add_from_pdb}
+use Rattle.pdb_merge.proofs.InputLaws.{IsUnread, file_read}
+use Rattle.pdb_merge.specs.Own.{IsOwnFault, IsOwnReadFault, merge_from_own}
+use Rattle.pdb_merge.specs.Answer.{RefusesFiles}
+use Rattle.pdb_merge.specs.Fault.{NamesFault}
+use Rattle.pdb_merge.specs.Merging.{MergeView, HasTaken}
+use Rattle.pdb_merge.specs.Union.{CanMerge, IsMergeFault, IsReadingFaultAt, ReadsFirst}
+use Rattle.pdb_merge.proofs.MergingLaws.{alone_whole, stops_whole, taken_alone, taken_stops}
+use Rattle.pdb_merge.proofs.UnionLaws.{refuses_files}
+use Rattle.pdb_merge.specs.declared.fault.AddFault.TheVariants as add
+use Rattle.pdb_merge.specs.declared.fault.MergeFault.{MergeFault}
+use Rattle.pdb_merge.specs.declared.fault.MergeFault.TheVariants as merge
+use Rattle.pdb_merge.specs.declared.input.OwnFault.{OwnFault}
+use Rattle.pdb_merge.specs.declared.input.OwnFault.TheVariants as own
+
+-- an input that gives its file is not read only when out of memory
+pub given_memory : (known : Option (List (Result (List ℕ) InputFault))) (files : List (List ℕ)) (i : ℕ) (inner : InputFault) → Give known files → IsUnread known i inner → inner ≡ inputs.Read reads.Memory
+given_memory known files i inner given is = elim (rw given at is) [
+  | inl there ↦ let bad = (file_read files i (Err inner) there).1 in absurd cc
+  | inr memory ↦ memory
+]
+
+-- a fault of the bytes of a file
+pub pdb_own : {A : Type 0} (file : List ℕ) (inner : PdbFault A) → HasPdbFault file inner ⊎ (inner ≡ pdb.Memory) → IsOwnReadFault file (own.Of (add_from_pdb inner))
+pdb_own file pdb.Memory is = tt
+pdb_own file (pdb.Msf f) (inl refused) = refused
+pdb_own file (pdb.Stream f) (inl refused) = refused
+pdb_own file (pdb.Info f) (inl refused) = refused
+pdb_own file (pdb.Tpi f) (inl refused) = refused
+pdb_own file (pdb.Type f) (inl refused) = refused
+pdb_own file inner (inr memory) = absurd cc
+
+-- the fault of a file stops a merge that has taken the files before it
+own_stops : {A : Type 0} (m : MergeView) (files : List (List ℕ)) (k : ℕ) (fault : OwnFault A) (outer : MergeFault A) → k < length files → HasTaken m (take k files)
+    → IsOwnFault m.types m.limit (get_or files k []) fault → (outer ≡ merge_from_own k fault) ⊎ (outer ≡ merge.Memory) → IsMergeFault files m.limit outer
+own_stops m files k fault outer inside taken is (inr memory) = rw memory tt
+own_stops m files k (own.Unread inner) outer inside taken is (inl made) = rw (made, is) tt
+own_stops m files k (own.Of inner) outer inside taken is (inl made) =
+    stops_whole files k m.limit inner outer inside made (taken_stops m (take k files) (get_or files k []) inner is taken)
+
+-- and only out of memory stops files that can be merged
+own_alone : {A : Type 0} (m : MergeView) (files : List (List ℕ)) (k : ℕ) (fault : OwnFault A) (outer : MergeFault A) → k < length files → HasTaken m (take k files)
+    → IsOwnFault m.types m.limit (get_or files k []) fault → (outer ≡ merge_from_own k fault) ⊎ (outer ≡ merge.Memory) → CanMerge files m.limit → outer ≡ merge.Memory
+own_alone m files k fault outer inside taken is (inr memory) can = memory
+own_alone m files k (own.Unread inner) outer inside taken is (inl made) can = rw (made, is) refl
+own_alone m files k (own.Of inner) outer inside taken is (inl made) can =
+    alone_whole files k m.limit inner outer inside made (λ more. taken_alone m (take k files) more (get_or files k []) inner is taken) can
+
+pub own_refuses : {A : Type 0} (known : Option (List (Result (List ℕ) InputFault))) (k : ℕ) (m : MergeView) (fault : OwnFault A) (outer : MergeFault A)
+    → ((given : List (List ℕ)) → Give known given → k < length given)
+    → ((given : List (List ℕ)) → Give known given → HasTaken m (take k given))
+    → ((given : List (List ℕ)) → Give known given → IsOwnFault m.types m.limit (get_or given k []) fault)
+    → ((given : List (List ℕ)) → Give known given → (outer ≡ merge_from_own k fault) ⊎ (outer ≡ merge.Memory))
+    → IfSome known (λ each. ReadsFirst each outer) → NamesFault outer → RefusesFiles known m.limit outer
+own_refuses known k m fault outer inside taken is made first named =
+    refuses_files known m.limit outer
+    (λ given gives. own_stops m given k fault outer (inside given gives) (taken given gives) (is given gives) (made given gives))
+    first named
+    (λ given gives can. own_alone m given k fault outer (inside given gives) (taken given gives) (is given gives) (made given gives) can)
+
+-- it is why the types of the file at this position are not read
+pub own_stops_at : {A : Type 0} (files : List (List ℕ)) (i : ℕ) (fault : OwnFault A) (outer : MergeFault A) → IsOwnReadFault (get_or files i []) fault
+    → (outer ≡ merge_from_own i fault) ⊎ (outer ≡ merge.Memory) → IsReadingFaultAt files i outer
+own_stops_at files i fault outer is (inr memory) = rw memory tt
+own_stops_at files i (own.Unread inner) outer is (inl made) = rw (made, is) tt
+own_stops_at files i (own.Of (add.Refused inner)) outer is (inl made) = rw made (refl, is)
+own_stops_at files i (own.Of (add.TooLarge bytes)) outer is (inl made) = absurd is
+own_stops_at files i (own.Of add.Memory) outer is (inl made) = rw made tt
