@@ -20,6 +20,8 @@ pub enum WrongWord {
     },
     /// The argument at this position, from 1, is not UTF-8.
     NotUtf8(usize),
+    /// The path with this number, from 1, of a list of paths is not UTF-8.
+    Path(usize),
 }
 
 impl fmt::Display for WrongWord {
@@ -27,6 +29,12 @@ impl fmt::Display for WrongWord {
         match self {
             WrongWord::Value { argument, wanted } => write!(f, "{argument} wants {wanted}"),
             WrongWord::NotUtf8(position) => write!(f, "argument {position} wants UTF-8"),
+            WrongWord::Path(number) => {
+                write!(
+                    f,
+                    "--files-from wants a list of paths in UTF-8\nline {number} is none"
+                )
+            }
         }
     }
 }

@@ -37,5 +37,5 @@ mod words;
 
 pub use fault::{LineFault, WrongWord};
 pub use index::query_of;
-pub use line::{Compared, GuidChoice, Line, Merging, PathList, Task, USAGE, read_line};
+pub use line::{Compared, Line, Merging, PathList, Task, USAGE, read_line};
 pub use list::{ListFault, push_paths};

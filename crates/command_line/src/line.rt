@@ -7,8 +7,9 @@ use crate::index::read_index;
 use crate::words::{Kind, ShownCommand, What, command_named, program};
 use clap::ArgMatches;
 use fault_pages::{Page, last, page_of};
-use pdb_commands::{Scope, Shown};
+use pdb_commands::{GuidChoice, Scope, Shown};
 use pdb_info::Settings;
+use program_files::Making;
 use std::alloc::{AllocError, Global};
 use uuid::Uuid;
 
@@ -39,17 +40,8 @@ pub struct PathList {
     pub end: u8,
 }
 
-/// The GUID of a file that is written.
-#[derive(Clone, Copy, Debug, PartialEq, Eq)]
-pub enum GuidChoice {
-    /// The GUID of the settings.
-    Given,
-    /// The GUID of the types of the file. That of the settings is not used.
-    ByTypes,
-}
-
 /// `merge --guid G --age N [--limit L] [--block-size B] [--max-bytes N] [--files-from LIST] [-0]
-/// [--map MAP] [--progress] OUT IN...`
+/// [--map MAP] [--progress] [--no-clobber | --replace] [--skip-refused] OUT IN...`
 #[derive(Debug, Drop)]
 pub struct Merging {
     pub settings: Settings,
@@ -60,6 +52,10 @@ pub struct Merging {
     /// The file for the maps of the inputs.
     pub map: Option<String>,
     pub shows_progress: bool,
+    /// How OUT and the file for the maps are made.
+    pub making: Making,
+    /// Whether inputs that have a fault of their own are left out.
+    pub skips_refused: bool,
     pub max_bytes: u32,
 }
 
@@ -259,6 +255,17 @@ fn map_of(alloc: Global, arguments: &ArgMatches<'_>) -> Result<Option<String>, L
     }
 }
 
+/// How the files of a merge are made.
+fn making_of(arguments: &ArgMatches<'_>) -> Making {
+    if arguments.get_flag("no-clobber") {
+        Making::New
+    } else if arguments.get_flag("replace") {
+        Making::Replace
+    } else {
+        Making::Overwrite
+    }
+}
+
 /// What `merge` is asked for.
 fn merging_of(alloc: Global, arguments: &ArgMatches<'_>) -> Result<Merging, LineFault> {
     let (naming, guid) = guid_of(arguments)?;
@@ -270,6 +277,8 @@ fn merging_of(alloc: Global, arguments: &ArgMatches<'_>) -> Result<Merging, Line
         list: list_of(alloc, arguments)?,
         map: map_of(alloc, arguments)?,
         shows_progress: arguments.get_flag("progress"),
+        making: making_of(arguments),
+        skips_refused: arguments.get_flag("skip-refused"),
         max_bytes: max_bytes_of(arguments)?,
     })
 }

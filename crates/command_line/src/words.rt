@@ -6,14 +6,19 @@ use pdb_commands::Shown;
 use std::alloc::{AllocError, Global};
 
 /// The head of the help text.
-const ABOUT: &str =
-    "pdbmerge 0.1.0: merges the types of Program Database (PDB) files, and shows what files hold";
+const ABOUT: &str = "pdbmerge 0.2.0: merges the types of PDB files, and shows what such files hold";
+
+/// The version, as `--version` prints it after the name of the program.
+const VERSION: &str = "0.2.0";
 
 /// The name of the command that merges.
 const MERGE_NAME: &str = "merge";
 
 /// The name of the command that compares.
 const DIFF_NAME: &str = "diff";
+
+/// The option of `merge` that refuses an OUT that is there.
+const NO_CLOBBER: &str = "no-clobber";
 
 /// The name of the command that says what a fault means.
 const EXPLAIN_NAME: &str = "explain";
@@ -22,15 +27,13 @@ const EXPLAIN_NAME: &str = "explain";
 const MERGE: &str = "Merges the types of files into one: the same types give the same bytes";
 
 /// What `diff` does.
-const DIFF: &str =
-    "Shows the types that only one of two files has: A's own after '- ', B's own after '+ '";
+const DIFF: &str = "Shows types that only one file has: A's own after '- ', B's after '+ '";
 
 /// The name of the command that shows definitions.
 const MEMBERS_NAME: &str = "members";
 
 /// What `members` does.
-const MEMBERS: &str =
-    "Shows each class, structure, union and enumeration: its size, and a line for each member";
+const MEMBERS: &str = "Shows classes, structures, unions and enumerations, with their members";
 
 /// What `explain` does.
 const EXPLAIN: &str = "Shows what a fault means, what makes it, and what to do";
@@ -93,22 +96,22 @@ static SUBCOMMANDS: [Kind; 10] = [
     }),
     Kind::Show(ShownCommand {
         name: "types",
-        about: "Shows each type record: its leaf, its size, the types that it names, its name",
+        about: "Shows each type record: its leaf, size, the types that it names, its name",
         what: What::Whole(Shown::Types),
     }),
     Kind::Show(ShownCommand {
         name: "check",
-        about: "Shows whether the types of a file can be trusted, and how many there are",
+        about: "Shows whether the types can be trusted, and how many there are",
         what: What::Whole(Shown::Check),
     }),
     Kind::Show(ShownCommand {
         name: "streams",
-        about: "Shows the container: its blocks, and each stream with its size and blocks",
+        about: "Shows the container: its blocks, and each stream with size and blocks",
         what: What::Whole(Shown::Streams),
     }),
     Kind::Show(ShownCommand {
         name: "info",
-        about: "Shows what identifies the file: version, signature, age, GUID, named streams, feature codes",
+        about: "Shows version, signature, age, GUID, named streams and feature codes",
         what: What::Whole(Shown::Info),
     }),
     Kind::Explain,
@@ -138,7 +141,7 @@ const MAX: Choice = Choice {
     name: "max-bytes",
     short: None,
     value: Some("N"),
-    help: "The greatest number of bytes of a file, or of a stream that is read; up to 4294967295",
+    help: "The most bytes of a file, and of a stream that is{n}read; up to 4294967295",
     is_required: false,
 };
 
@@ -147,12 +150,12 @@ const VERBOSE: Choice = Choice {
     name: "verbose",
     short: Some('v'),
     value: None,
-    help: "After a refusal, also says which file or word it is about, and where more is said",
+    help: "After a refusal, also says which file or word it is{n}about, why the system refused, and where more is said",
     is_required: false,
 };
 
 /// The options of `merge`.
-static OF_MERGE: [Choice; 10] = [
+static OF_MERGE: [Choice; 12] = [
     Choice {
         name: "guid",
         short: None,
@@ -171,14 +174,14 @@ static OF_MERGE: [Choice; 10] = [
         name: "limit",
         short: None,
         value: Some("L"),
-        help: "How many bytes the types may have together, up to 1073741824, which is the default",
+        help: "The most bytes of all types together; the default, and{n}the greatest, is 1073741824",
         is_required: false,
     },
     Choice {
         name: "block-size",
         short: None,
         value: Some("B"),
-        help: "How many bytes a block of the file has: 512, 1024, 2048, 4096 (the default), 8192, 16384 or 32768",
+        help: "The bytes of a block of the file: 512, 1024, 2048,{n}4096 (the default), 8192, 16384 or 32768",
         is_required: false,
     },
     MAX,
@@ -186,39 +189,62 @@ static OF_MERGE: [Choice; 10] = [
         name: "files-from",
         short: None,
         value: Some("LIST"),
-        help: "A file with the paths of more IN, one a line, or - for standard input",
+        help: "A file with the paths of more IN, one a line, or -{n}for standard input",
         is_required: false,
     },
     Choice {
         name: "null",
         short: Some('0'),
         value: None,
-        help: "The paths of LIST end with a NUL, as those of find -print0 do",
+        help: "The paths of LIST end with a NUL, as those of{n}find -print0 do",
         is_required: false,
     },
     Choice {
         name: "map",
         short: None,
         value: Some("MAP"),
-        help: "A file for a line for each record of the inputs: the input, its type index, its new type index",
+        help: "A file for a line for each record of the inputs: the{n}input, its type index, its new type index",
         is_required: false,
     },
     Choice {
         name: "progress",
         short: None,
         value: None,
-        help: "Writes to standard error how many of the inputs were read",
+        help: "Writes to standard error how many inputs were read",
+        is_required: false,
+    },
+    Choice {
+        name: NO_CLOBBER,
+        short: None,
+        value: None,
+        help: "Refuses an OUT or a MAP that is there: 41 Create",
+        is_required: false,
+    },
+    Choice {
+        name: "skip-refused",
+        short: None,
+        value: None,
+        help: "Leaves out an IN with a fault of its own, and says so{n}on standard error; status 4 if any was left out",
         is_required: false,
     },
     VERBOSE,
 ];
+
+/// How `merge` makes OUT where there is one.
+static REPLACE: Choice = Choice {
+    name: "replace",
+    short: None,
+    value: None,
+    help: "Writes OUT and MAP under names of their own, which take{n}their places at the end: a refusal leaves the old",
+    is_required: false,
+};
 
 /// What `diff` shows.
 static ORIGINS: Choice = Choice {
     name: "origins",
     short: None,
     value: None,
-    help: "Only the types whose own named types are all in the other file: where it begins",
+    help: "Only types whose own named types are all in the{n}other file: where the difference begins",
     is_required: false,
 };
 
@@ -227,7 +253,7 @@ static CHANGED_MEMBERS: Choice = Choice {
     name: MEMBERS_NAME,
     short: None,
     value: None,
-    help: "Which structures, unions and enumerations came, went or changed, and in which members",
+    help: "Which structures, unions and enumerations came, went{n}or changed, and in which members",
     is_required: false,
 };
 
@@ -240,27 +266,30 @@ static OF_EXPLAIN: [Choice; 1] = [VERBOSE];
 /// The exit statuses, at the end of each help text.
 const STATUSES: &str =
     "Exit status: 0 done; 1 refused, with one line on standard error that begins \
-    with 'pdbmerge: '\nand the fault's number and name; 2 the arguments are wrong.";
+    with\n'pdbmerge: ' and the fault's number and name; 2 the arguments are wrong.";
 
 /// More on the options of `merge`, and the exit statuses, at the end of its help text.
-const MERGE_STATUSES: &str =
-    "With --guid types the GUID is made of the types: the same types give the same GUID.\n\n\
-    Exit status: 0 done; 1 refused, with one line on standard error that begins \
-    with 'pdbmerge: '\nand the fault's number and name; 2 the arguments are wrong.";
+const MERGE_STATUSES: &str = "OUT comes first: an OUT that is there is written over.\n\
+    With --guid types the GUID is made of the types: the same types give the same one.\n\n\
+    Exit status: 0 done; 4 done, and an IN was left out; 1 refused, with one line on\n\
+    standard error that begins with 'pdbmerge: ' and the fault's number and name; 2\n\
+    the arguments are wrong.";
 
 /// The exit statuses of `diff`, at the end of its help text.
 const DIFF_STATUSES: &str =
-    "With --members, files with the same structures, unions and enumerations have no difference.\n\n\
-    Exit status: 0 the files have the same types; 3 they differ; 1 refused, with one line on \
-    standard\nerror that begins with 'pdbmerge: ' and the fault's number and name; 2 the arguments \
-    are wrong.";
+    "With --members, files with the same structures, unions and enumerations have no\n\
+    difference.\n\n\
+    Exit status: 0 the files have the same types; 3 they differ; 1 refused, with one\n\
+    line on standard error that begins with 'pdbmerge: ' and the fault's number and\n\
+    name; 2 the arguments are wrong.";
 
 /// More on the arguments of `members`, and the exit statuses, at the end of its help text.
 const MEMBERS_STATUSES: &str =
-    "A declaration is shown only where a NAME asks for it, and no definition has that name.\n\n\
-    Exit status: 0 done; 3 no type has a NAME, as standard error says; 1 refused, with one line on \
-    standard\nerror that begins with 'pdbmerge: ' and the fault's number and name; 2 the arguments \
-    are wrong.";
+    "A declaration is shown only where a NAME asks for it, and no definition has that\n\
+    name.\n\n\
+    Exit status: 0 done; 3 no type has a NAME, as standard error says; 1 refused, with\n\
+    one line on standard error that begins with 'pdbmerge: ' and the fault's number\n\
+    and name; 2 the arguments are wrong.";
 
 // Commands and arguments are large values. Each is made by a function of its own, one at a time, so
 // that the stack has few of them.
@@ -373,7 +402,8 @@ fn with_inputs<'a>(alloc: Global, command: Command<'a>) -> Result<Command<'a>, A
 #[inline(never)]
 fn merging<'a>(alloc: Global) -> Result<Command<'a>, AllocError> {
     let command = command(alloc, MERGE_NAME, MERGE, &OF_MERGE, MERGE_STATUSES)?;
-    with_inputs(alloc, command)
+    let replace = option(alloc, &REPLACE).conflicts_with(NO_CLOBBER)?;
+    with_inputs(alloc, command.arg(replace)?)
 }
 
 /// The command that compares, with its arguments.
@@ -404,7 +434,7 @@ fn differing<'a>(alloc: Global) -> Result<Command<'a>, AllocError> {
 #[inline(never)]
 fn names<'a>(alloc: Global) -> Arg<'a> {
     Arg::new(alloc, "NAME")
-        .help("The name of a type that is shown, or its type index, as 0x1000; else all are")
+        .help("The name of a type that is shown, or its type index, as{n}0x1000; else all are")
         .num_args(1..)
         .action(ArgAction::Append)
 }
@@ -440,6 +470,7 @@ fn subcommand<'a>(alloc: Global, which: &'a Kind) -> Result<Command<'a>, AllocEr
 #[inline(never)]
 fn bare<'a>(alloc: Global) -> Result<Command<'a>, AllocError> {
     let program = Command::new(alloc, "pdbmerge")
+        .version(VERSION)
         .about(ABOUT)
         .after_help(STATUSES)
         .bin_name("pdbmerge")?;

@@ -4,46 +4,72 @@ use crate::refusal::Refusal;
 use byte_io::{In, read_all};
 use command_line::{LineFault, ListFault, Merging, PathList, WrongWord, push_paths};
 use pdb_commands::RunFault;
-use program_files::ProgramFault;
+use program_files::{Place, ProgramFault, Said, Telling};
 use std::fs;
+use std::io::Read;
 use std::rt::HostRuntime;
 
 /// What stands for standard input where a path is wanted.
 const STANDARD_INPUT: &str = "-";
 
-/// The bytes of a list.
-fn bytes_of(rt: &HostRuntime, list: &PathList, max_bytes: u32) -> Result<Vec<u8>, ProgramFault> {
-    if list.path.as_str() == STANDARD_INPUT {
-        let bytes = read_all(rt.alloc(), &mut In::new(rt.stdin()), max_bytes);
-        return bytes.map_err(|fault| RunFault::from(fault).into());
-    }
-    let file = fs::open(rt, list.path.as_str()).map_err(|_| ProgramFault::Open)?;
-    read_all(rt.alloc(), &mut In::new(file), max_bytes).map_err(|fault| RunFault::from(
-        fault,
-    ).into())
+/// All bytes of a file that is open.
+fn read_from<F: Read + Drop>(
+    rt: &HostRuntime,
+    file: F,
+    max_bytes: u32,
+    said: &Said,
+) -> Result<Vec<u8>, ProgramFault> {
+    let mut input = In::new(Telling::new(file, Place::List, said));
+    read_all(rt.alloc(), &mut input, max_bytes).map_err(|fault| RunFault::from(fault).into())
 }
 
-/// What is said of a list whose paths are not UTF-8.
-fn not_utf8(is_verbose: bool) -> LineFault {
+/// The bytes of a list.
+fn bytes_of(
+    rt: &HostRuntime,
+    list: &PathList,
+    max_bytes: u32,
+    said: &Said,
+) -> Result<Vec<u8>, ProgramFault> {
+    if list.path.as_str() == STANDARD_INPUT {
+        return read_from(rt, rt.stdin(), max_bytes, said);
+    }
+    match fs::open(rt, list.path.as_str()) {
+        Ok(file) => read_from(rt, file, max_bytes, said),
+        Err(error) => {
+            said.keep(Place::List, &error);
+            Err(ProgramFault::Open)
+        }
+    }
+}
+
+/// What is said of a list whose path with this number, from 1, is not UTF-8.
+fn not_utf8(number: usize, is_verbose: bool) -> LineFault {
     if is_verbose {
-        LineFault::Word(Some(WrongWord::Value {
-            argument: "--files-from",
-            wanted: "a list of paths in UTF-8",
-        }))
+        LineFault::Word(Some(WrongWord::Path(number)))
     } else {
         LineFault::Word(None)
     }
 }
 
 /// Reads the list of more inputs, if there is one. Its paths come after those of the arguments.
-pub fn read_list(rt: &HostRuntime, task: &mut Merging, is_verbose: bool) -> Result<(), Refusal> {
+pub fn read_list(
+    rt: &HostRuntime,
+    task: &mut Merging,
+    is_verbose: bool,
+    said: &Said,
+) -> Result<(), Refusal> {
     let Some(list) = &task.list else {
         return Ok(());
     };
-    let bytes = bytes_of(rt, list, task.max_bytes).map_err(Refusal::List)?;
+    let bytes = bytes_of(rt, list, task.max_bytes, said).map_err(Refusal::List)?;
+    let before = task.inputs.len();
     match push_paths(rt.alloc(), &bytes, list.end, &mut task.inputs) {
         Ok(()) => Ok(()),
-        Err(ListFault::NotUtf8) => Err(Refusal::Line(not_utf8(is_verbose))),
+        Err(ListFault::NotUtf8) => {
+            // Those before it were appended.
+            let number = task.inputs.len() - before + 1;
+            Err(Refusal::Line(not_utf8(number, is_verbose)))
+        }
         Err(ListFault::Memory) => Err(Refusal::Program(RunFault::Memory.into())),
     }
 }

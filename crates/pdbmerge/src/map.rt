@@ -4,7 +4,8 @@ use crate::same::{FileId, is_one_of};
 use command_line::Merging;
 use pdb_commands::{RunFault, write_maps};
 use pdb_merge::TypeMaps;
-use program_files::{MapFault, NewFile, ProgramFault};
+use program_files::{Making, MapFault, NewFile, Place, ProgramFault, Said};
+use std::fs;
 use std::rt::HostRuntime;
 
 /// Whether a file is that of the merge, one of its inputs, or the list of them.
@@ -18,38 +19,94 @@ fn is_taken(rt: &HostRuntime, task: &Merging, map: &FileId<'_>) -> bool {
     }
 }
 
-/// Refuses a file for the maps that the merge reads or writes: it would be spoilt.
-pub fn refuse_taken(rt: &HostRuntime, task: &Merging) -> Result<(), MapFault> {
-    match &task.map {
-        Some(map) if is_taken(rt, task, &FileId::of(rt, map.as_str())) => Err(MapFault::Create),
-        _ => Ok(()),
-    }
+/// Whether the file for the maps is OUT, by another name.
+fn is_out(rt: &HostRuntime, map: &str, task: &Merging) -> bool {
+    FileId::of(rt, map).is(rt, task.out.as_str())
 }
 
-/// Writes the maps into a new file, which is stored and closed then. If no input has a record, the
-/// file is empty. `out` is the file of the merge: it is there now, and may have the path of the maps
-/// for another name.
-pub fn write_map_file(
-    rt: &HostRuntime,
+/// Refuses a file for the maps that the merge reads or writes: it would be spoilt. So would one that is
+/// there, where nothing may be written over.
+pub fn refuse_taken(rt: &HostRuntime, task: &Merging) -> Result<(), MapFault> {
+    let Some(path) = &task.map else {
+        return Ok(());
+    };
+    let is_there = task.making == Making::New && fs::symlink_metadata(rt, path.as_str()).is_ok();
+    if is_there || is_taken(rt, task, &FileId::of(rt, path.as_str())) {
+        return Err(MapFault::Create);
+    }
+    Ok(())
+}
+
+/// Creates the file for the maps. `out` is the file of the merge: it is there now, and may have the path
+/// of the maps for another name.
+fn create<'a>(
+    rt: &'a HostRuntime,
     out: &str,
-    path: &str,
-    maps: &TypeMaps,
-) -> Result<(), ProgramFault> {
+    path: &'a str,
+    making: Making,
+    said: &'a Said,
+) -> Result<NewFile<'a, HostRuntime>, ProgramFault> {
     if FileId::of(rt, path).is(rt, out) {
         return Err(MapFault::Create.into());
     }
-    let mut file = NewFile::new(rt, path);
+    let mut file = NewFile::new(rt, path, making, Place::Map, said);
     file.create();
-    if file.is_refused() {
-        return Err(MapFault::Create.into());
+    match file.is_refused() {
+        false => Ok(file),
+        true if file.refusal() == ProgramFault::Create => Err(MapFault::Create.into()),
+        true => Err(file.refusal()),
     }
-    match write_maps(rt.alloc(), maps, &mut file) {
+}
+
+/// Writes the maps into a file, which is stored then.
+fn fill(
+    rt: &HostRuntime,
+    maps: &TypeMaps,
+    file: &mut NewFile<'_, HostRuntime>,
+) -> Result<(), ProgramFault> {
+    match write_maps(rt.alloc(), maps, file) {
         Ok(()) => {}
         Err(RunFault::Write) => return Err(MapFault::Write.into()),
         Err(fault) => return Err(fault.into()),
     }
-    match file.store() {
-        Ok(()) => Ok(()),
-        Err(_) => Err(MapFault::Write.into()),
+    file.store().map_err(|_| MapFault::Write.into())
+}
+
+/// Writes the maps into a new file, which is stored then, and gives the file. If no input has a record,
+/// the file is empty.
+pub fn write_map_file<'a>(
+    rt: &'a HostRuntime,
+    out: &str,
+    path: &'a str,
+    making: Making,
+    maps: &TypeMaps,
+    said: &'a Said,
+) -> Result<NewFile<'a, HostRuntime>, ProgramFault> {
+    let mut file = create(rt, out, path, making, said)?;
+    match fill(rt, maps, &mut file) {
+        Ok(()) => Ok(file),
+        Err(fault) => {
+            file.abandon();
+            Err(fault)
+        }
+    }
+}
+
+/// Puts the file for the maps in its place. If the place is that of OUT, which was not there before,
+/// the file is removed, and the maps are refused.
+pub fn put_map(
+    rt: &HostRuntime,
+    file: &mut NewFile<'_, HostRuntime>,
+    task: &Merging,
+) -> Result<(), ProgramFault> {
+    if file.take_place().is_err() {
+        return Err(MapFault::Create.into());
+    }
+    match &task.map {
+        Some(map) if task.making == Making::Replace && is_out(rt, map.as_str(), task) => {
+            let _ = fs::remove_file(rt, map.as_str());
+            Err(MapFault::Create.into())
+        }
+        _ => Ok(()),
     }
 }

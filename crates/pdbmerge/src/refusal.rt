@@ -3,7 +3,7 @@
 use command_line::{Line, LineFault, Task};
 use command_texts::push_quoted;
 use pdb_commands::RunFault;
-use program_files::ProgramFault;
+use program_files::{Place, ProgramFault, Said};
 use std::alloc::AllocError;
 use std::io::{self, Eprint, Print};
 use std::process::ExitCode;
@@ -96,21 +96,65 @@ fn name_list<R: Eprint + AllocGlobal>(rt: &R, task: &Task) -> io::Result<()> {
     Ok(())
 }
 
+/// The path of the file that the system refused. `None` for standard output.
+fn refused_path<'a>(place: Place, fault: &ProgramFault, task: &'a Task) -> Option<&'a str> {
+    let path = match (place, task) {
+        (Place::Out, Task::Merge(task)) => &task.out,
+        (Place::Map, Task::Merge(task)) => task.map.as_ref()?,
+        (Place::List, Task::Merge(task)) => &task.list.as_ref()?.path,
+        (Place::Input, Task::Show { file, .. }) => file,
+        (Place::Input, Task::Members { file, .. }) => file.first()?,
+        (Place::Input, _) => inputs_of(task).get(fault.file()?)?,
+        _ => return None,
+    };
+    Some(path.as_str())
+}
+
+/// Whether the system refused something, where a command was refused with this fault.
+fn is_of_system(fault: &ProgramFault) -> bool {
+    matches!(fault.number(), 36 | 37 | 40 | 41)
+}
+
+/// Prints what the system said of the file that it refused, where there are words for that.
+fn say_why<R: Eprint + AllocGlobal>(
+    rt: &R,
+    fault: &ProgramFault,
+    task: &Task,
+    said: &Said,
+) -> io::Result<()> {
+    match said.last() {
+        Some((place, words)) if is_of_system(fault) => {
+            match refused_path(place, fault, task) {
+                Some(path) => eprintln!(rt; "{}: {words}", quoted(rt, path)?),
+                None => eprintln!(rt; "standard output: {words}"),
+            }
+        }
+        _ => Ok(()),
+    }
+}
+
 /// Prints where more is said of a fault.
 fn name_page<R: Eprint>(rt: &R, fault: &ProgramFault) -> io::Result<()> {
     eprintln!(rt; "pdbmerge explain {} says more", fault.number())
 }
 
-/// Prints which file a refusal is about, and where more is said of the fault.
-fn say_more<R: Eprint + AllocGlobal>(rt: &R, refusal: &Refusal, task: &Task) -> io::Result<()> {
+/// Prints which file a refusal is about, why the system refused it, and where more is said of the fault.
+fn say_more<R: Eprint + AllocGlobal>(
+    rt: &R,
+    refusal: &Refusal,
+    task: &Task,
+    said: &Said,
+) -> io::Result<()> {
     match refusal {
         Refusal::Line(_) => Ok(()),
         Refusal::List(fault) => {
             name_list(rt, task)?;
+            say_why(rt, fault, task, said)?;
             name_page(rt, fault)
         }
         Refusal::Program(fault) => {
             name_input(rt, fault, task)?;
+            say_why(rt, fault, task, said)?;
             name_page(rt, fault)
         }
     }
@@ -118,13 +162,18 @@ fn say_more<R: Eprint + AllocGlobal>(rt: &R, refusal: &Refusal, task: &Task) -> 
 
 /// Prints why a command was refused, and more where the arguments ask for it. Returns the exit
 /// status.
-pub fn refuse<R: Print + Eprint + AllocGlobal>(rt: &R, refusal: &Refusal, line: &Line) -> ExitCode {
+pub fn refuse<R: Print + Eprint + AllocGlobal>(
+    rt: &R,
+    refusal: &Refusal,
+    line: &Line,
+    said: &Said,
+) -> ExitCode {
     let status = match refusal {
         Refusal::Line(fault) => refuse_line(rt, fault),
         Refusal::List(fault) | Refusal::Program(fault) => print_fault(rt, fault),
     };
     if line.is_verbose {
-        let _ = say_more(rt, refusal, &line.task);
+        let _ = say_more(rt, refusal, &line.task, said);
     }
     status
 }

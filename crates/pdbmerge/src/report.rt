@@ -3,12 +3,12 @@
 use crate::same::FileId;
 use byte_io::{Out, put_all};
 use command_line::Merging;
-use program_files::ProgramFault;
-use std::io::writer;
+use program_files::{Place, ProgramFault, Said, Telling};
+use std::io::{Printer, writer};
 use std::rt::{Files, HostRuntime};
 
-/// More bytes than a report has: three lines with a word and a number each.
-pub const REPORT_LENGTH: usize = 64;
+/// More bytes than a report has: four lines with a word and a number each.
+pub const REPORT_LENGTH: usize = 96;
 
 /// Which of the standard streams are OUT or MAP. Nothing but the new file goes into those.
 #[derive(Clone, Copy)]
@@ -17,6 +17,8 @@ pub struct TakenStreams {
     pub output: bool,
     /// Standard error is OUT or MAP.
     pub error: bool,
+    /// One of them is OUT.
+    pub is_out: bool,
 }
 
 impl TakenStreams {
@@ -27,25 +29,44 @@ impl TakenStreams {
             FileId::of(rt, "/proc/self/fd/1"),
             FileId::of(rt, "/proc/self/fd/2"),
         );
+        let (is_output, is_error) = (
+            output.is(rt, task.out.as_str()),
+            error.is(rt, task.out.as_str()),
+        );
         let out = TakenStreams {
-            output: output.is(rt, task.out.as_str()),
-            error: error.is(rt, task.out.as_str()),
+            output: is_output,
+            error: is_error,
+            is_out: is_output || is_error,
         };
         match &task.map {
             None => out,
             Some(map) => TakenStreams {
                 output: out.output || output.is(rt, map.as_str()),
                 error: out.error || error.is(rt, map.as_str()),
+                is_out: out.is_out,
             },
         }
     }
 }
 
+/// Standard output, as what takes a text. What the system says of it goes to `said`.
+pub fn standard_output<'a>(
+    rt: &'a HostRuntime,
+    said: &'a Said,
+) -> Out<Telling<'a, Printer<'a, HostRuntime>>> {
+    Out::new(Telling::new(writer(rt), Place::StandardOutput, said))
+}
+
 /// Prints a report to the first of standard output and standard error that is neither OUT nor MAP. If
 /// both are, there is no report.
-pub fn print(rt: &HostRuntime, report: &[u8], taken: TakenStreams) -> Result<(), ProgramFault> {
+pub fn print(
+    rt: &HostRuntime,
+    report: &[u8],
+    taken: TakenStreams,
+    said: &Said,
+) -> Result<(), ProgramFault> {
     if !taken.output {
-        put_all(&mut Out::new(writer(rt)), report)?;
+        put_all(&mut standard_output(rt, said), report)?;
     } else if !taken.error {
         put_all(&mut Out::new(rt.stderr()), report)?;
     }

@@ -4,6 +4,7 @@ ghost use Rattle.std.specs.Prelude.{◌≡◌, ◌↔◌, ◌<◌, ◌≤◌, Is
 ghost use Rattle.std.specs.Io.KnownBytes.{Consumes, IsAtEnd};
 ghost use Rattle.program_files.specs.Files.{GivesIfOpened, IsOpeningFault, IsUnopened, IsWithin};
 
+use crate::said::{Place, Said, Telling};
 use byte_io::{In, InputFault, ReadAt, ReadFault, Seeking, Source};
 use std::fs::OpenFile;
 use std::rt::Files;
@@ -26,18 +27,30 @@ fn regular_length<F: OpenFile>(file: &F) -> Option<u64> {
     }
 }
 
+/// Opens a file to read it. What the system says of it goes to `said`.
+fn open_telling<'a, R: Files>(rt: &R, path: &str, said: &'a Said) -> Option<Telling<'a, R::File>> {
+    match fs::open(rt, path) {
+        Ok(file) => Some(Telling::new(file, Place::Input, said)),
+        Err(error) => {
+            said.keep(Place::Input, &error);
+            None
+        }
+    }
+}
+
 /// Opens a file to read it, and tells the length of a regular file. `Open` where it cannot be
 /// opened, and `TooLong` where the system says that it has more than `limit` bytes; nothing is read
 /// or reserved then.
-pub fn open_told<R: Files>(
+pub fn open_told<'a, R: Files>(
     rt: &R,
     path: &str,
     limit: u32,
-) -> Result<(R::File, Option<u64>), InputFault>
+    said: &'a Said,
+) -> Result<(Telling<'a, R::File>, Option<u64>), InputFault>
     ensures length { IfOk result (λ opened. IfSome opened.1 (λ told. told ≤ limit)) }
     ensures fault { IfErr result IsOpeningFault }
 {
-    let file = fs::open(rt, path).map_err(|_| InputFault::Open)?;
+    let file = open_telling(rt, path, said).ok_or(InputFault::Open)?;
     let length = regular_length(&file);
     if u64::from(limit) < length.unwrap_or(0) {
         return Err(InputFault::Read(ReadFault::TooLong));
@@ -46,12 +59,17 @@ pub fn open_told<R: Files>(
 }
 
 /// Opens a file to read it as far as that is needed. The faults are those of [`open_told`].
-pub fn open_within<R: Files>(rt: &R, path: &str, limit: u32) -> Result<Reading<R::File>, InputFault>
+pub fn open_within<'a, R: Files>(
+    rt: &R,
+    path: &str,
+    limit: u32,
+    said: &'a Said,
+) -> Result<Reading<Telling<'a, R::File>>, InputFault>
     ensures within { IfOk result
-        (IsWithin (λ file. (⟦<Seeking<R::File> as ReadAt>⟧.bytes file).told) limit) }
+        (IsWithin (λ file. (⟦<Seeking<Telling<'a, R::File>> as ReadAt>⟧.bytes file).told) limit) }
     ensures fault { IfErr result IsOpeningFault }
 {
-    match open_told(rt, path, limit)? {
+    match open_told(rt, path, limit, said)? {
         (file, Some(length)) if 0 < length => Ok(Reading::At(Seeking::new(file, length))),
         (file, _) => Ok(Reading::Whole(file)),
     }
@@ -70,7 +88,8 @@ enum State<F> {
 pub struct WholeFile<'a, R: Files> {
     rt: &'a R,
     path: &'a str,
-    state: State<R::File>,
+    said: &'a Said,
+    state: State<Telling<'a, R::File>>,
     broken: bool,
 }
 
@@ -83,13 +102,15 @@ impl<R: Files> fmt::Debug for WholeFile<'_, R> {
 }
 
 impl<'a, R: Files> WholeFile<'a, R> {
-    /// The file at this path. It is not opened yet. The source is not broken.
-    pub fn new(rt: &'a R, path: &'a str) -> WholeFile<'a, R>
+    /// The file at this path. It is not opened yet. The source is not broken. What the system says of
+    /// the file goes to `said`.
+    pub fn new(rt: &'a R, path: &'a str, said: &'a Said) -> WholeFile<'a, R>
         ensures { ⟦<WholeFile<'a, R> as Source>⟧.is_broken result ≡ false }
     {
         WholeFile {
             rt,
             path,
+            said,
             state: State::Closed,
             broken: false,
         }
@@ -108,9 +129,9 @@ impl<'a, R: Files> WholeFile<'a, R> {
             ≡ ⟦<WholeFile<'a, R> as Source>⟧.is_broken self.old }
     {
         if let State::Closed = &self.state {
-            self.state = match fs::open(self.rt, self.path) {
-                Ok(file) => State::Opened(In::new(file)),
-                Err(_) => State::Refused,
+            self.state = match open_telling(self.rt, self.path, self.said) {
+                Some(file) => State::Opened(In::new(file)),
+                None => State::Refused,
             };
         }
     }

@@ -4,6 +4,7 @@ ghost use Rattle.std.specs.Prelude.{◌≡◌, None, Some, length, map, slice_ge
 
 use crate::files::{Reading, open_told, open_within};
 use crate::progress::Progress;
+use crate::said::{Said, Telling};
 use byte_io::{In, InputFault, Inputs, Opened, ReadFault, Seeking, read_into, skip_all};
 use std::alloc::Allocator;
 use std::fmt;
@@ -18,6 +19,7 @@ pub struct InputFiles<'a, R: Files> {
     names: &'a [String],
     max_bytes: u32,
     progress: Option<Progress<'a, R>>,
+    said: &'a Said,
 }
 
 impl<R: Files> fmt::Debug for InputFiles<'_, R> {
@@ -31,13 +33,14 @@ impl<R: Files> fmt::Debug for InputFiles<'_, R> {
 
 impl<'a, R: Files + AllocGlobal> InputFiles<'a, R> {
     /// The files with these names. None of them is opened yet. A file with more than `max_bytes`
-    /// bytes is too long, and so is one whose directory or stream of types has more. `progress` tells how many of
-    /// them were read.
+    /// bytes is too long, and so is one whose directory or stream of types has more. `progress` tells
+    /// how many of them were read, and what the system says of them goes to `said`.
     pub fn new(
         rt: &'a R,
         names: &'a [String],
         max_bytes: u32,
         progress: Option<Progress<'a, R>>,
+        said: &'a Said,
     ) -> InputFiles<'a, R>
         ensures names { result.names.now ≡ names.now }
         ensures limit { result.max_bytes ≡ max_bytes }
@@ -47,6 +50,7 @@ impl<'a, R: Files + AllocGlobal> InputFiles<'a, R> {
             names,
             max_bytes,
             progress,
+            said,
         }
     }
 
@@ -70,7 +74,7 @@ impl<'a, R: Files + AllocGlobal> InputFiles<'a, R> {
     /// Reads a file that is open to its end. `length` is what the system says that the file has.
     fn read_whole<'b, A: Allocator>(
         &self,
-        file: R::File,
+        file: Telling<'a, R::File>,
         length: Option<u64>,
         buffer: &'b mut Vec<u8, A>,
     ) -> Result<&'b [u8], InputFault> {
@@ -86,10 +90,10 @@ impl<'a, R: Files + AllocGlobal> InputFiles<'a, R> {
     }
 }
 
-impl<R: Files + AllocGlobal + Clock + Eprint> Inputs for InputFiles<'_, R> {
+impl<'f, R: Files + AllocGlobal + Clock + Eprint> Inputs for InputFiles<'f, R> {
     ghost known = { λ _. None };
 
-    type File = Seeking<R::File>;
+    type File = Seeking<Telling<'f, R::File>>;
 
     fn count(&self) -> usize
         ensures { result ≡ length self.now.names.now }
@@ -108,7 +112,7 @@ impl<R: Files + AllocGlobal + Clock + Eprint> Inputs for InputFiles<'_, R> {
         input: usize,
         buffer: &'b mut Vec<u8, A>,
     ) -> Result<&'b [u8], InputFault> {
-        let (file, length) = open_told(self.rt, self.path(input)?, self.max_bytes)?;
+        let (file, length) = open_told(self.rt, self.path(input)?, self.max_bytes, self.said)?;
         self.read_whole(file, length, buffer)
     }
 
@@ -116,18 +120,18 @@ impl<R: Files + AllocGlobal + Clock + Eprint> Inputs for InputFiles<'_, R> {
         &'b self,
         input: usize,
         buffer: &'b mut Vec<u8, A>,
-    ) -> Result<Opened<'b, Seeking<R::File>>, InputFault> {
+    ) -> Result<Opened<'b, Seeking<Telling<'f, R::File>>>, InputFault> {
         if let Some(progress) = &self.progress {
             progress.tell(input);
         }
-        match open_within(self.rt, self.path(input)?, self.max_bytes)? {
+        match open_within(self.rt, self.path(input)?, self.max_bytes, self.said)? {
             Reading::At(file) => Ok(Opened::At(file)),
             Reading::Whole(file) => Ok(Opened::Whole(self.read_whole(file, None, buffer)?)),
         }
     }
 
     fn check(&self, input: usize) -> Result<(), InputFault> {
-        match open_within(self.rt, self.path(input)?, self.max_bytes)? {
+        match open_within(self.rt, self.path(input)?, self.max_bytes, self.said)? {
             // Its types are not needed, so nothing of it is read.
             Reading::At(_) => Ok(()),
             Reading::Whole(file) => {

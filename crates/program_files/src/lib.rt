@@ -4,7 +4,8 @@
 //!   at its first read.
 //! - [`InputFiles`] are the inputs of a merge, one of which is open at a time. [`Progress`] tells how
 //!   many of them were read.
-//! - [`NewFile`] is a file that is created at its first write.
+//! - [`NewFile`] is a file that is created at its first write, in the way that [`Making`] says.
+//! - [`Said`] keeps what the system said when it refused a call, and [`Telling`] is a file that tells it.
 //! - [`ProgramFault`] says why the program did not do what it was asked for, and [`MapFault`] why it
 //!   did not write the maps of a merge.
 //!
@@ -20,7 +21,8 @@
 //!
 //! ```
 //! fn a_file_that_is_not_there(rt: HostRuntime) {
-//!     let opened = open_within(&rt, "no/such/file.pdb", u32::MAX);
+//!     let said = Said::new();
+//!     let opened = open_within(&rt, "no/such/file.pdb", u32::MAX, &said);
 //!     assert!(rt; matches!(opened, Err(InputFault::Open)));
 //! }
 //! ```
@@ -31,9 +33,12 @@ mod files;
 mod inputs;
 mod output;
 mod progress;
+mod said;
+mod spare;
 
 pub use fault::{MapFault, ProgramFault};
 pub use files::{Reading, WholeFile, open_within};
 pub use inputs::InputFiles;
-pub use output::NewFile;
+pub use output::{Making, NewFile};
 pub use progress::Progress;
+pub use said::{Place, Said, Telling};

@@ -1,13 +1,31 @@
 //! The file that the program writes.
 
-ghost use Rattle.std.specs.Prelude.{◌≡◌, ◌↔◌, ◌<◌, ◌≤◌, IsTrue, IfErr, length, take, true, false};
+ghost use Rattle.std.specs.Prelude.{◌≡◌, ◌↔◌, ◌<◌, ◌≤◌, ◌⊎◌, IsTrue, IfErr, length, take, true, false};
 ghost use Rattle.std.specs.Io.KnownBytes.{Appends, Keeps};
+ghost use Rattle.pdb_commands.specs.declared.fault.RunFault.TheVariants.{Memory};
+ghost use Rattle.program_files.specs.declared.fault.ProgramFault.TheVariants.{Run, Create};
 ghost use Rattle.program_files.specs.Output.{IsCreated, IsUncreated, TakesIfCreated, taken_of};
 
+use crate::fault::ProgramFault;
+use crate::said::{Place, Said, Telling};
+use crate::spare::Spare;
 use byte_io::{NotTaken, Out, Sink};
-use std::fs::OpenFile;
+use pdb_commands::RunFault;
+use std::fs::{File, OpenFile};
+use std::io::{self, ErrorKind};
 use std::rt::Files;
 use std::{fmt, fs};
+
+/// How a file is made that may be there already.
+#[derive(Clone, Copy, Debug, PartialEq, Eq)]
+pub enum Making {
+    /// What is there is written over.
+    Overwrite,
+    /// Nothing may be there.
+    New,
+    /// It is written under a name of its own in the same folder, and takes its place at the end.
+    Replace,
+}
 
 /// Waits until the system has stored a regular file. Pipes and devices have nothing to store.
 fn store<F: OpenFile>(file: &F) -> Result<(), NotTaken> {
@@ -33,7 +51,13 @@ enum State<F> {
 pub struct NewFile<'a, R: Files> {
     rt: &'a R,
     path: &'a str,
-    state: State<R::File>,
+    making: Making,
+    place: Place,
+    said: &'a Said,
+    state: State<Telling<'a, R::File>>,
+    /// The name that the file has until it takes its place.
+    spare: Option<Spare>,
+    lacks_memory: bool,
     broken: bool,
 }
 
@@ -41,19 +65,32 @@ impl<R: Files> fmt::Debug for NewFile<'_, R> {
     fn fmt<W: fmt::Write>(&self, f: &mut fmt::Formatter<W>) -> fmt::Result {
         f.debug_struct("NewFile")
             .field("path", &self.path)
+            .field("making", &self.making)
             .finish_non_exhaustive()
     }
 }
 
-impl<'a, R: Files> NewFile<'a, R> {
-    /// The file at this path. Nothing is done at the path yet. The sink is not broken.
-    pub fn new(rt: &'a R, path: &'a str) -> NewFile<'a, R>
+impl<'a, R: Files + AllocGlobal> NewFile<'a, R> {
+    /// The file at this path. Nothing is done at the path yet. The sink is not broken. What the system
+    /// says of the file goes to `said`.
+    pub fn new(
+        rt: &'a R,
+        path: &'a str,
+        making: Making,
+        place: Place,
+        said: &'a Said,
+    ) -> NewFile<'a, R>
         ensures { ⟦<NewFile<'a, R> as Sink>⟧.is_broken result ≡ false }
     {
         NewFile {
             rt,
             path,
+            making,
+            place,
+            said,
             state: State::Absent,
+            spare: None,
+            lacks_memory: false,
             broken: false,
         }
     }
@@ -63,6 +100,17 @@ impl<'a, R: Files> NewFile<'a, R> {
         ensures { IsTrue result ↔ IsUncreated self.now.state }
     {
         matches!(&self.state, State::Refused)
+    }
+
+    /// Why the file could not be created.
+    pub fn refusal(&self) -> ProgramFault
+        ensures { (result ≡ Run Memory) ⊎ (result ≡ Create) }
+    {
+        if self.lacks_memory {
+            ProgramFault::Run(RunFault::Memory)
+        } else {
+            ProgramFault::Create
+        }
     }
 
     /// Waits until the system has stored the file. `NotTaken` where the system could not store it:
@@ -76,6 +124,45 @@ impl<'a, R: Files> NewFile<'a, R> {
         }
     }
 
+    /// Gives the file its path, if it has another name so far. `Create` where the system refuses that;
+    /// nothing is left of the file then, and what was at the path is as it was.
+    pub fn take_place(&mut self) -> Result<(), ProgramFault>
+        ensures { IfErr result (λ fault. fault ≡ Create) }
+    {
+        let Some(spare) = self.spare.take() else {
+            return Ok(());
+        };
+        if let Err(error) = spare.take_place(self.rt) {
+            self.said.keep(self.place, &error);
+            spare.remove(self.rt);
+            return Err(ProgramFault::Create);
+        }
+        Ok(())
+    }
+
+    /// Removes the file, if it has another name so far.
+    pub fn abandon(&mut self) {
+        if let Some(spare) = self.spare.take() {
+            spare.remove(self.rt);
+        }
+    }
+
+    /// Opens the file to be written, as it is to be made.
+    fn open(&mut self) -> io::Result<R::File>
+        ensures broken { self.new.broken ≡ self.old.broken }
+        ensures state { self.new.state ≡ self.old.state }
+    {
+        match self.making {
+            Making::Overwrite => fs::create(self.rt, self.path),
+            Making::New => File::create_new(self.rt, self.path),
+            Making::Replace => {
+                let (spare, file) = Spare::create(self.rt, self.path)?;
+                self.spare = Some(spare);
+                Ok(file)
+            }
+        }
+    }
+
     /// Creates the file, unless that was tried before. What a created file took stays.
     pub fn create(&mut self)
         ensures same { ⟦<NewFile<'a, R> as Sink>⟧.is_broken self.new
@@ -84,23 +171,29 @@ impl<'a, R: Files> NewFile<'a, R> {
             (⟦<NewFile<'a, R> as Sink>⟧.taken self.new) }
     {
         if let State::Absent = &self.state {
-            self.state = match fs::create(self.rt, self.path) {
-                Ok(file) => State::Created(Out::new(file)),
-                Err(_) => State::Refused,
+            self.state = match self.open() {
+                Ok(file) => { State::Created(Out::new(Telling::new(file, self.place, self.said))) }
+                Err(error) => {
+                    self.said.keep(self.place, &error);
+                    self.lacks_memory = error.kind() == ErrorKind::OutOfMemory;
+                    State::Refused
+                }
             };
         }
     }
 }
 
-impl<R: Files> Sink for NewFile<'_, R> {
-    ghost taken = { λ s. taken_of ⟦<Out<R::File> as Sink>⟧.taken s.state };
+impl<'a, R: Files + AllocGlobal> Sink for NewFile<'a, R> {
+    ghost taken = { λ s. taken_of ⟦<Out<Telling<'a, R::File>> as Sink>⟧.taken s.state };
 
     ghost is_broken = { λ s. s.broken };
 
     fn put(&mut self, bytes: &[u8]) -> usize
         ensures bound { result ≤ length bytes.now }
-        ensures takes { Appends (taken_of ⟦<Out<R::File> as Sink>⟧.taken self.old.state)
-            (taken_of ⟦<Out<R::File> as Sink>⟧.taken self.new.state) (take result bytes.now) }
+        ensures takes { Appends
+            (taken_of ⟦<Out<Telling<'a, R::File>> as Sink>⟧.taken self.old.state)
+            (taken_of ⟦<Out<Telling<'a, R::File>> as Sink>⟧.taken self.new.state)
+            (take result bytes.now) }
         ensures refuses { 0 < length bytes.now → result ≡ 0 → self.new.broken ≡ true }
         ensures whole { 0 < result → self.new.broken ≡ self.old.broken }
         ensures stays { self.old.broken ≡ true → self.new.broken ≡ true }

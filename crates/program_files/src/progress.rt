@@ -53,4 +53,9 @@ impl<'a, R: Clock + Eprint> Progress<'a, R> {
         self.told.set(Some(now));
         let _ = eprintln!(self.rt; "read {read} of {}", self.count);
     }
+
+    /// Tells that all inputs were read.
+    pub fn end(&self) {
+        let _ = eprintln!(self.rt; "read {} of {}", self.count, self.count);
+    }
 }

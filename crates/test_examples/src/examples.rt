@@ -21,7 +21,7 @@ use packed_texts::PackedTexts;
 use pdb_commands::run_check;
 use pdb_info::{Info, Settings, guid_of};
 use pdb_merge::merge_to;
-use program_files::open_within;
+use program_files::{Said, open_within};
 use record_set::RecordSet;
 use std::alloc::{AllocError, Allocator, Global};
 use std::hash::BuildHasher;
@@ -396,6 +396,7 @@ fn the_paths_of_a_list(rt: HostRuntime) -> Result<(), Fail> {
 /// `program_files` opens the files that the program reads.
 #[test]
 fn a_file_that_is_not_there(rt: HostRuntime) {
-    let opened = open_within(&rt, "no/such/file.pdb", u32::MAX);
+    let said = Said::new();
+    let opened = open_within(&rt, "no/such/file.pdb", u32::MAX, &said);
     assert!(rt; matches!(opened, Err(InputFault::Open)));
 }

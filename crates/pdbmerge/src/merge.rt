@@ -1,0 +1,255 @@
+//! The command `merge`: its files, its report and its exit status.
+
+use crate::map::{put_map, refuse_taken, write_map_file};
+use crate::refusal::quoted;
+use crate::report::{REPORT_LENGTH, TakenStreams, print};
+use byte_io::Out;
+use command_line::Merging;
+use pdb_commands::{
+    GuidChoice, RunFault, SiftedFile, merge_accepted, report_accepted, run_merge_by_types,
+    run_merge_with,
+};
+use pdb_merge::{KeepMaps, LeftOut, NoMaps, TypeMaps};
+use program_files::{InputFiles, Making, NewFile, Place, ProgramFault, Progress, Said};
+use std::hash::{BuildHasher, BuildHasherDefault, DefaultHasher, RandomState};
+use std::io::{Error, ErrorKind};
+use std::process::ExitCode;
+use std::rt::HostRuntime;
+
+/// The exit status where inputs were left out.
+const LEFT_OUT: u8 = 4;
+
+/// What a merge is asked for, and what all of its steps need.
+#[derive(Clone, Copy)]
+struct Job<'a> {
+    rt: &'a HostRuntime,
+    task: &'a Merging,
+    taken: TakenStreams,
+    said: &'a Said,
+    is_verbose: bool,
+}
+
+/// Files that were written, but have not taken their places yet, and what is said of them.
+#[derive(Drop)]
+struct Written<'a> {
+    out: NewFile<'a, HostRuntime>,
+    map: Option<NewFile<'a, HostRuntime>>,
+    report: Vec<u8>,
+    left_out: Vec<LeftOut>,
+}
+
+/// What a merge gives beside its file.
+#[derive(Drop)]
+struct Beside<K: Drop> {
+    maps: K,
+    left_out: Vec<LeftOut>,
+}
+
+/// The inputs of a merge, with what tells how many of them were read. It tells that on standard
+/// error, so it tells nothing where that is OUT or MAP.
+fn inputs_of<'a>(job: &Job<'a>) -> InputFiles<'a, HostRuntime> {
+    let task = job.task;
+    let progress = if task.shows_progress && !job.taken.error {
+        Some(Progress::new(job.rt, task.inputs.len()))
+    } else {
+        None
+    };
+    InputFiles::new(job.rt, &task.inputs, task.max_bytes, progress, job.said)
+}
+
+/// Merges those inputs that are accepted into a new file, and reports on it.
+fn merge_some<S: BuildHasher + Drop, K: KeepMaps + Drop>(
+    job: &Job<'_>,
+    out: &mut NewFile<'_, HostRuntime>,
+    report: &mut Vec<u8>,
+    hasher: S,
+    maps: K,
+) -> Result<Beside<K>, RunFault> {
+    let (alloc, task) = (job.rt.alloc(), job.task);
+    let inputs = inputs_of(job);
+    let done = merge_accepted(
+        alloc,
+        inputs,
+        &task.settings,
+        task.naming,
+        out,
+        hasher,
+        maps,
+    )?;
+    let SiftedFile {
+        summary,
+        maps,
+        left_out,
+    } = done;
+    let refused = u32::try_from(left_out.len()).unwrap_or(u32::MAX);
+    report_accepted(alloc, &summary, refused, &mut Out::new(report))?;
+    Ok(Beside { maps, left_out })
+}
+
+/// Merges all inputs into a new file, and reports on it.
+fn merge_all<S: BuildHasher + Drop, K: KeepMaps + Drop>(
+    job: &Job<'_>,
+    out: &mut NewFile<'_, HostRuntime>,
+    report: &mut Vec<u8>,
+    hasher: S,
+    maps: K,
+) -> Result<Beside<K>, RunFault> {
+    let (alloc, settings) = (job.rt.alloc(), &job.task.settings);
+    let (inputs, mut report) = (inputs_of(job), Out::new(report));
+    let maps = match job.task.naming {
+        GuidChoice::Given => {
+            run_merge_with(alloc, inputs, settings, out, &mut report, hasher, maps)?
+        }
+        GuidChoice::ByTypes => {
+            run_merge_by_types(alloc, inputs, settings, out, &mut report, hasher, maps)?
+        }
+    };
+    Ok(Beside {
+        maps,
+        left_out: Vec::new(alloc),
+    })
+}
+
+/// Merges inputs into a new file, which is stored then.
+fn merge_into<S: BuildHasher + Drop, K: KeepMaps + Drop>(
+    job: &Job<'_>,
+    out: &mut NewFile<'_, HostRuntime>,
+    report: &mut Vec<u8>,
+    hasher: S,
+    maps: K,
+) -> Result<Beside<K>, ProgramFault> {
+    let merged = if job.task.skips_refused {
+        merge_some(job, out, report, hasher, maps)
+    } else {
+        merge_all(job, out, report, hasher, maps)
+    };
+    if out.is_refused() {
+        return Err(out.refusal());
+    }
+    let beside = merged?;
+    out.store()?;
+    Ok(beside)
+}
+
+/// Merges inputs into a new file, and then writes the maps of the inputs where they are asked for.
+fn write_files<'a, S: BuildHasher + Drop>(
+    job: &Job<'a>,
+    out: &mut NewFile<'a, HostRuntime>,
+    report: &mut Vec<u8>,
+    hasher: S,
+) -> Result<(Vec<LeftOut>, Option<NewFile<'a, HostRuntime>>), ProgramFault> {
+    let (rt, task) = (job.rt, job.task);
+    let Some(path) = &task.map else {
+        let done = merge_into(job, out, report, hasher, NoMaps)?;
+        return Ok((done.left_out, None));
+    };
+    let done = merge_into(job, out, report, hasher, TypeMaps::new(rt.alloc()))?;
+    let (out, map) = (task.out.as_str(), path.as_str());
+    let file = write_map_file(rt, out, map, task.making, &done.maps, job.said)?;
+    Ok((done.left_out, Some(file)))
+}
+
+/// Merges as [`write_files`] does. After a refusal nothing is left of files that have not taken their
+/// places.
+fn write<'a, S: BuildHasher + Drop>(job: &Job<'a>, hasher: S) -> Result<Written<'a>, ProgramFault> {
+    let (rt, task) = (job.rt, job.task);
+    let mut out = NewFile::new(rt, task.out.as_str(), task.making, Place::Out, job.said);
+    let mut report = Vec::with_capacity(rt.alloc(), REPORT_LENGTH)?;
+    match write_files(job, &mut out, &mut report, hasher) {
+        Ok((left_out, map)) => Ok(Written {
+            out,
+            map,
+            report,
+            left_out,
+        }),
+        Err(fault) => {
+            out.abandon();
+            Err(fault)
+        }
+    }
+}
+
+/// Tells which inputs were left out, each with its fault, and where the arguments ask for more, also its
+/// path. Where a line cannot be printed, only the report and the exit status are left.
+fn tell_left_out(job: &Job<'_>, left_out: &[LeftOut]) {
+    if job.taken.error {
+        return;
+    }
+    for one in left_out {
+        let _ = eprintln!(job.rt; "{one}");
+        if job.is_verbose {
+            if let Some(path) = job.task.inputs.get(one.file) {
+                if let Ok(path) = quoted(job.rt, path.as_str()) {
+                    let _ = eprintln!(job.rt; "file {} is {path}", one.file);
+                }
+            }
+        }
+    }
+}
+
+/// Prints what is said of a merge, and then puts its files in their places.
+fn finish(job: &Job<'_>, written: &mut Written<'_>) -> Result<(), ProgramFault> {
+    if job.task.shows_progress && !job.taken.error {
+        Progress::new(job.rt, job.task.inputs.len()).end();
+    }
+    tell_left_out(job, &written.left_out);
+    print(job.rt, &written.report, job.taken, job.said)?;
+    if let Some(map) = &mut written.map {
+        put_map(job.rt, map, job.task)?;
+    }
+    written.out.take_place()
+}
+
+/// Merges, and prints what is said of it. Returns the exit status.
+fn merge_with<S: BuildHasher + Drop>(job: &Job<'_>, hasher: S) -> Result<ExitCode, ProgramFault> {
+    let mut written = write(job, hasher)?;
+    match finish(job, &mut written) {
+        Ok(()) if written.left_out.is_empty() => Ok(ExitCode::SUCCESS),
+        Ok(()) => Ok(ExitCode::from(LEFT_OUT)),
+        Err(fault) => {
+            written.out.abandon();
+            if let Some(map) = &mut written.map {
+                map.abandon();
+            }
+            // The line of a refusal would be written into OUT or MAP, which are whole.
+            if job.taken.error {
+                Ok(ExitCode::FAILURE)
+            } else {
+                Err(fault)
+            }
+        }
+    }
+}
+
+/// Merges files into a new one, and prints the report on it. Returns the exit status.
+///
+/// The hashes are such that nobody can predict them, where the system gives random numbers. Where it
+/// gives none, the key is fixed, and records that share a hash have to be searched for.
+pub fn merge(
+    rt: &HostRuntime,
+    task: &Merging,
+    said: &Said,
+    is_verbose: bool,
+) -> Result<ExitCode, ProgramFault> {
+    refuse_taken(rt, task)?;
+    let taken = TakenStreams::of(rt, task);
+    // Nothing can take the place of a stream.
+    if task.making == Making::Replace && taken.is_out {
+        said.keep(Place::Out, &Error::from(ErrorKind::Unsupported));
+        return Err(ProgramFault::Create);
+    }
+    let job = Job {
+        rt,
+        task,
+        taken,
+        said,
+        is_verbose,
+    };
+    match RandomState::new(rt) {
+        Ok(hasher) => merge_with(&job, hasher),
+        Err(_) => {
+            let hasher: BuildHasherDefault<DefaultHasher> = BuildHasherDefault::new();
+            merge_with(&job, hasher)
+        }
+    }
+}
