@@ -33,7 +33,7 @@ extern "C" {
 #endif
 
 /* The version of this header: major, minor and patch, a byte each. */
-#define PDBMERGE_VERSION 0x000100
+#define PDBMERGE_VERSION 0x000200
 
 /* What a call returns. */
 enum {
@@ -42,7 +42,7 @@ enum {
     PDBMERGE_TOO_LARGE = 32, /* the types have more bytes together than the limit */
     PDBMERGE_MEMORY = 33,    /* malloc or realloc returned NULL */
     PDBMERGE_ROOM = 100,     /* there is too little room; the call says how much it takes */
-    PDBMERGE_SETTINGS = 101  /* the limit or the block size is none that a file can have */
+    PDBMERGE_SETTINGS = 101  /* the limit or the block size is none that a file can have; `text` says which */
 };
 
 /* The input of a fault that names none. */
@@ -155,6 +155,24 @@ uint32_t pdbmerge_merge_map(const pdbmerge_slice *files, size_t count,
                             uint32_t *counts, size_t count_room,
                             pdbmerge_report *report, uint64_t *total, pdbmerge_fault *fault);
 
+/* Merges as pdbmerge_merge does, but the GUID of the file is made of its types, and that of the settings
+ * is not used: so files with the same types give the same file without a GUID to choose. The command
+ * `merge --guid types` does the same. Faults are those of pdbmerge_merge. */
+uint32_t pdbmerge_merge_by_types(const pdbmerge_slice *files, size_t count,
+                                 const pdbmerge_settings *settings, uint8_t *out, size_t room,
+                                 pdbmerge_report *report, pdbmerge_fault *fault);
+
+/* A GUID. */
+typedef struct pdbmerge_guid {
+    uint8_t bytes[16]; /* in the order in which it is printed */
+} pdbmerge_guid;
+
+/* Makes the GUID of the types of all `count` files: that of the file that pdbmerge_merge_by_types writes.
+ * The same types give the same GUID. No file is written. Faults, in order: those of pdbmerge_check and 32,
+ * of the first file that has one; 33. */
+uint32_t pdbmerge_guid_of_types(const pdbmerge_slice *files, size_t count, const pdbmerge_seed *seed,
+                                pdbmerge_guid *guid, pdbmerge_fault *fault);
+
 /* Copies a stream of a file, by its number from 0, to the front of `out`. Stream 2 holds the type
  * records. `size` is how many bytes the stream has, also after PDBMERGE_ROOM.
  * Faults, in order: 1 to 10, 11; 33; 100. */
@@ -186,9 +204,9 @@ uint32_t pdbmerge_features(const uint8_t *stream, size_t length,
 uint32_t pdbmerge_records(const uint8_t *stream, size_t length,
                           uint64_t *offsets, size_t room, uint64_t *count, pdbmerge_fault *fault);
 
-/* Finds where the record with this type index begins: its offset in the bytes of stream 2. This takes
- * as long as pdbmerge_records, which finds all of them at once.
- * Faults, in order: 16 to 24; 33; 39, where no record has the index. */
+/* Finds where the record with this type index begins: its offset in the bytes of stream 2. All records are
+ * framed, since a fault of any of them comes first, but none is listed: this allocates four bytes for every
+ * 16 records. Faults, in order: 16 to 24; 33; 39, where no record has the index. */
 uint32_t pdbmerge_record(const uint8_t *stream, size_t length, uint32_t index,
                          uint64_t *offset, pdbmerge_fault *fault);
 
@@ -205,6 +223,18 @@ typedef struct pdbmerge_reference {
 uint32_t pdbmerge_references(const uint8_t *record, size_t length, uint32_t index,
                              pdbmerge_reference *references, size_t room,
                              uint64_t *count, pdbmerge_fault *fault);
+
+/* Lists the types that all records of stream 2 name, in one call: those of the first record, then those
+ * of the second, and so on, each record's in the order of their places. `room` is how many there is room
+ * for. `counts` has how many each record names, and 0 where it names none; `count_room` is how many
+ * counts there is room for. `total` is how many all records name, and `records` how many records there
+ * are: both are written after PDBMERGE_OK and after PDBMERGE_ROOM, which says that one of the two rooms
+ * is too little, and then neither is written to. Faults, in order: 16 to 24; 25 to 30, of the first record
+ * that has one; 33; 100. */
+uint32_t pdbmerge_all_references(const uint8_t *stream, size_t length,
+                                 pdbmerge_reference *references, size_t room,
+                                 uint32_t *counts, size_t count_room,
+                                 uint64_t *total, uint64_t *records, pdbmerge_fault *fault);
 
 /* Copies the name of the type that a record describes to the front of `out`, without a NUL. `size` is
  * how many bytes it has, also after PDBMERGE_ROOM, or PDBMERGE_NO_NAME where there is none, or none

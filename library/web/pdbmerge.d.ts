@@ -49,7 +49,8 @@ export interface Counts {
 
 /** What a merged file is to have. */
 export interface Settings {
-    /** With hyphens, without, in braces or as a URN; or its 16 bytes, in the order in which it is printed. */
+    /** With hyphens, without, in braces or as a URN; or its 16 bytes, in the order in which it is printed. 'types' is
+     * the one that is made of the types. */
     guid: string | Uint8Array;
     age: number;
     /** The most bytes that the type records may have together; 2 ** 30 where it is not given. */
@@ -84,6 +85,16 @@ export interface Reference {
     /** Where its type index stands: the offset in the record, behind its first four bytes. */
     place: number;
     index: number;
+}
+
+/** What all records of a file name, one record after the other. */
+export interface AllReferences {
+    /** The place of each reference. */
+    places: Uint32Array;
+    /** The type index of each. */
+    indices: Uint32Array;
+    /** Where what each record names ends. It begins where that of the one before ends. */
+    ends: Uint32Array;
 }
 
 /** A type that only one of two files has. */
@@ -146,7 +157,7 @@ export class Pdbmerge {
     private constructor();
     /** Makes the module of the bytes of pdbmerge.wasm, or of what WebAssembly.compile made of them. */
     static load(bytes: BufferSource | WebAssembly.Module): Promise<Pdbmerge>;
-    /** The version of the library, as 0.1.0. */
+    /** The version of the library, as 0.2.0. */
     readonly version: string;
     /** How many bytes the memory of the module has. It never becomes less: make a new module for less. */
     readonly memory: number;
@@ -163,6 +174,8 @@ export class Pdbmerge {
     merge(files: readonly Uint8Array[], settings: Settings): Merged;
     /** Merges as merge does, and tells where the type of each record went. */
     mergeWithMaps(files: readonly Uint8Array[], settings: Settings): MergedWithMaps;
+    /** The GUID that is made of the types of all files: those of check, 32, 33. */
+    guidOfTypes(files: readonly Uint8Array[]): string;
     /** A copy of a stream, by its number from 0. Stream 2 holds the type records. Refused: 1 to 11, 33. */
     stream(file: Uint8Array, number: number): Uint8Array;
     /** The streams that have a name: those of stream, 12 to 15. */
@@ -175,6 +188,8 @@ export class Pdbmerge {
     record(file: Uint8Array, index: number): Record;
     /** The types that a record names: 22, 23, 25 to 30, 33. The index is that of its own, for the text of a fault. */
     references(record: Uint8Array, index?: number): Reference[];
+    /** What all type records of a file name: those of records, 25 to 30. */
+    allReferences(file: Uint8Array): AllReferences;
     /** The name of the type that a record describes, or null: 22, 23. */
     name(record: Uint8Array, index?: number): Uint8Array | null;
     /** The names of the records that begin at these offsets of stream 2. Their type indices begin with 0x1000. */

@@ -11,6 +11,8 @@ const NONE = 2n ** 64n - 1n;
 const LARGEST = 2 ** 32 - 1;
 const FAULT_SIZE = 256, TEXT_SIZE = 235;
 const SETTINGS_SIZE = 44, SLICE_SIZE = 16, REFERENCE_SIZE = 8, DIFFERENCE_SIZE = 12;
+// What a GUID that is made of the types is called, and what stands for it until it is made.
+const BY_TYPES = 'types', NO_GUID = new Uint8Array(16);
 // A record has at most so many bytes; so has its name, and so have its references.
 const RECORD_ROOM = 1 << 17;
 // Room for a text at first, beside that of the files. Nearly all texts take less than both.
@@ -352,7 +354,8 @@ export class Pdbmerge {
   // Where the settings of a merge are.
   #settings(lent, { guid, age, limit = 2 ** 30, blockSize = 4096 }) {
     const at = lent.take(SETTINGS_SIZE), view = this.#view(at, SETTINGS_SIZE);
-    this.#bytes(at, 16).set(typeof guid === 'string' ? parseGuid(guid) : guid);
+    const given = guid === BY_TYPES ? NO_GUID : guid;
+    this.#bytes(at, 16).set(typeof given === 'string' ? parseGuid(given) : given);
     view.setUint32(16, asWord(age, 'age'), true);
     view.setUint32(20, asSetting(limit), true);
     view.setUint32(24, asSetting(blockSize), true);
@@ -382,15 +385,25 @@ export class Pdbmerge {
   }
 
   merge(files, settings) {
+    const name = settings.guid === BY_TYPES ? 'merge_by_types' : 'merge';
     return this.#lend(lent => {
       const given = [...this.#slices(lent, files), this.#settings(lent, settings)];
-      return this.#merged(lent, files, (at, room) => this.#call('merge', ...given, at, room, this.#result));
+      return this.#merged(lent, files, (at, room) => this.#call(name, ...given, at, room, this.#result));
     });
   }
 
-  mergeWithMaps(files, settings) {
+  guidOfTypes(files) {
     return this.#lend(lent => {
-      const given = [...this.#slices(lent, files), this.#settings(lent, settings)];
+      this.#call('guid_of_types', ...this.#slices(lent, files), this.#putSeed(lent.take(16)), this.#result);
+      return formatGuid(this.#bytes(this.#result, 16));
+    });
+  }
+
+  // Only a merge without maps makes the GUID.
+  mergeWithMaps(files, settings) {
+    const guid = settings.guid === BY_TYPES ? this.guidOfTypes(files) : settings.guid;
+    return this.#lend(lent => {
+      const given = [...this.#slices(lent, files), this.#settings(lent, { ...settings, guid })];
       const counts = lent.take(4 * files.length), total = lent.take(8);
       let items = Math.floor(sumOf(files) / 16), indices = lent.take(4 * items);
       const merged = this.#merged(lent, files, (at, room) => {
@@ -456,6 +469,23 @@ export class Pdbmerge {
     this.#call('references', ...this.#put(record, index), this.#room, room, this.#result);
     const [count] = this.#words(this.#result, 1), words = this.#words(this.#room, 2 * count);
     return Array.from({ length: count }, (_, at) => ({ place: words[2 * at], index: words[2 * at + 1] }));
+  }
+
+  // A first call tells how many there are.
+  allReferences(file) {
+    const stream = this.stream(file, TYPES);
+    return this.#lend(lent => {
+      const given = lent.copy(stream), numbers = [this.#result, lent.take(8)];
+      this.#call('all_references', ...given, 0n, 0n, 0n, 0n, ...numbers);
+      const [total, records] = numbers.map(at => Number(this.#view(at, 8).getBigUint64(0, true)));
+      const at = lent.take(REFERENCE_SIZE * total), counts = lent.take(4 * records);
+      this.#call('all_references', ...given, at, BigInt(total), counts, BigInt(records), ...numbers);
+      const words = new Uint32Array(this.#copied(at, REFERENCE_SIZE * total).buffer);
+      const every = first => Uint32Array.from({ length: total }, (_, at) => words[2 * at + first]);
+      let end = 0;
+      const ends = new Uint32Array(this.#copied(counts, 4 * records).buffer).map(count => end += count);
+      return { places: every(0), indices: every(1), ends };
+    });
   }
 
   name(record, index = FIRST) {

@@ -6,3 +6,4 @@ pub mod DiffLaws
 pub mod InfoLaws
 pub mod LayoutLaws
 pub mod MapLaws
+pub mod ReferenceLaws

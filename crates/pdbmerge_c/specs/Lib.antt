@@ -5,11 +5,13 @@ pub mod Container
 pub mod Check
 pub mod Merge
 pub mod MergeMap
+pub mod Guid
 pub mod Stream
 pub mod Info
 pub mod Records
 pub mod Record
 pub mod References
+pub mod AllReferences
 pub mod Name
 pub mod Pair
 pub mod Diff

@@ -7,7 +7,6 @@ use Rattle.msf_superblock.specs.BlockNumber.{IsBlockSize}
 use Rattle.pdb_info.specs.Settings.{SettingsView, limit_of_records, record_limit}
 use Rattle.pdb_merge.specs.Answer.{RefusesFiles}
 use Rattle.pdb_merge.specs.Fault.{merge_number, faulty_file}
-use Rattle.pdb_merge.specs.Merged.{IsFileOf}
 use Rattle.pdb_merge.specs.Union.{HasType, Weighs}
 use Rattle.pdb_merge.specs.declared.fault.MergeFault.{MergeFault}
 use Rattle.pdb_merge.specs.declared.fault.OutFault.{OutFault}
@@ -40,28 +39,32 @@ settings_of choices =
       block_size = choices.block_size;
     }
 
+-- what a file with some records is to some files and settings
+abbrev pub FileFor : Type 1
+FileFor = List (List ℕ) → SettingsView → List ℕ → List (List ℕ) → Type 0
+
 -- this is the file of the types of the files, and the report says how many types it has,
 -- how many bytes they have together, and how long it is
-pub record IsReported (files : List (Bor (List ℕ))) (choices : Choices) (report : Report)
-    (file : List ℕ) : Type 0 where
+pub record IsReported (IsFile : FileFor) (files : List (Bor (List ℕ))) (choices : Choices)
+    (report : Report) (file : List ℕ) : Type 0 where
   pub records : List (List ℕ)
-  pub is_file : IsFileOf (bytes_of_files files) (settings_of choices) file records
+  pub is_file : IsFile (bytes_of_files files) (settings_of choices) file records
   pub types : report.types ≡ length records
   pub bytes : Weighs (HasType (bytes_of_files files)) report.bytes
   pub long : report.length ≡ length file
 
 -- that file is at the front of `out`
-pub record Merges (files : List (Bor (List ℕ))) (choices : Choices) (report : Report)
-    (old new : List ℕ) : Type 0 where
+pub record Merges (IsFile : FileFor) (files : List (Bor (List ℕ))) (choices : Choices)
+    (report : Report) (old new : List ℕ) : Type 0 where
   pub file : List ℕ
-  pub is_reported : IsReported files choices report file
+  pub is_reported : IsReported IsFile files choices report file
   pub fills : Fills file old new
 
 -- that file is longer than the room
-pub record LacksRoom (files : List (Bor (List ℕ))) (choices : Choices) (report : Report) (room : ℕ)
-    : Type 0 where
+pub record LacksRoom (IsFile : FileFor) (files : List (Bor (List ℕ))) (choices : Choices)
+    (report : Report) (room : ℕ) : Type 0 where
   pub file : List ℕ
-  pub is_reported : IsReported files choices report file
+  pub is_reported : IsReported IsFile files choices report file
   pub long : room < length file
 
 -- this is why the files are not merged into memory: they are refused, or memory ran out

@@ -3,6 +3,7 @@ use Rattle.std.specs.Prelude.{ℕ, ◌≡◌, ◌+◌, ◌<◌, ◌⊎◌, List,
 use Rattle.std.specs.Borrow.{Bor}
 use Rattle.std.specs.List.{concat}
 use Rattle.tpi_records.specs.Header.{first_index}
+use Rattle.pdb_merge.specs.Merged.{IsFileOf}
 use Rattle.pdb_merge.specs.Merging.{AreMapsOf}
 use Rattle.pdbmerge_c.specs.declared.merge.Choices.{Choices}
 use Rattle.pdbmerge_c.specs.declared.merge.Report.{Report}
@@ -17,7 +18,7 @@ indices_of maps = concat (map (map (λ n. first_index + n)) maps)
 -- and how many each map has
 pub record HasFileAndMaps (files : List (Bor (List ℕ))) (choices : Choices) (report : Report)
     (file indices counts : List ℕ) : Type 0 where
-  pub is_reported : IsReported files choices report file
+  pub is_reported : IsReported IsFileOf files choices report file
   pub maps : List (List ℕ)
   pub are_maps : AreMapsOf (bytes_of_files files) is_reported.records maps
   pub indices_are : indices ≡ indices_of maps

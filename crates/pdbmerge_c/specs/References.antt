@@ -26,6 +26,12 @@ pub record AreReferences (bytes : List ℕ) (found : List Reference) : Type 0 wh
   pub has_places : HasPlaces r places
   pub are : found ≡ map (reference_in r) places
 
+-- this is the first fault of the leaf of a record, which has this type index
+abbrev pub IsFaultOfLeaf : {A : Type 0} → List ℕ → ℕ → PdbFault A → Type 0
+IsFaultOfLeaf r index (pdb.Type (Leaf at inner)) =
+    (at ≡ index) × (first_failing (record_checks r) ≡ Some inner)
+IsFaultOfLeaf r index _ = ⊥
+
 -- this is the first fault of the record at the front of the bytes: of its length, else of its leaf;
 -- or memory ran out, and the record has no fault
 abbrev pub IsFaultOfRecord : {A : Type 0} → List ℕ → ℕ → PdbFault A → Type 0

@@ -12,13 +12,16 @@
 //! - `pdbmerge_check` says whether the types of a file can be trusted, with [`Counts`].
 //! - `pdbmerge_merge` writes one file with the types of several, by [`Choices`], and a [`Report`].
 //! - `pdbmerge_merge_map` does so too, and lists where each type of each file went.
+//! - `pdbmerge_merge_by_types` makes the GUID of the file of its types, and `pdbmerge_guid_of_types`
+//!   makes it alone, a [`Guid`].
 //! - `pdbmerge_layout` reads the container of a file, a [`ContainerCounts`] and the sizes of its streams,
 //!   and `pdbmerge_blocks` lists the blocks of these streams. `pdbmerge_stream` copies a stream.
 //! - `pdbmerge_named_streams`, `pdbmerge_stream_names` and `pdbmerge_features` list what stream 1
 //!   says of streams and features.
 //! - `pdbmerge_records` lists where the records of stream 2 begin, and `pdbmerge_record` finds one
 //!   by its type index. `pdbmerge_references` lists the types that a record names, each a
-//!   [`Reference`], and `pdbmerge_name` copies the name of its type.
+//!   [`Reference`], and `pdbmerge_all_references` those that all records name. `pdbmerge_name` copies
+//!   the name of the type of a record.
 //! - `pdbmerge_diff` lists the types that only one of two files has, each a [`OneSided`].
 //! - `pdbmerge_members` copies the text of the definitions of a file, and `pdbmerge_changes` that of
 //!   what changed between the definitions of two files.
@@ -29,22 +32,26 @@
 //! room for the answer, the results say how much it takes.
 #![tactic(auto)]
 
+mod all_references;
 mod changes;
 mod check;
 mod diff;
 mod fault;
 mod give;
+mod guid;
 mod identify;
 mod info;
 mod layout;
 mod members;
 mod merge;
+mod merge_by_types;
 mod merge_map;
 mod name;
 mod pair;
 mod records;
 mod references;
 mod seed;
+mod settings;
 mod stream;
 mod text;
 mod version;
@@ -52,6 +59,7 @@ mod version;
 pub use check::Counts;
 pub use diff::OneSided;
 pub use fault::Fault;
+pub use guid::Guid;
 pub use identify::Identity;
 pub use layout::ContainerCounts;
 pub use merge::{Choices, Report};

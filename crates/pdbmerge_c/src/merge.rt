@@ -1,22 +1,23 @@
 //! One file with the types of several.
 
-ghost use Rattle.std.specs.Prelude.{◌≡◌, ◌≢◌, ◌⊎◌, ◌↔◌, [], Some, ℕ, List, length, IfOk, IfErr, IfSome, IfNone};
+ghost use Rattle.std.specs.Prelude.{◌≡◌, ◌≢◌, ◌⊎◌, ◌<◌, ◌↔◌, [], Some, ℕ, List, length, IfOk, IfErr, IfSome};
 ghost use Rattle.std.specs.Borrow.{Bor};
 ghost use Rattle.pdb_info.specs.Settings.{SettingsView, record_limit};
 ghost use Rattle.pdb_merge.specs.Merged.{IsFileOf, WroteWithMaps};
 ghost use Rattle.pdb_merge.specs.Union.{CanMerge};
-ghost use Rattle.pdbmerge_c.specs.Fault.{IsEnded, IsSaid};
+ghost use Rattle.pdbmerge_c.specs.Fault.{IsEnded, IsSaid, IsTold, no_number};
+ghost use Rattle.pdbmerge_c.specs.Given.{Fills};
 ghost use Rattle.pdbmerge_c.specs.Merge.{AreAllowed, IsRefusal, Merges, LacksRoom, RefusesMerge, bytes_of_files, settings_of};
 
-use crate::fault::{Fault, MEMORY, SETTINGS, refuse, tell};
+use crate::fault::{Fault, MEMORY, refuse};
 use crate::give::give;
 use crate::seed::Seed;
+use crate::settings::{refuse_settings, settings_from};
 use byte_io::{Out, Sink};
 use pdb_info::Settings;
 use pdb_merge::{KeepMaps, NoMaps, OutFault, Summary, merge_to_with};
 use std::alloc::Global;
 use std::hash::RandomState;
-use uuid::Uuid;
 
 /// What the caller chooses of a file that is written.
 #[repr(C)]
@@ -52,16 +53,6 @@ pub(crate) struct Merged<K: KeepMaps + Drop> {
     pub(crate) maps: K,
 }
 
-/// The settings that were chosen. `None` where no file can have them.
-pub(crate) fn settings_from(choices: &Choices) -> Option<Settings>
-    ensures value { IfSome result (λ settings. settings ≡ settings_of choices.now) }
-    ensures allowed { IfSome result (λ _. AreAllowed choices.now) }
-    ensures refused { IfNone result (AreAllowed choices.now → ⊥) }
-{
-    let guid = Uuid::from_bytes(choices.guid);
-    Settings::new(guid, choices.age, choices.limit, choices.block_size)
-}
-
 /// Merges files into a file in memory. The sink is in memory, so `Write` means out of memory too.
 pub(crate) fn merge_in_memory<K: KeepMaps + Drop>(
     alloc: Global,
@@ -86,6 +77,32 @@ pub(crate) fn merge_in_memory<K: KeepMaps + Drop>(
         summary,
         maps,
     })
+}
+
+/// Copies a file that was merged to the front of `out`, and says what it has. `ROOM` where there is too
+/// little room: then `out` is as it was.
+pub(crate) fn give_merged<K: KeepMaps + Drop>(
+    merged: &Merged<K>,
+    out: &mut [u8],
+    report: &mut Report,
+    fault: &mut Fault,
+) -> u32
+    ensures types { report.new.types ≡ merged.now.summary.types }
+    ensures bytes { report.new.bytes ≡ merged.now.summary.bytes }
+    ensures long { IfSome (⟦<Out<Vec<u8>> as Sink>⟧.taken merged.now.file) (λ file.
+        report.new.length ≡ length file) }
+    ensures status { IfSome (⟦<Out<Vec<u8>> as Sink>⟧.taken merged.now.file) (λ file.
+        (result ≡ 0) ⊎ ((result ≡ 100) × (length out.old < length file))) }
+    ensures done { IfSome (⟦<Out<Vec<u8>> as Sink>⟧.taken merged.now.file) (λ file.
+        result ≡ 0 → Fills file out.old out.new) }
+    ensures kept { result ≢ 0 → out.new ≡ out.old }
+    ensures told { IsTold fault.new result no_number }
+    ensures ended { IsEnded fault.new }
+{
+    report.types = merged.summary.types;
+    report.bytes = merged.summary.bytes;
+    let file = merged.file.writer().as_slice();
+    give(file, out, &mut report.length, fault)
 }
 
 /// Says why files were not merged.
@@ -125,9 +142,11 @@ pub extern "C" fn pdbmerge_merge(
     ensures told { IsSaid fault.new result }
     ensures ended { IsEnded fault.new }
     // The file is at the front of `out`.
-    ensures value { result ≡ 0 → Merges files.now choices.now report.new out.old out.new }
+    ensures value { result ≡ 0 →
+        Merges IsFileOf files.now choices.now report.new out.old out.new }
     // The file is longer than `out`.
-    ensures room { result ≡ 100 → LacksRoom files.now choices.now report.new (length out.old) }
+    ensures room { result ≡ 100 →
+        LacksRoom IsFileOf files.now choices.now report.new (length out.old) }
     ensures settings { (result ≡ 101) ↔ (AreAllowed choices.now → ⊥) }
     ensures refuses { result ≢ 0 → result ≢ 100 → result ≢ 101 →
         RefusesMerge files.now (settings_of choices.now) fault.new }
@@ -139,19 +158,10 @@ pub extern "C" fn pdbmerge_merge(
     ensures kept { result ≢ 0 → result ≢ 100 → report.new ≡ report.old }
 {
     let Some(settings) = settings_from(choices) else {
-        return tell(fault, SETTINGS, None, &"101 Settings");
+        return refuse_settings(fault, choices);
     };
     match merge_in_memory(alloc, files, &settings, &choices.seed, NoMaps) {
-        Ok(merged) => {
-            report.types = merged.summary.types;
-            report.bytes = merged.summary.bytes;
-            give(
-                merged.file.writer().as_slice(),
-                out,
-                &mut report.length,
-                fault,
-            )
-        }
+        Ok(merged) => give_merged(&merged, out, report, fault),
         Err(why) => refuse_merge(fault, &why),
     }
 }

@@ -9,10 +9,11 @@ ghost use Rattle.pdbmerge_c.specs.Given.{Fills};
 ghost use Rattle.pdbmerge_c.specs.Merge.{AreAllowed, IsRefusal, RefusesMerge, bytes_of_files, settings_of};
 ghost use Rattle.pdbmerge_c.specs.MergeMap.{AreTooLong, HasFileAndMaps, LacksRoomOfMaps, MergesWithMaps, indices_of};
 
-use crate::fault::{Fault, ROOM, SETTINGS, clear, tell};
+use crate::fault::{Fault, ROOM, clear, tell};
 use crate::give::fill;
-use crate::merge::{Choices, Report, merge_in_memory, refuse_merge, settings_from};
+use crate::merge::{Choices, Report, merge_in_memory, refuse_merge};
 use crate::seed::Seed;
+use crate::settings::{refuse_settings, settings_from};
 use byte_io::{Out, Sink};
 use pdb_info::Settings;
 use pdb_merge::{OutFault, Summary, TypeMaps};
@@ -177,7 +178,7 @@ pub extern "C" fn pdbmerge_merge_map(
     ensures kept { result ≢ 0 → result ≢ 100 → (report.new ≡ report.old) × (total.new ≡ total.old) }
 {
     let Some(settings) = settings_from(choices) else {
-        return tell(fault, SETTINGS, None, &"101 Settings");
+        return refuse_settings(fault, choices);
     };
     match merge_with_maps(alloc, files, choices, &settings) {
         Ok(mapped) => {

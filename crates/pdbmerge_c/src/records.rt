@@ -1,6 +1,6 @@
 //! Where type records begin.
 
-ghost use Rattle.std.specs.Prelude.{◌≡◌, ◌≢◌, ◌⊎◌, ◌<◌, ◌+◌, [], ℕ, length, get_or, OnOk, IfOk, IfErr, IfSome, IfNone};
+ghost use Rattle.std.specs.Prelude.{◌≡◌, ◌≢◌, ◌⊎◌, ◌<◌, ◌≤◌, ◌+◌, [], ℕ, length, get_or, OnOk, IfOk, IfErr, IfSome, IfNone};
 ghost use Rattle.tpi_records.specs.Records.{start_of};
 ghost use Rattle.pdbmerge_c.specs.Fault.{IsEnded, IsSaid};
 ghost use Rattle.pdbmerge_c.specs.Given.{Copies};
@@ -49,17 +49,35 @@ fn list_offsets(alloc: Global, stream: &[u8]) -> Result<Vec<u64>, TpiFault>
     Ok(offsets)
 }
 
+/// The offset at which the record at a position begins, if there is one.
+fn offset_of(records: &Records<'_>, position: u32) -> Option<u64>
+    ensures some { IfSome result (λ at. (position < length records.now)
+        × (at ≡ 56 + start_of records.now position)) }
+    ensures none { IfNone result (length records.now ≤ position) }
+{
+    let mut at = HEADER;
+    let mut before = position;
+    for bytes in records.iter() {
+        if before == 0 {
+            return Some(at);
+        }
+        at += bytes.len() as u64;
+        before -= 1;
+    }
+    None
+}
+
 /// The offset at which the record with a type index begins, if there is one.
 fn find_offset(alloc: Global, stream: &[u8], index: u32) -> Result<Option<u64>, TpiFault>
     ensures value { IfOk result (λ found. IfSome found (BeginsAt stream.now index)) }
     ensures lacks { IfOk result (λ found. IfNone found (LacksRecord stream.now index)) }
     ensures first { IfErr result (IsFaultOfRecords stream.now) }
 {
-    let offsets = list_offsets(alloc, stream)?;
+    let records = Records::read(alloc, stream)?;
     let Some(position) = index.checked_sub(FIRST_INDEX) else {
         return Ok(None);
     };
-    Ok(offsets.get(position as usize).copied())
+    Ok(offset_of(&records, position))
 }
 
 /// Lists where each type record of a TPI stream begins: offsets in the bytes of the stream. `count`
@@ -85,7 +103,8 @@ pub extern "C" fn pdbmerge_records(
     }
 }
 
-/// Finds where the record with a type index begins: its offset in the bytes of a TPI stream.
+/// Finds where the record with a type index begins: its offset in the bytes of a TPI stream. This
+/// frames all records, and lists none of them.
 ///
 /// The faults, in order: those of `Records::read`; `MEMORY`, if there is none of these; `NO_RECORD`,
 /// if no record has the index.

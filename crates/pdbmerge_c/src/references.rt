@@ -3,7 +3,7 @@
 ghost use Rattle.std.specs.Prelude.{◌≡◌, ◌≤◌, ◌<◌, ◌+◌, ◌^◌, ◌++◌, ◌∷◌, [], ℕ, List, length, map, OnOk, IfOk, IfErr};
 ghost use Rattle.cv_leaves.specs.Place.{HasPlaces, IsChecked};
 ghost use Rattle.pdbmerge_c.specs.Given.{Copies};
-ghost use Rattle.pdbmerge_c.specs.References.{AreReferences, IsFaultOfRecord, RefusesRecord, reference_in};
+ghost use Rattle.pdbmerge_c.specs.References.{AreReferences, IsFaultOfLeaf, IsFaultOfRecord, RefusesRecord, reference_in};
 
 use crate::fault::{Fault, refuse};
 use crate::give::give;
@@ -39,7 +39,7 @@ fn push_reference(found: &mut Vec<Reference>, bytes: &[u8], place: usize) -> Res
 }
 
 /// Appends what a record names, at each of its places.
-fn push_references(found: &mut Vec<Reference>, bytes: &[u8]) -> Result<(), AllocError>
+pub(crate) fn push_references(found: &mut Vec<Reference>, bytes: &[u8]) -> Result<(), AllocError>
     requires long { (4 ≤ length bytes.now) × (length bytes.now ≤ 2 ^ 16) }
     requires checked { IsChecked bytes.now }
     ensures { OnOk result
@@ -52,15 +52,25 @@ fn push_references(found: &mut Vec<Reference>, bytes: &[u8]) -> Result<(), Alloc
     Ok(())
 }
 
+/// Checks the leaf of a record. `index` is its type index, which a fault names.
+pub(crate) fn check_leaf(bytes: &[u8], index: u32) -> Result<(), PdbFault>
+    requires { (4 ≤ length bytes.now) × (length bytes.now ≤ 2 ^ 16) }
+    ensures value { OnOk result (IsChecked bytes.now) }
+    ensures first { IfErr result (IsFaultOfLeaf bytes.now index) }
+{
+    match check(bytes) {
+        Ok(()) => Ok(()),
+        Err(fault) => Err(PdbFault::Type(TypeFault::Leaf { index, fault })),
+    }
+}
+
 /// What the record at the front of some bytes names.
 fn list_references(alloc: Global, bytes: &[u8], index: u32) -> Result<Vec<Reference>, PdbFault>
     ensures value { IfOk result (λ found. AreReferences bytes.now found.items) }
     ensures first { IfErr result (IsFaultOfRecord bytes.now index) }
 {
     let found = first_record(bytes, index)?;
-    if let Err(fault) = check(found) {
-        return Err(PdbFault::Type(TypeFault::Leaf { index, fault }));
-    }
+    check_leaf(found, index)?;
     let mut references = Vec::new(alloc);
     push_references(&mut references, found)?;
     Ok(references)

@@ -23,11 +23,12 @@ struct results {
     pdbmerge_container container;
     pdbmerge_counts counts;
     pdbmerge_report report;
-    uint64_t size;
+    pdbmerge_guid guid;
+    uint64_t size, total;
     uint32_t numbers[NUMBERS];
     uint32_t maps[3];
     uint64_t offsets[1 << 12];
-    pdbmerge_reference references[1 << 8];
+    pdbmerge_reference references[1 << 12];
     pdbmerge_difference differences[1 << 12];
     uint8_t out[1 << 19];
 };
@@ -97,6 +98,36 @@ static uint32_t run_merge_refused(struct results *to, pdbmerge_fault *fault) {
 
 static uint32_t run_merge_room(struct results *to, pdbmerge_fault *fault) {
     return merge(2, 0, to, fault);
+}
+
+static uint32_t merge_by_types(size_t count, size_t room, struct results *to, pdbmerge_fault *fault) {
+    pdbmerge_settings settings = settings_of(4096);
+    return pdbmerge_merge_by_types(files, count, &settings, to->out, room, &to->report, fault);
+}
+
+static uint32_t run_merge_by_types(struct results *to, pdbmerge_fault *fault) {
+    return merge_by_types(2, sizeof to->out, to, fault);
+}
+
+static uint32_t run_merge_by_types_refused(struct results *to, pdbmerge_fault *fault) {
+    return merge_by_types(3, sizeof to->out, to, fault);
+}
+
+static uint32_t run_merge_by_types_room(struct results *to, pdbmerge_fault *fault) {
+    return merge_by_types(2, 0, to, fault);
+}
+
+static uint32_t guid_of_types(size_t count, struct results *to, pdbmerge_fault *fault) {
+    pdbmerge_seed seed = {{1}};
+    return pdbmerge_guid_of_types(files, count, &seed, &to->guid, fault);
+}
+
+static uint32_t run_guid_of_types(struct results *to, pdbmerge_fault *fault) {
+    return guid_of_types(2, to, fault);
+}
+
+static uint32_t run_guid_of_types_refused(struct results *to, pdbmerge_fault *fault) {
+    return guid_of_types(3, to, fault);
 }
 
 static uint32_t merge_map(size_t count, size_t index_room, struct results *to, pdbmerge_fault *fault) {
@@ -201,6 +232,19 @@ static uint32_t run_references(struct results *to, pdbmerge_fault *fault) {
                                sizeof to->references / sizeof *to->references, &to->size, fault);
 }
 
+static uint32_t all_references(size_t room, struct results *to, pdbmerge_fault *fault) {
+    return pdbmerge_all_references(stream.bytes, stream.length, to->references, room, to->numbers, NUMBERS,
+                                   &to->total, &to->size, fault);
+}
+
+static uint32_t run_all_references(struct results *to, pdbmerge_fault *fault) {
+    return all_references(sizeof to->references / sizeof *to->references, to, fault);
+}
+
+static uint32_t run_all_references_room(struct results *to, pdbmerge_fault *fault) {
+    return all_references(0, to, fault);
+}
+
 static uint32_t run_name(struct results *to, pdbmerge_fault *fault) {
     return pdbmerge_name(stream.bytes + 56, stream.length - 56, 0x1000,
                          to->out, sizeof to->out, &to->size, fault);
@@ -225,6 +269,11 @@ static const struct call {
     {"merge with maps", run_merge_map, PDBMERGE_OK},
     {"merge with maps of a refused file", run_merge_map_refused, 34},
     {"merge without room for maps", run_merge_map_room, PDBMERGE_ROOM},
+    {"merge by types", run_merge_by_types, PDBMERGE_OK},
+    {"merge by types of a refused file", run_merge_by_types_refused, 34},
+    {"merge by types without room", run_merge_by_types_room, PDBMERGE_ROOM},
+    {"GUID of types", run_guid_of_types, PDBMERGE_OK},
+    {"GUID of types of a refused file", run_guid_of_types_refused, 34},
     {"stream", run_stream, PDBMERGE_OK},
     {"named streams", run_named_streams, PDBMERGE_OK},
     {"stream names", run_stream_names, PDBMERGE_OK},
@@ -233,6 +282,8 @@ static const struct call {
     {"record", run_record, PDBMERGE_OK},
     {"record that is not there", run_no_record, 39},
     {"references", run_references, PDBMERGE_OK},
+    {"references of all records", run_all_references, PDBMERGE_OK},
+    {"references of all records without room", run_all_references_room, PDBMERGE_ROOM},
     {"name", run_name, PDBMERGE_OK},
     {"diff", run_diff, PDBMERGE_OK},
     {"diff of a refused file", run_diff_refused, 34},

@@ -56,6 +56,8 @@ static void print_others(void) {
     FIELD(pdbmerge_report, length, 0);
     FIELD(pdbmerge_report, types, 8);
     FIELD(pdbmerge_report, bytes, 12);
+    SIZE(pdbmerge_guid, 16);
+    FIELD(pdbmerge_guid, bytes, 0);
     SIZE(pdbmerge_reference, 8);
     FIELD(pdbmerge_reference, place, 0);
     FIELD(pdbmerge_reference, index, 4);

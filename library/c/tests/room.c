@@ -85,19 +85,30 @@ static uint32_t into_changes(void *out, size_t room, uint64_t *size, pdbmerge_fa
                             out, room, size, fault);
 }
 
+/* A call that merges: with the GUID of the settings, or with that of the types. */
+typedef uint32_t merging(const pdbmerge_slice *, size_t, const pdbmerge_settings *, uint8_t *, size_t,
+                         pdbmerge_report *, pdbmerge_fault *);
+
 /* The types and the bytes of the report are looked at as well: those of a merge with enough room. */
-static uint32_t into_merge(void *out, size_t room, uint64_t *size, pdbmerge_fault *fault) {
+static uint32_t merge_into(merging *call, void *out, size_t room, uint64_t *size, pdbmerge_fault *fault) {
     static pdbmerge_report whole;
     pdbmerge_settings settings = settings_of(4096);
     pdbmerge_slice files[2] = {first, second};
     pdbmerge_report report = {0, 0, 0};
-    uint32_t number = pdbmerge_merge(files, 2, &settings, out, room, &report, fault);
+    uint32_t number = call(files, 2, &settings, out, room, &report, fault);
     if (whole.length == 0)
         whole = report;
-    hold("types of the report", report.types, whole.types);
-    hold("bytes of the report", report.bytes, whole.bytes);
+    hold("the report", memcmp(&report, &whole, sizeof whole) == 0, 1);
     *size = report.length;
     return number;
+}
+
+static uint32_t into_merge(void *out, size_t room, uint64_t *size, pdbmerge_fault *fault) {
+    return merge_into(pdbmerge_merge, out, room, size, fault);
+}
+
+static uint32_t into_merge_by_types(void *out, size_t room, uint64_t *size, pdbmerge_fault *fault) {
+    return merge_into(pdbmerge_merge_by_types, out, room, size, fault);
 }
 
 /* Enough room for each part of a merge with maps. */
@@ -182,6 +193,65 @@ static uint32_t into_counts(void *out, size_t room, uint64_t *size, pdbmerge_fau
     return merge_map_into(to, out, &report, &total, fault);
 }
 
+/* Enough room for what all records of the first file name, and for their counts. */
+enum { REFERENCE_ROOM = 1 << 12, RECORD_ROOM = 1 << 12 };
+
+/* The rooms of a call on all records. */
+struct named_rooms {
+    pdbmerge_reference *references;
+    size_t room;
+    uint32_t *counts;
+    size_t count_room;
+};
+
+/* Memory that is enough for both, and has the pattern. */
+static struct named_rooms enough_named(void) {
+    static pdbmerge_reference references[REFERENCE_ROOM];
+    static uint32_t counts[RECORD_ROOM];
+    memset(references, PATTERN, sizeof references);
+    memset(counts, PATTERN, sizeof counts);
+    return (struct named_rooms){references, REFERENCE_ROOM, counts, RECORD_ROOM};
+}
+
+/* Both numbers are looked at as well: those of a call with enough room. Where one room is too little, the other one
+ * is as before. */
+static uint32_t all_references_into(struct named_rooms to, const void *given, uint64_t *total, uint64_t *records,
+                                    pdbmerge_fault *fault) {
+    static uint64_t whole[2];
+    *total = *records = 0;
+    uint32_t number = pdbmerge_all_references(stream.bytes, stream.length, to.references, to.room,
+                                              to.counts, to.count_room, total, records, fault);
+    if (whole[0] == 0) {
+        whole[0] = *total;
+        whole[1] = *records;
+    }
+    hold("how much all records name", *total, whole[0]);
+    hold("how many records there are", *records, whole[1]);
+    if (number == PDBMERGE_OK)
+        return number;
+    hold("the room of references is as before", to.references == given
+         || is_untouched((uint8_t *)to.references, 0, REFERENCE_ROOM * sizeof *to.references), 1);
+    hold("the room of counts is as before", to.counts == given
+         || is_untouched((uint8_t *)to.counts, 0, RECORD_ROOM * sizeof *to.counts), 1);
+    return number;
+}
+
+static uint32_t into_all_references(void *out, size_t room, uint64_t *size, pdbmerge_fault *fault) {
+    struct named_rooms to = enough_named();
+    uint64_t records;
+    to.references = out;
+    to.room = room;
+    return all_references_into(to, out, size, &records, fault);
+}
+
+static uint32_t into_reference_counts(void *out, size_t room, uint64_t *size, pdbmerge_fault *fault) {
+    struct named_rooms to = enough_named();
+    uint64_t total;
+    to.counts = out;
+    to.count_room = room;
+    return all_references_into(to, out, &total, size, fault);
+}
+
 /* The calls that take room, and the size of an item. */
 static const struct row {
     const char *name;
@@ -196,11 +266,14 @@ static const struct row {
     {"features", into_features, sizeof(uint32_t)},
     {"records", into_records, sizeof(uint64_t)},
     {"references", into_references, sizeof(pdbmerge_reference)},
+    {"references of all records", into_all_references, sizeof(pdbmerge_reference)},
+    {"counts of references", into_reference_counts, sizeof(uint32_t)},
     {"name", into_name, 1},
     {"differences", into_differences, sizeof(pdbmerge_difference)},
     {"members", into_members, 1},
     {"changes", into_changes, 1},
     {"merge", into_merge, 1},
+    {"merge by types", into_merge_by_types, 1},
     {"file of a merge with maps", into_mapped_file, 1},
     {"indices of maps", into_indices, sizeof(uint32_t)},
     {"counts of maps", into_counts, sizeof(uint32_t)},
@@ -292,6 +365,45 @@ static void hold_records(void) {
     free(offsets);
 }
 
+/* ---- What all records name */
+
+/* It is what each of them names, and the counts say where it ends. */
+static void hold_all_references(void) {
+    static pdbmerge_reference own[REFERENCE_ROOM];
+    pdbmerge_fault fault;
+    struct named_rooms to = enough_named();
+    size_t most = stream.length / 4;
+    uint64_t *offsets = allocate(most * sizeof *offsets), count = 0, total = 0, records = 0, own_count = 0, end = 0;
+    hold("the list of records", into_records(offsets, most, &count, &fault), PDBMERGE_OK);
+    hold("all references", all_references_into(to, NULL, &total, &records, &fault), PDBMERGE_OK);
+    hold("how many records have a count", records, count);
+    for (uint32_t at = 0; at < records && at < count; at++) {
+        uint32_t number = pdbmerge_references(stream.bytes + offsets[at], stream.length - offsets[at], 0x1000 + at,
+                                              own, REFERENCE_ROOM, &own_count, &fault);
+        hold("the references of a record", number, PDBMERGE_OK);
+        hold("how many they are", to.counts[at], own_count);
+        hold("which they are", memcmp(to.references + end, own, own_count * sizeof *own) == 0, 1);
+        end += own_count;
+    }
+    hold("there are no others", total, end);
+    free(offsets);
+}
+
+/* The fault of a leaf is that of the first record that has one, and says which that is. */
+static void hold_leaf_fault(void) {
+    static uint32_t words[(HEADER + 20) / 4] = {20040203, HEADER, 0x1000, 0x1003, 20};
+    static const uint8_t records[20] = {6, 0, 0x0e, 0, 0, 0, 0, 0, 2, 0, 0x34, 0x12, 6, 0, 0x35, 0x12};
+    pdbmerge_fault fault;
+    uint64_t total = 7, many = 7;
+    memcpy((uint8_t *)words + HEADER, records, sizeof records);
+    uint32_t number = pdbmerge_all_references((const uint8_t *)words, sizeof words, NULL, 0, NULL, 0,
+                                              &total, &many, &fault);
+    hold("a leaf that is in no table", number, 25);
+    hold_fault("a leaf that is in no table", &fault, 25, "index 0x1001: 25 Leaf 0x1234");
+    hold("its total is as before", total, 7);
+    hold("its number of records is as before", many, 7);
+}
+
 /* ---- NULL for what has no bytes */
 
 /* A fault that belongs to an input. */
@@ -340,6 +452,8 @@ static void hold_null_lists(void) {
     hold_fault("record of NULL", &fault, 16, "16 TpiShort");
     hold("references of NULL", pdbmerge_references(NULL, 0, 0x1234, NULL, 0, &size, &fault), 22);
     hold_fault("references of NULL", &fault, 22, "22 RecordShort index 0x1234");
+    hold("all references of NULL", pdbmerge_all_references(NULL, 0, NULL, 0, NULL, 0, &size, &size, &fault), 16);
+    hold_fault("all references of NULL", &fault, 16, "16 TpiShort");
     hold("name of NULL", pdbmerge_name(NULL, 0, 0x1234, NULL, 0, &size, &fault), 22);
     hold_fault("name of NULL", &fault, 22, "22 RecordShort index 0x1234");
     hold("members of NULL", pdbmerge_members(NULL, 0, NULL, 0, NULL, 0, &size, &fault), 1);
@@ -440,6 +554,12 @@ static void hold_null_room(void) {
     hold("how many they are", size, 0);
     hold_no_record((pdbmerge_slice){(const uint8_t *)header, HEADER}, 0x1000);
     size = 7;
+    uint64_t records = 7;
+    number = pdbmerge_all_references((const uint8_t *)header, HEADER, NULL, 0, NULL, 0, &size, &records, &fault);
+    hold("what no records name", number, PDBMERGE_OK);
+    hold("how much that is", size, 0);
+    hold("how many they are", records, 0);
+    size = 7;
     number = pdbmerge_references(label, sizeof label, 0x1000, NULL, 0, &size, &fault);
     hold("a record that names nothing", number, PDBMERGE_OK);
     hold("what it names", size, 0);
@@ -468,6 +588,33 @@ static void hold_refused_maps(const pdbmerge_slice *files, size_t count, pdbmerg
     hold("its total is as before", total, 7);
 }
 
+/* So has a merge by types. */
+static void hold_refused_by_types(const pdbmerge_slice *files, size_t count, pdbmerge_settings settings,
+                                  const pdbmerge_fault *wanted) {
+    static uint8_t out[1 << 10];
+    pdbmerge_report report;
+    pdbmerge_fault fault;
+    memset(out, PATTERN, sizeof out);
+    memset(&report, PATTERN, sizeof report);
+    uint32_t number = pdbmerge_merge_by_types(files, count, &settings, out, sizeof out, &report, &fault);
+    hold("a merge by types that is refused", number, wanted->number);
+    hold("its fault", memcmp(&fault, wanted, sizeof fault) == 0, 1);
+    hold("its out is as before", is_untouched(out, 0, sizeof out), 1);
+    hold("its report is as before", is_untouched((uint8_t *)&report, 0, sizeof report), 1);
+}
+
+/* And the GUID of types, which has neither a limit nor a block size. */
+static void hold_refused_guid(const pdbmerge_slice *files, size_t count, const pdbmerge_fault *wanted) {
+    pdbmerge_seed seed = {{0}};
+    pdbmerge_guid guid;
+    pdbmerge_fault fault;
+    memset(&guid, PATTERN, sizeof guid);
+    uint32_t number = pdbmerge_guid_of_types(files, count, &seed, &guid, &fault);
+    hold("a GUID of types that is refused", number, wanted->number);
+    hold("its fault", memcmp(&fault, wanted, sizeof fault) == 0, 1);
+    hold("the GUID is as before", is_untouched(guid.bytes, 0, sizeof guid.bytes), 1);
+}
+
 /* A merge that is refused leaves memory and report as they were. */
 static pdbmerge_fault refused(const pdbmerge_slice *files, size_t count, pdbmerge_settings settings,
                               uint32_t wanted) {
@@ -482,6 +629,9 @@ static pdbmerge_fault refused(const pdbmerge_slice *files, size_t count, pdbmerg
     hold("out is as before", is_untouched(out, 0, sizeof out), 1);
     hold("the report is as before", is_untouched((uint8_t *)&report, 0, sizeof report), 1);
     hold_refused_maps(files, count, settings, &fault);
+    hold_refused_by_types(files, count, settings, &fault);
+    if (wanted < PDBMERGE_TOO_LARGE || wanted == 34)
+        hold_refused_guid(files, count, &fault);
     return fault;
 }
 
@@ -501,17 +651,47 @@ static void hold_merges(void) {
     hold("its text", strncmp(fault.text, "file 0: 32 TooLarge bytes ", 26), 0);
 }
 
+/* The first setting that is wrong is named: a limit before a block size. */
 static void hold_settings(void) {
     static const uint32_t sizes[] = {0, 1, 256, 511, 513, 4095, 4097, 65536, UINT32_MAX};
     pdbmerge_slice bad = {NULL, 0};
+    char text[64];
     for (size_t at = 0; at < sizeof sizes / sizeof *sizes; at++) {
-        pdbmerge_fault fault = refused(&bad, 1, settings_of(sizes[at]), PDBMERGE_SETTINGS);
-        hold_fault("a block size that is none", &fault, PDBMERGE_SETTINGS, "101 Settings");
+        pdbmerge_settings settings = settings_of(sizes[at]);
+        pdbmerge_fault fault = refused(&bad, 1, settings, PDBMERGE_SETTINGS);
+        sprintf(text, "101 Settings block_size %u", (unsigned)sizes[at]);
+        hold_fault("a block size that is none", &fault, PDBMERGE_SETTINGS, text);
+        settings.limit = (1u << 30) + 1;
+        fault = refused(&bad, 1, settings, PDBMERGE_SETTINGS);
+        hold_fault("both are none", &fault, PDBMERGE_SETTINGS, "101 Settings limit 1073741825");
     }
     pdbmerge_settings settings = settings_of(4096);
-    settings.limit = (1u << 30) + 1;
+    settings.limit = UINT32_MAX;
     pdbmerge_fault fault = refused(NULL, 0, settings, PDBMERGE_SETTINGS);
-    hold_fault("a limit that is too high", &fault, PDBMERGE_SETTINGS, "101 Settings");
+    hold_fault("a limit that is too high", &fault, PDBMERGE_SETTINGS, "101 Settings limit 4294967295");
+}
+
+/* The GUID of no types: the first bytes of the SHA-256 of no bytes, as a UUID of version 8. */
+static const uint8_t NO_TYPES[16] = {0xe3, 0xb0, 0xc4, 0x42, 0x98, 0xfc, 0x8c, 0x14,
+                                     0x9a, 0xfb, 0xf4, 0xc8, 0x99, 0x6f, 0xb9, 0x24};
+
+/* A merge by types gives the file the GUID of no types, which is that of no files too. */
+static void hold_guid_of_nothing(void) {
+    pdbmerge_settings settings = settings_of(4096);
+    pdbmerge_fault fault;
+    pdbmerge_report report;
+    pdbmerge_identity identity;
+    pdbmerge_guid guid;
+    uint8_t *out = allocate(1 << 18);
+    uint32_t number = pdbmerge_merge_by_types(NULL, 0, &settings, out, 1 << 18, &report, &fault);
+    hold("no files by types", number, PDBMERGE_OK);
+    hold("what identifies them", pdbmerge_identify(out, report.length, &identity, &fault), PDBMERGE_OK);
+    hold("their GUID", memcmp(identity.guid, NO_TYPES, sizeof NO_TYPES) == 0, 1);
+    number = pdbmerge_guid_of_types(NULL, 0, &settings.seed, &guid, &fault);
+    hold("the GUID of no files", number, PDBMERGE_OK);
+    hold_fault("the GUID of no files", &fault, PDBMERGE_OK, "");
+    hold("its bytes", memcmp(guid.bytes, NO_TYPES, sizeof NO_TYPES) == 0, 1);
+    free(out);
 }
 
 /* No files have no types, and each block size and limit can be had. */
@@ -584,6 +764,8 @@ int main(int argc, char **argv) {
     for (size_t at = 0; at < sizeof ROWS / sizeof *ROWS; at++)
         hold_rooms(&ROWS[at]);
     hold_records();
+    hold_all_references();
+    hold_leaf_fault();
     hold_null_files();
     hold_null_lists();
     hold_null_pairs();
@@ -595,6 +777,7 @@ int main(int argc, char **argv) {
     hold_merges();
     hold_settings();
     hold_no_files();
+    hold_guid_of_nothing();
     hold_long_texts();
     return finish("room");
 }

@@ -4,7 +4,8 @@
  * usage: rows COMMAND WORD.., with the words of the program
  *
  * It answers every row of the tables of examples/. The status is 2 where a call gives more block
- * numbers, or more bytes of names, than the streams have. */
+ * numbers, or more bytes of names, than the streams have, where it counts something else than it
+ * lists, and where the GUID of types is not that of the file that was merged by types. */
 #include "checks.h"
 
 enum {
@@ -27,6 +28,7 @@ struct line {
     pdbmerge_settings settings;
     int origins;
     int members;
+    int by_types; /* whether the GUID is made of the types */
     int count;
     const char **words; /* those that belong to no option */
 };
@@ -62,6 +64,13 @@ struct types {
     pdbmerge_slice stream;
     const uint64_t *offsets;
     uint64_t count;
+};
+
+/* What all records name, one after the other, and how much each of them names. */
+struct named {
+    const pdbmerge_reference *references;
+    const uint32_t *counts;
+    uint64_t total, records;
 };
 
 /* A type record, what it names and what it is called. */
@@ -163,6 +172,19 @@ static uint32_t read_types(pdbmerge_slice file, struct types *types) {
     return pdbmerge_records(stream->bytes, stream->length, room, types->count, &types->count, &fault);
 }
 
+static uint32_t read_named(pdbmerge_slice stream, struct named *named) {
+    uint32_t answer = pdbmerge_all_references(stream.bytes, stream.length, NULL, 0, NULL, 0,
+                                              &named->total, &named->records, &fault);
+    if (!is_sized(answer))
+        return answer;
+    pdbmerge_reference *references = ALLOCATE(pdbmerge_reference, named->total);
+    uint32_t *counts = ALLOCATE(uint32_t, named->records);
+    named->references = references;
+    named->counts = counts;
+    return pdbmerge_all_references(stream.bytes, stream.length, references, named->total,
+                                   counts, named->records, &named->total, &named->records, &fault);
+}
+
 /* The bytes of the record at an offset of stream 2, without what it names. */
 static void find_record(pdbmerge_slice stream, uint64_t offset, unsigned index, struct record *record) {
     record->bytes = stream.bytes + offset;
@@ -171,15 +193,18 @@ static void find_record(pdbmerge_slice stream, uint64_t offset, unsigned index, 
     record->index = index;
 }
 
+/* The name of the type that a record describes; `left` is how many bytes there are from the record on. */
+static uint32_t read_name(struct record *record, uint64_t left) {
+    return pdbmerge_name(record->bytes, left, record->index,
+                         record->name, MOST_OF_NAME, &record->name_length, &fault);
+}
+
 static uint32_t read_record(pdbmerge_slice stream, uint64_t offset, unsigned index, struct record *record) {
     find_record(stream, offset, index, record);
     uint64_t left = stream.length - offset;
     uint32_t answer = pdbmerge_references(record->bytes, left, index,
                                           record->references, MOST_NAMED, &record->named, &fault);
-    if (answer != PDBMERGE_OK)
-        return answer;
-    return pdbmerge_name(record->bytes, left, index,
-                         record->name, MOST_OF_NAME, &record->name_length, &fault);
+    return answer != PDBMERGE_OK ? answer : read_name(record, left);
 }
 
 /* Reads the record at a position, from 0. */
@@ -326,20 +351,26 @@ static int run_record(const struct line *line) {
     return 0;
 }
 
+/* What all records name is read at once, so nothing is printed before a refusal. */
 static int run_types(const struct line *line) {
     static struct types types;
     static struct record record;
+    struct named named;
     if (read_types(read_file(line->words[0]), &types) != PDBMERGE_OK)
         return refused();
-    /* Nothing is printed before a refusal. */
-    for (uint64_t at = 0; at < types.count; at++)
-        if (read_nth(&types, at, &record) != PDBMERGE_OK)
+    if (read_named(types.stream, &named) != PDBMERGE_OK)
+        return refused();
+    const pdbmerge_reference *next = named.references;
+    for (uint64_t at = 0; at < types.count && at < named.records; at++) {
+        find_record(types.stream, types.offsets[at], FIRST + (unsigned)at, &record);
+        record.named = named.counts[at];
+        memcpy(record.references, next, record.named * sizeof *next);
+        next += record.named;
+        if (read_name(&record, types.stream.length - types.offsets[at]) != PDBMERGE_OK)
             return refused();
-    for (uint64_t at = 0; at < types.count; at++) {
-        read_nth(&types, at, &record);
         print_type(&record);
     }
-    return 0;
+    return next == named.references + named.total && named.records == types.count ? 0 : 2;
 }
 
 static int run_info(const struct line *line) {
@@ -418,18 +449,35 @@ static int run_diff(const struct line *line) {
     return count != 0 ? DIFFERENT : 0;
 }
 
+/* A call that merges. */
+typedef uint32_t merging(const pdbmerge_slice *, size_t, const pdbmerge_settings *, uint8_t *, size_t,
+                         pdbmerge_report *, pdbmerge_fault *);
+
+/* Whether the file has the GUID that is made of the types of these files. */
+static int has_guid(const pdbmerge_slice *files, size_t count, const pdbmerge_seed *seed, pdbmerge_slice file) {
+    pdbmerge_identity identity;
+    pdbmerge_guid guid;
+    return pdbmerge_guid_of_types(files, count, seed, &guid, &fault) == PDBMERGE_OK
+        && pdbmerge_identify(file.bytes, file.length, &identity, &fault) == PDBMERGE_OK
+        && memcmp(guid.bytes, identity.guid, sizeof guid.bytes) == 0;
+}
+
 static int run_merge(const struct line *line) {
     size_t count = (size_t)line->count - 1;
     pdbmerge_slice *files = ALLOCATE(pdbmerge_slice, count);
     for (size_t at = 0; at < count; at++)
         files[at] = read_file(line->words[at + 1]);
+    merging *call = line->by_types ? pdbmerge_merge_by_types : pdbmerge_merge;
     pdbmerge_report report;
-    uint32_t answer = pdbmerge_merge(files, count, &line->settings, NULL, 0, &report, &fault);
+    uint32_t answer = call(files, count, &line->settings, NULL, 0, &report, &fault);
     if (answer != PDBMERGE_ROOM)
         return refused();
     uint8_t *out = ALLOCATE(uint8_t, report.length);
-    if (pdbmerge_merge(files, count, &line->settings, out, report.length, &report, &fault) != PDBMERGE_OK)
+    if (call(files, count, &line->settings, out, report.length, &report, &fault) != PDBMERGE_OK)
         return refused();
+    pdbmerge_slice merged = {out, (size_t)report.length};
+    if (line->by_types && !has_guid(files, count, &line->settings.seed, merged))
+        return 2;
     FILE *file = fopen(line->words[0], "wb");
     if (file == NULL || fwrite(out, 1, report.length, file) != report.length || fclose(file) != 0) {
         perror(line->words[0]);
@@ -469,7 +517,9 @@ static int take_word(struct line *line, char **words, int at) {
         line->words[line->count++] = word;
         return 1;
     }
-    if (strcmp(word, "--guid") == 0)
+    if (strcmp(word, "--guid") == 0 && strcmp(value, "types") == 0)
+        line->by_types = 1;
+    else if (strcmp(word, "--guid") == 0)
         read_guid(value, line->settings.guid);
     else if (strcmp(word, "--age") == 0)
         line->settings.age = (uint32_t)strtoul(value, NULL, 10);
@@ -494,7 +544,7 @@ static const struct {
 };
 
 int main(int argc, char **argv) {
-    struct line line = {settings_of(4096), 0, 0, 0, ALLOCATE(const char *, (size_t)argc)};
+    struct line line = {settings_of(4096), 0, 0, 0, 0, ALLOCATE(const char *, (size_t)argc)};
     for (int at = 2; at < argc;)
         at += take_word(&line, argv, at);
     for (size_t at = 0; argc > 1 && at < sizeof COMMANDS / sizeof *COMMANDS; at++)

@@ -38,13 +38,24 @@ template <typename Item> Answer answer_of(uint32_t number, const Item &item) {
     return answer_of(number, std::vector<Item>{item}, 1);
 }
 
-Answer merged(const pdbmerge_slice *files, size_t count) {
+// What a call merges: with the GUID of the settings, or with that of the types.
+Answer merged_by(decltype(pdbmerge_merge) *call, const pdbmerge_slice *files, size_t count) {
     const pdbmerge_settings settings = settings_of(4096);
     std::vector<uint8_t> out(1 << 20);
     pdbmerge_report report;
     pdbmerge_fault fault;
-    const uint32_t number = pdbmerge_merge(files, count, &settings, out.data(), out.size(), &report, &fault);
+    const uint32_t number = call(files, count, &settings, out.data(), out.size(), &report, &fault);
     return answer_of(number, out, number == PDBMERGE_OK ? report.length : 0);
+}
+
+Answer merged(const pdbmerge_slice *files, size_t count) { return merged_by(pdbmerge_merge, files, count); }
+
+Answer guid_of(const pdbmerge_slice *files, size_t count) {
+    const pdbmerge_seed seed{};
+    pdbmerge_guid guid{};
+    pdbmerge_fault fault;
+    const uint32_t number = pdbmerge_guid_of_types(files, count, &seed, &guid, &fault);
+    return answer_of(number, guid);
 }
 
 Answer mapped(const pdbmerge_slice *files, size_t count) {
@@ -119,6 +130,18 @@ Answer references_of(const std::vector<uint8_t> &stream) {
     return answer_of(number, references, count);
 }
 
+// What all records name, and how much each of them names.
+std::vector<Answer> all_references_of(const std::vector<uint8_t> &stream) {
+    std::vector<pdbmerge_reference> references(1 << 16);
+    std::vector<uint32_t> counts(1 << 16);
+    uint64_t total = 0, records = 0;
+    pdbmerge_fault fault;
+    const uint32_t number =
+        pdbmerge_all_references(stream.data(), stream.size(), references.data(), references.size(),
+                                counts.data(), counts.size(), &total, &records, &fault);
+    return {answer_of(number, references, total), answer_of(number, counts, records)};
+}
+
 Answer name_of(const std::vector<uint8_t> &stream) {
     std::vector<uint8_t> out(1 << 16);
     uint64_t size = 0;
@@ -142,12 +165,15 @@ Answer difference_of(const pdbmerge_slice *files) {
 std::vector<Answer> all_answers(const pdbmerge_slice *files) {
     const std::vector<uint8_t> first = stream_of(files[0], 1).bytes, stream = stream_of(files[0], 2).bytes;
     const pdbmerge_slice info{first.data(), first.size()}, types{stream.data(), stream.size()};
+    const std::vector<Answer> all = all_references_of(stream);
     return {identified(files[0]),
             layout_of(files[0]),
             list_of(pdbmerge_blocks, files[0]),
             checked(files[0]),
             merged(files, 2),
             mapped(files, 2),
+            merged_by(pdbmerge_merge_by_types, files, 2),
+            guid_of(files, 2),
             stream_of(files[0], 2),
             list_of(pdbmerge_named_streams, info),
             list_of(pdbmerge_stream_names, info),
@@ -155,6 +181,8 @@ std::vector<Answer> all_answers(const pdbmerge_slice *files) {
             list_of(pdbmerge_records, types),
             record_of(stream),
             references_of(stream),
+            all[0],
+            all[1],
             name_of(stream),
             difference_of(files)};
 }

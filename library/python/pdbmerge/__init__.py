@@ -39,12 +39,14 @@ __all__ = [
     'Record',
     'Records',
     'Reference',
+    'References',
     'SettingsError',
     'Stream',
     'changes',
     'check',
     'diff',
     'features',
+    'guid_of_types',
     'identify',
     'layout',
     'members',
@@ -52,6 +54,7 @@ __all__ = [
     'named_streams',
     'record',
     'records',
+    'references',
     'stream',
     'types',
     'version',
@@ -70,8 +73,11 @@ _TYPES = 2
 _FIRST = 0x1000
 _LARGEST = 2**32 - 1
 _LARGEST_BLOCK = 32768
-# Few records have less bytes. Where there are more than the room for maps holds, it is merged once more.
+# Few records have less bytes, and few references stand in less of them. Where there are more than the room holds,
+# a call is made once more.
 _RECORD = 8
+# What a GUID that is made of the types is called, and what stands for it until it is made.
+_BY_TYPES, _NO_GUID = 'types', uuid.UUID(int=0)
 # Room for a text at first. What changed between two files mostly takes less.
 _TEXT = 2**20
 
@@ -93,7 +99,7 @@ class OutOfMemory(PdbError, MemoryError):
 
 
 class SettingsError(PdbError, ValueError):
-    """The limit or the block size is none that a file can have."""
+    """The limit or the block size is none that a file can have. The text says which."""
 
 
 @dataclasses.dataclass(frozen=True)
@@ -254,6 +260,32 @@ class Records(Sequence[Record]):
         return _cut(self._held, _FIRST + place, self._offsets[place])
 
 
+class References(Sequence[List[Reference]]):
+    """The types that each record of a file names, in the order of the type indices of the records.
+
+    The list of a record is made when it is asked for. It is in the order of the places. What stands in the lists is
+    in two arrays, one record after the other: `places` and `indices`. `ends` has where that of each record ends.
+    """
+
+    def __init__(self, places: _Words, indices: _Words, ends: _Words) -> None:
+        self.places, self.indices, self.ends = places, indices, ends
+
+    def __len__(self) -> int:
+        return len(self.ends)
+
+    @overload
+    def __getitem__(self, at: int) -> List[Reference]: ...
+    @overload
+    def __getitem__(self, at: slice) -> List[List[Reference]]: ...
+    def __getitem__(self, at: Union[int, slice]) -> Union[List[Reference], List[List[Reference]]]:
+        records = range(len(self))[at]
+        return self._at(records) if isinstance(records, int) else [self._at(record) for record in records]
+
+    def _at(self, record: int) -> List[Reference]:
+        begin, end = self.ends[record - 1] if record else 0, self.ends[record]
+        return list(map(Reference, self.places[begin:end], self.indices[begin:end]))
+
+
 _EXCEPTIONS: Dict[int, Type[PdbError]] = {_library.MEMORY: OutOfMemory, _library.SETTINGS: SettingsError}
 
 
@@ -319,6 +351,18 @@ def _seed() -> _library.Seed:
     return _library.Seed.from_buffer_copy(os.urandom(16))
 
 
+def _settings(guid: Union[uuid.UUID, str], age: int, limit: int, block_size: int) -> _library.Settings:
+    """The settings of a merge, as a call takes them."""
+    guid = guid if isinstance(guid, uuid.UUID) else uuid.UUID(guid)
+    return _library.Settings(
+        guid=(c.c_uint8 * 16)(*guid.bytes),
+        age=_word(age, 'age'),
+        limit=_setting(limit),
+        block_size=_setting(block_size),
+        seed=_seed(),
+    )
+
+
 def version() -> Tuple[int, int, int]:
     """The version of the library: major, minor and patch."""
     number = _library.version()
@@ -377,27 +421,25 @@ def merge(
     """One file with exactly the types of all files, each once, in canonical order.
 
     The same types give the same bytes, whatever the order of the files and however often one is given.
-    A GUID that is a `str` is read as `uuid.UUID` reads it. `limit` is the most bytes that the type records may have together. With `maps` the answer also has the
-    map of each file, in the order of the files.
+    A GUID that is a `str` is read as `uuid.UUID` reads it; 'types' is the one of `guid_of_types`, which is
+    made of the types. `limit` is the most bytes that the type records may have together. With `maps` the
+    answer also has the map of each file, in the order of the files.
     """
-    guid = guid if isinstance(guid, uuid.UUID) else uuid.UUID(guid)
-    settings = _library.Settings(
-        guid=(c.c_uint8 * 16)(*guid.bytes),
-        age=_word(age, 'age'),
-        limit=_setting(limit),
-        block_size=_setting(block_size),
-        seed=_seed(),
-    )
-    report, fault = _library.Report(), _library.Fault()
+    files, by_types = list(files), guid == _BY_TYPES
+    if by_types:
+        # Only a merge without maps makes it.
+        guid = guid_of_types(files) if maps else _NO_GUID
+    settings, report, fault = _settings(guid, age, limit, block_size), _library.Report(), _library.Fault()
     with _library.lent(*files) as slices:
         table = (_library.Slice * len(slices))(*slices)
         mapping = _Maps(slices) if maps else None
 
         def call(out: int, room: int) -> int:
             merging = (table, len(table), settings, out, room)
-            if mapping is None:
-                return _library.merge(*merging, report, fault)
-            return _library.merge_map(*merging, *mapping.rooms(), report, mapping.total, fault)
+            if mapping is not None:
+                return _library.merge_map(*merging, *mapping.rooms(), report, mapping.total, fault)
+            merge = _library.merge_by_types if by_types else _library.merge
+            return merge(*merging, report, fault)
 
         file = _made(
             _room(slices, settings.limit),
@@ -405,6 +447,18 @@ def merge(
             lambda out, room: _done(call(out, room), fault),
         )
     return Merged(file, report.types, report.bytes, mapping.each() if mapping else None)
+
+
+def guid_of_types(files: Iterable[Buffer]) -> uuid.UUID:
+    """The GUID that is made of the types of all files: that of a merge of them with the GUID 'types'.
+
+    The same types give the same GUID. No file is made.
+    """
+    guid, fault = _library.Guid(), _library.Fault()
+    with _library.lent(*files) as slices:
+        table = (_library.Slice * len(slices))(*slices)
+        _done(_library.guid_of_types(table, len(table), _seed(), guid, fault), fault)
+    return uuid.UUID(bytes=bytes(guid.bytes))
 
 
 class _Maps:
@@ -419,8 +473,7 @@ class _Maps:
         """Room for the indices and for the counts, as a call takes them."""
         if len(self._indices) < self.total.value:
             self._indices = _words_of(self.total.value)
-        indices = (c.c_uint32 * len(self._indices)).from_buffer(self._indices)
-        return indices, len(indices), self._counts, len(self._counts)
+        return _lent_words(self._indices), len(self._indices), self._counts, len(self._counts)
 
     def each(self) -> Tuple[_Words, ...]:
         """The map of each file."""
@@ -431,6 +484,11 @@ class _Maps:
 def _words_of(count: int) -> _Words:
     """So many numbers of 32 bits."""
     return array.array('I', [0]) * count
+
+
+def _lent_words(words: _Words) -> c.Array[c.c_uint32]:
+    """The memory of an array, as a call takes it."""
+    return (c.c_uint32 * len(words)).from_buffer(words)
 
 
 def _room(files: List[_library.Slice], limit: int) -> int:
@@ -484,6 +542,24 @@ def record(file: Buffer, index: int) -> Record:
     with _library.lent(held) as [data]:
         _done(_library.record(data.bytes, data.length, index, offset, fault), fault)
     return _cut(held, index, offset.value)
+
+
+def references(file: Buffer) -> References:
+    """What each type record of a file names, as `Record.references` tells it, by one call for all records.
+
+    The records are not checked as types, but each has to be one whose references can be read.
+    """
+    with _library.lent(stream(file, _TYPES)) as [data]:
+        total, records = c.c_uint64(data.length // _RECORD), c.c_uint64(data.length // _RECORD)
+        fault, is_done = _library.Fault(), False
+        while not is_done:
+            # A reference is a place and a type index.
+            found, counts = _words_of(2 * total.value), _words_of(records.value)
+            room = (_library.Reference * total.value).from_buffer(found)
+            rooms = (room, len(room), _lent_words(counts), len(counts))
+            is_done = _done(_library.all_references(data.bytes, data.length, *rooms, total, records, fault), fault)
+    end, ends = 2 * total.value, itertools.accumulate(counts[:records.value])
+    return References(found[:end:2], found[1:end:2], array.array('I', ends))
 
 
 def types(file: Buffer) -> Records:

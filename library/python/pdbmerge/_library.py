@@ -85,6 +85,11 @@ class Report(c.Structure):
     _fields_ = [('length', c.c_uint64), ('types', c.c_uint32), ('bytes', c.c_uint32)]
 
 
+class Guid(c.Structure):
+    bytes: c.Array[c.c_uint8]
+    _fields_ = [('bytes', c.c_uint8 * 16)]
+
+
 class Reference(c.Structure):
     place: int
     index: int
@@ -124,20 +129,12 @@ identify = _declared('pdbmerge_identify', *_bytes, c.POINTER(Identity), _fault)
 layout = _declared('pdbmerge_layout', *_bytes, c.POINTER(Container), *_words, _fault)
 blocks = _declared('pdbmerge_blocks', *_bytes, *_words, _size, _fault)
 check = _declared('pdbmerge_check', *_bytes, c.POINTER(Counts), _fault)
-merge = _declared(
-    'pdbmerge_merge', c.POINTER(Slice), c.c_size_t, c.POINTER(Settings), *_bytes, c.POINTER(Report), _fault
-)
-merge_map = _declared(
-    'pdbmerge_merge_map',
-    c.POINTER(Slice),
-    c.c_size_t,
-    c.POINTER(Settings),
-    *_bytes,
-    *_words,
-    *_words,
-    c.POINTER(Report),
-    _size,
-    _fault,
+_merging = (c.POINTER(Slice), c.c_size_t, c.POINTER(Settings), *_bytes)
+merge = _declared('pdbmerge_merge', *_merging, c.POINTER(Report), _fault)
+merge_by_types = _declared('pdbmerge_merge_by_types', *_merging, c.POINTER(Report), _fault)
+merge_map = _declared('pdbmerge_merge_map', *_merging, *_words, *_words, c.POINTER(Report), _size, _fault)
+guid_of_types = _declared(
+    'pdbmerge_guid_of_types', c.POINTER(Slice), c.c_size_t, c.POINTER(Seed), c.POINTER(Guid), _fault
 )
 stream = _declared('pdbmerge_stream', *_bytes, c.c_uint32, *_bytes, _size, _fault)
 named_streams = _declared('pdbmerge_named_streams', *_bytes, *_words, _size, _fault)
@@ -147,6 +144,9 @@ records = _declared('pdbmerge_records', *_bytes, _size, c.c_size_t, _size, _faul
 record = _declared('pdbmerge_record', *_bytes, c.c_uint32, _size, _fault)
 references = _declared(
     'pdbmerge_references', *_bytes, c.c_uint32, c.POINTER(Reference), c.c_size_t, _size, _fault
+)
+all_references = _declared(
+    'pdbmerge_all_references', *_bytes, c.POINTER(Reference), c.c_size_t, *_words, _size, _size, _fault
 )
 name = _declared('pdbmerge_name', *_bytes, c.c_uint32, *_bytes, _size, _fault)
 diff = _declared(

@@ -18,6 +18,7 @@ STRUCTS = [
     ('pdbmerge_counts', _library.Counts),
     ('pdbmerge_settings', _library.Settings),
     ('pdbmerge_report', _library.Report),
+    ('pdbmerge_guid', _library.Guid),
     ('pdbmerge_reference', _library.Reference),
     ('pdbmerge_difference', _library.Difference),
 ]

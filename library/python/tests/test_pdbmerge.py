@@ -571,12 +571,14 @@ class Buffers(Checks):
             self.hold(f'check {what}', pdbmerge.check(file), counts)
             self.hold(f'identify {what}', pdbmerge.identify(file), pdbmerge.identify(want))
             self.hold(f'merge {what}', merged([file, file]), merged([want]))
+            self.hold(f'GUID of types {what}', pdbmerge.guid_of_types([file]), pdbmerge.guid_of_types([want]))
             self.hold(f'layout {what}', pdbmerge.layout(file), pdbmerge.layout(want))
             self.hold(f'stream {what}', pdbmerge.stream(file, 2), pdbmerge.stream(want, 2))
             self.hold(f'named streams {what}', pdbmerge.named_streams(file), pdbmerge.named_streams(want))
             self.hold(f'features {what}', pdbmerge.features(file), pdbmerge.features(want))
             self.hold(f'record {what}', pdbmerge.record(file, 0x1007), pdbmerge.record(want, 0x1007))
             self.hold(f'types {what}', len(list(pdbmerge.types(file))), 96)
+            self.hold(f'references {what}', len(pdbmerge.references(file)), 96)
             self.hold(f'diff {what}', pdbmerge.diff(file, want), [])
             self.hold(f'members {what}', pdbmerge.members(file), pdbmerge.members(want))
             self.hold(f'changes {what}', pdbmerge.changes(file, want), [])
@@ -589,7 +591,7 @@ class Buffers(Checks):
             what = type(file).__name__
             sound = content('sample.pdb')
             for call in pdbmerge.identify, pdbmerge.layout, pdbmerge.check, pdbmerge.named_streams, \
-                    pdbmerge.features, pdbmerge.records, pdbmerge.types, pdbmerge.members:
+                    pdbmerge.features, pdbmerge.records, pdbmerge.references, pdbmerge.types, pdbmerge.members:
                 self.refuses(f'{call.__name__} {what}', pdbmerge.PdbError, 1, None, call, file)
             for call in pdbmerge.stream, pdbmerge.record:
                 self.refuses(f'{call.__name__} {what}', pdbmerge.PdbError, 1, None, call, file, 2)
@@ -624,6 +626,11 @@ class Faults(Checks):
                 ('block_size', 4097), ('block_size', 65536), ('block_size', 2**32 + 4096):
             self.refuses(f'{name} {number}', pdbmerge.SettingsError, 101, None, merged, [b''], **{name: number})
         self.assertTrue(issubclass(pdbmerge.SettingsError, ValueError))
+        for settings, text in ({'limit': 2**30 + 1}, 'limit 1073741825'), ({'block_size': 100}, 'block_size 100'), \
+                ({'block_size': 0, 'limit': 2**32 - 1}, 'limit 4294967295'):
+            with self.assertRaises(pdbmerge.SettingsError) as caught:
+                merged([b''], **settings)
+            self.hold(text, str(caught.exception), f'101 Settings {text}')
 
     def test_words(self):
         sample = content('sample.pdb')
@@ -714,6 +721,32 @@ class Room(Checks):
         record = pdbmerge.Record(0x1000, memoryview(arguments))
         self.hold('count', record.references(), [pdbmerge.Reference(4 + 4 * n, 0x74) for n in range(41)])
 
+    def test_all_references(self):
+        files = [content(name) for name in ('inherit.pdb', 'memptr.pdb', 'faults/31-ref.pdb')]
+        # A list of many arguments has more references than the room holds at first, and a label has none.
+        arguments = bytes.fromhex('aa000112') + small_files.words(41, *[0x74] * 41)
+        label = bytes.fromhex('06000e00 00000000')
+        for file in [*files, small_files.written([arguments, label, arguments]), small_files.written([])]:
+            named = pdbmerge.references(file)
+            want = [each.references() for each in pdbmerge.records(file)]
+            self.hold('each', list(named), want)
+            self.hold('the arrays', (list(named.places), list(named.indices)),
+                      ([each.place for one in want for each in one], [each.index for one in want for each in one]))
+            self.hold('how many', (len(named), len(named.places)), (len(want), sum(map(len, want))))
+            self.hold('a part', (named[-2:], named[::2]), (want[-2:], want[::2]))
+            self.hold('pickled', list(pickle.loads(pickle.dumps(named))), want)
+        with self.assertRaises(IndexError):
+            pdbmerge.references(files[0])[2**20]
+        with mock.patch.object(pdbmerge, '_RECORD', 2**20):
+            self.hold('little room', list(pdbmerge.references(files[0])), list(pdbmerge.references(files[0])[:]))
+
+    def test_faults_of_references(self):
+        for what, [file], _, status, answer in rows('faults'):
+            if what.startswith('types ') and status == 1:
+                with self.assertRaises(pdbmerge.PdbError) as caught:
+                    pdbmerge.references(file)
+                self.hold(what, f'pdbmerge: {caught.exception}', answer)
+
     def test_name(self):
         # A structure: no members, no property, three indices, a size of 0, its name.
         body = bytes.fromhex('0515 0000 0000') + small_files.words(0, 0, 0) + bytes(2) + b'n' * 1001 + b'\0'
@@ -742,6 +775,39 @@ class Room(Checks):
         want = merged(files)
         with mock.patch.object(pdbmerge, '_room', return_value=0):
             self.hold('merge', merged(files), want)
+
+
+class ByTypes(Checks):
+    """Merges whose GUID is made of their types."""
+
+    def guid_of(self, file):
+        """The GUID that hashlib makes of the records of a merged file."""
+        records = b''.join(each.data for each in pdbmerge.records(file))
+        digest = bytearray(hashlib.sha256(records).digest()[:16])
+        digest[6], digest[8] = 0x80 | digest[6] & 0x0F, 0x80 | digest[8] & 0x3F
+        return uuid.UUID(bytes=bytes(digest))
+
+    def test_guid(self):
+        one, other = map(content, PAIR)
+        for files in [one], [one, other], [other, one, one], [merged([one, other]).file], []:
+            made = merged(files, guid='types')
+            guid = self.guid_of(made.file)
+            self.hold('GUID of the file', pdbmerge.identify(made.file).guid, guid)
+            self.hold('GUID alone', pdbmerge.guid_of_types(iter(files)), guid)
+            self.hold('a merge with it', merged(files, guid=guid), made)
+            with_maps = merged(iter(files), guid='types', maps=True)
+            self.hold('a merge with maps', with_maps, merged(files, guid=guid, maps=True))
+            self.hold('its file', with_maps.file, made.file)
+        self.hold('no types', str(pdbmerge.guid_of_types([])), 'e3b0c442-98fc-8c14-9afb-f4c8996fb924')
+
+    def test_refusals(self):
+        one, magic = content('sample.pdb'), content('faults/02-magic.pdb')
+        self.refuses('GUID', pdbmerge.PdbError, 2, 1, pdbmerge.guid_of_types, [one, magic])
+        for maps in False, True:
+            self.refuses('file', pdbmerge.PdbError, 2, 1, merged, [one, magic], guid='types', maps=maps)
+            self.refuses('limit', pdbmerge.PdbError, 32, 0, merged, [one], guid='types', limit=23, maps=maps)
+            self.refuses('settings', pdbmerge.SettingsError, 101, None, merged, [one], guid='types', block_size=1,
+                         maps=maps)
 
 
 class Merges(Checks):

@@ -14,7 +14,7 @@ const [folder, ...names] = process.argv.slice(2);
 const { PdbError, Pdbmerge } = await import(pathToFileURL(resolve(folder, 'pdbmerge.mjs')));
 const [small, first, second] = names.map(name => new Uint8Array(readFileSync(name)));
 const bytes = readFileSync(resolve(folder, 'pdbmerge.wasm'));
-const settings = { guid: new Uint8Array(16), age: 1 };
+const settings = { guid: new Uint8Array(16), age: 1 }, byTypes = { guid: 'types', age: 1 };
 const CALLS = {
   identify: pdb => pdb.identify(first),
   layout: pdb => pdb.layout(first),
@@ -26,11 +26,14 @@ const CALLS = {
   records: pdb => Array.from(pdb.records(first), String),
   names: pdb => pdb.records(first).names(),
   record: pdb => String(pdb.record(first, 0x1000)),
+  allReferences: pdb => pdb.allReferences(first),
   members: pdb => pdb.members(first),
   diff: pdb => pdb.diff(first, second),
   changes: pdb => pdb.changes(first, second),
   merge: pdb => pdb.merge([first, second], settings),
   mergeWithMaps: pdb => pdb.mergeWithMaps([first, second], settings),
+  mergeByTypes: pdb => pdb.merge([first, second], byTypes),
+  guidOfTypes: pdb => pdb.guidOfTypes([first, second]),
 };
 
 const [least, limited] = limitable(bytes);

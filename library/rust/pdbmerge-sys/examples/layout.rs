@@ -30,6 +30,7 @@ fn main() {
     show!(pdbmerge_counts: records bytes levels);
     show!(pdbmerge_settings: guid age limit block_size seed);
     show!(pdbmerge_report: length types bytes);
+    show!(pdbmerge_guid: bytes);
     show!(pdbmerge_reference: place index);
     show!(pdbmerge_difference: input index origin);
 }

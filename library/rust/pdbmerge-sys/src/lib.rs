@@ -15,7 +15,7 @@ pub const PDBMERGE_TOO_LARGE: u32 = 32;
 pub const PDBMERGE_MEMORY: u32 = 33;
 /// There is too little room; the call says how much it takes.
 pub const PDBMERGE_ROOM: u32 = 100;
-/// The limit or the block size is none that a file can have.
+/// The limit or the block size is none that a file can have; the text says which.
 pub const PDBMERGE_SETTINGS: u32 = 101;
 
 /// The input of a fault that names none.
@@ -123,6 +123,14 @@ pub struct pdbmerge_report {
     pub bytes: u32,
 }
 
+/// A GUID.
+#[repr(C)]
+#[derive(Clone, Copy, Debug, Default)]
+pub struct pdbmerge_guid {
+    /// Its bytes, in the order in which they are printed.
+    pub bytes: [u8; 16],
+}
+
 /// A type that a record names.
 #[repr(C)]
 #[derive(Clone, Copy, Debug, Default)]
@@ -155,6 +163,7 @@ const _: () = {
     assert!(size_of::<pdbmerge_counts>() == 12);
     assert!(size_of::<pdbmerge_settings>() == 44);
     assert!(size_of::<pdbmerge_report>() == 16);
+    assert!(size_of::<pdbmerge_guid>() == 16);
     assert!(size_of::<pdbmerge_reference>() == 8);
     assert!(size_of::<pdbmerge_difference>() == 12);
 };
@@ -226,6 +235,26 @@ extern "C" {
         fault: *mut pdbmerge_fault,
     ) -> u32;
 
+    /// Merges, and makes the GUID of the file of its types.
+    pub fn pdbmerge_merge_by_types(
+        files: *const pdbmerge_slice,
+        count: usize,
+        settings: *const pdbmerge_settings,
+        out: *mut u8,
+        room: usize,
+        report: *mut pdbmerge_report,
+        fault: *mut pdbmerge_fault,
+    ) -> u32;
+
+    /// Makes the GUID of the types of all files.
+    pub fn pdbmerge_guid_of_types(
+        files: *const pdbmerge_slice,
+        count: usize,
+        seed: *const pdbmerge_seed,
+        guid: *mut pdbmerge_guid,
+        fault: *mut pdbmerge_fault,
+    ) -> u32;
+
     /// Copies a stream of a file.
     pub fn pdbmerge_stream(
         file: *const u8,
@@ -294,6 +323,19 @@ extern "C" {
         references: *mut pdbmerge_reference,
         room: usize,
         count: *mut u64,
+        fault: *mut pdbmerge_fault,
+    ) -> u32;
+
+    /// Lists the types that all records name.
+    pub fn pdbmerge_all_references(
+        stream: *const u8,
+        length: usize,
+        references: *mut pdbmerge_reference,
+        room: usize,
+        counts: *mut u32,
+        count_room: usize,
+        total: *mut u64,
+        records: *mut u64,
         fault: *mut pdbmerge_fault,
     ) -> u32;
 

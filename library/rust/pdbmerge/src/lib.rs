@@ -35,6 +35,7 @@ mod info;
 mod layout;
 mod maps;
 mod record;
+mod references;
 mod settings;
 
 use alloc::vec::Vec;
@@ -54,6 +55,7 @@ pub use layout::{layout, Layout, Stream};
 pub use maps::merge_with_maps;
 pub use maps::merge_with_maps_and_seed;
 pub use record::{records, types, Iter, Record, Records, Reference};
+pub use references::{references, References};
 pub use settings::{Seed, Settings};
 
 /// What identifies a file. A symbol server matches on the GUID and the age.
@@ -147,6 +149,67 @@ pub fn merge_with_seed<T: AsRef<[u8]>>(
     settings: &Settings,
     seed: Seed,
 ) -> Result<Merged, Error> {
+    // SAFETY: this is a call of the library.
+    unsafe { merged(sys::pdbmerge_merge, files, settings, seed) }
+}
+
+/// As `merge`, but the GUID is that of [`guid_of_types_with_seed`], and that of the settings is not used.
+/// So the same types give the same file without a GUID to choose.
+#[cfg(feature = "std")]
+pub fn merge_by_types<T: AsRef<[u8]>>(files: &[T], settings: &Settings) -> Result<Merged, Error> {
+    merge_by_types_with_seed(files, settings, Seed::random())
+}
+
+/// As `merge_by_types`, with a seed of the caller.
+pub fn merge_by_types_with_seed<T: AsRef<[u8]>>(
+    files: &[T],
+    settings: &Settings,
+    seed: Seed,
+) -> Result<Merged, Error> {
+    // SAFETY: this is a call of the library.
+    unsafe { merged(sys::pdbmerge_merge_by_types, files, settings, seed) }
+}
+
+/// The GUID that is made of the types of all files, in the order in which it is printed. The same types
+/// give the same GUID. No file is made.
+#[cfg(feature = "std")]
+pub fn guid_of_types<T: AsRef<[u8]>>(files: &[T]) -> Result<[u8; 16], Error> {
+    guid_of_types_with_seed(files, Seed::random())
+}
+
+/// As `guid_of_types`, with a seed of the caller.
+pub fn guid_of_types_with_seed<T: AsRef<[u8]>>(files: &[T], seed: Seed) -> Result<[u8; 16], Error> {
+    let slices: Vec<_> = files.iter().map(|file| lent(file.as_ref())).collect();
+    let (mut guid, mut fault) = (sys::pdbmerge_guid::default(), no_fault());
+    let (bytes, count, seed) = (slices.as_ptr(), slices.len(), seed.lent());
+    // SAFETY: each file is as long as said, and `files` lends them until the call has returned.
+    let status = unsafe { sys::pdbmerge_guid_of_types(bytes, count, &seed, &mut guid, &mut fault) };
+    done(status, &fault)?;
+    Ok(guid.bytes)
+}
+
+/// A call that merges.
+type Merges = unsafe extern "C" fn(
+    *const sys::pdbmerge_slice,
+    usize,
+    *const sys::pdbmerge_settings,
+    *mut u8,
+    usize,
+    *mut sys::pdbmerge_report,
+    *mut sys::pdbmerge_fault,
+) -> u32;
+
+/// What a call merges of files.
+///
+/// # Safety
+///
+/// `call` is a call of the library.
+unsafe fn merged<T: AsRef<[u8]>>(
+    call: Merges,
+    files: &[T],
+    settings: &Settings,
+    seed: Seed,
+) -> Result<Merged, Error> {
     let slices: Vec<_> = files.iter().map(|file| lent(file.as_ref())).collect();
     let settings = settings.lent(seed);
     let mut report = sys::pdbmerge_report::default();
@@ -154,8 +217,7 @@ pub fn merge_with_seed<T: AsRef<[u8]>>(
     let mut file = unsafe {
         written(room(&slices, settings.limit), |out, room, length, fault| {
             let (bytes, count) = (slices.as_ptr(), slices.len());
-            let status =
-                sys::pdbmerge_merge(bytes, count, &settings, out, room, &mut report, fault);
+            let status = call(bytes, count, &settings, out, room, &mut report, fault);
             *length = report.length;
             status
         })?

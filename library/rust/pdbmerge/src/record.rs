@@ -8,9 +8,9 @@ use crate::call::{done, listed, no_fault, written};
 use crate::{check, stream, Error};
 
 /// The stream that holds the type records.
-const TYPES: u32 = 2;
+pub(crate) const TYPES: u32 = 2;
 /// The type index of the first record.
-const FIRST: u32 = 0x1000;
+pub(crate) const FIRST: u32 = 0x1000;
 
 /// The type records of a file.
 #[derive(Clone, Debug)]
@@ -132,6 +132,15 @@ pub struct Reference {
     pub index: u32,
 }
 
+impl Reference {
+    pub(crate) fn of(found: sys::pdbmerge_reference) -> Self {
+        Reference {
+            place: found.place,
+            index: found.index,
+        }
+    }
+}
+
 impl<'a> Record<'a> {
     /// The record at the front of some bytes, and the type index that it has. There is none where the
     /// bytes are fewer than its length says, or the length leaves no room for its kind.
@@ -166,13 +175,7 @@ impl<'a> Record<'a> {
                 sys::pdbmerge_references(bytes, length, self.index, out, room, count, fault)
             })?
         };
-        Ok(named
-            .iter()
-            .map(|each| Reference {
-                place: each.place,
-                index: each.index,
-            })
-            .collect())
+        Ok(named.into_iter().map(Reference::of).collect())
     }
 
     /// The name of the type; `None` where there is none, or none that can be read.

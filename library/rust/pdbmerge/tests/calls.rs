@@ -9,8 +9,9 @@ use std::thread;
 use common::{content, root, settings};
 use container::{container, words, BLOCK};
 use pdbmerge::{
-    changes, changes_with_seed, check, diff, features, identify, layout, members, members_named,
-    merge, merge_with_maps, merge_with_maps_and_seed, merge_with_seed, named_streams, records,
+    changes, changes_with_seed, check, diff, features, guid_of_types, guid_of_types_with_seed,
+    identify, layout, members, members_named, merge, merge_by_types, merge_by_types_with_seed,
+    merge_with_maps, merge_with_maps_and_seed, merge_with_seed, named_streams, records, references,
     stream, types, version, Change, Definition, DefinitionKind, Error, ErrorKind, Layout, Member,
     NamedStream, Record, Reference, Seed, Settings,
 };
@@ -40,6 +41,7 @@ fn no_bytes_are_refused() {
     assert_eq!(refusal(named_streams(b"")), short);
     assert_eq!(refusal(features(b"")), short);
     assert_eq!(refusal(records(b"")), short);
+    assert_eq!(refusal(references(b"")), short);
     assert_eq!(refusal(types(b"")), short);
     assert_eq!(refusal(members(b"")), short);
     assert_eq!(refusal(members_named(b"", b"")), short);
@@ -77,6 +79,41 @@ fn settings_are_checked_first() {
         let refused = refusal(merge(&[b""], &settings));
         assert_eq!(refused, (101, None, ErrorKind::Settings), "{settings:?}");
     }
+    let texts = [
+        "limit 1073741825",
+        "block_size 0",
+        "block_size 4097",
+        "block_size 65536",
+    ];
+    for (settings, text) in wrong.iter().zip(texts) {
+        for refused in [merge(&[b""], settings), merge_by_types(&[b""], settings)] {
+            let error = refused.expect_err("a refusal");
+            assert_eq!(error.to_string(), format!("101 Settings {text}"));
+        }
+    }
+}
+
+#[test]
+fn types_choose_the_guid() {
+    let (one, other) = (content("chain-200.1.pdb"), content("chain-200.2.pdb"));
+    let made = merge_by_types(&[&one, &other], &settings()).expect("a merge");
+    let guid = guid_of_types(&[&other, &one, &one]).expect("a GUID");
+    assert_eq!(identify(&made.file).map(|identity| identity.guid), Ok(guid));
+    let given = Settings { guid, ..settings() };
+    assert_eq!(merge(&[&one, &other], &given).as_ref(), Ok(&made));
+    let seed = Seed([7; 16]);
+    let seeded = merge_by_types_with_seed(&[&other, &one], &settings(), seed);
+    assert_eq!(seeded, Ok(made));
+    assert_eq!(guid_of_types_with_seed(&[&one, &other], seed), Ok(guid));
+    // The first bytes of the SHA-256 of no bytes, with the version 8 and the variant.
+    let nothing = 0xe3b0_c442_98fc_8c14_9afb_f4c8_996f_b924_u128;
+    assert_eq!(guid_of_types::<&[u8]>(&[]), Ok(nothing.to_be_bytes()));
+    let refused = (1, Some(1), ErrorKind::Refused);
+    assert_eq!(refusal(guid_of_types(&[&one[..], b""])), refused);
+    assert_eq!(
+        refusal(merge_by_types(&[&one[..], b""], &settings())),
+        refused
+    );
 }
 
 #[test]
@@ -292,6 +329,45 @@ fn many_references_fit() {
         .collect();
     assert_eq!(record.references(), Ok(want));
     assert_eq!((record.kind(), record.name()), (0x1201, Ok(None)));
+}
+
+#[test]
+fn all_references_are_those_of_each_record() {
+    for name in [
+        "inherit.pdb",
+        "memptr.pdb",
+        "faults/31-ref.pdb",
+        "nodebug.pdb",
+    ] {
+        let file = content(name);
+        let (named, records) = (references(&file), records(&file).expect("records"));
+        let named = named.expect("references");
+        assert_eq!(
+            (named.len(), named.is_empty()),
+            (records.len(), records.is_empty())
+        );
+        let wanted: Vec<_> = records.iter().map(|record| record.references()).collect();
+        let found: Vec<_> = named.iter().map(|own| Ok(own.to_vec())).collect();
+        assert_eq!(found, wanted, "{name}");
+        for (record, own) in records.iter().zip(named.iter()) {
+            assert_eq!(named.get(record.index()), Some(own));
+        }
+        assert_eq!(named.all(), named.iter().collect::<Vec<_>>().concat());
+        for index in [0, 0xfff, 0x1000 + records.len() as u32, u32::MAX] {
+            assert_eq!(named.get(index), None);
+        }
+    }
+    // Arguments have more references than the room holds at first.
+    let arguments = record(0x1201, &words(&[&[41][..], &[0x74; 41]].concat()));
+    let named = references(&file_of_records(&[arguments.clone(), arguments])).expect("references");
+    assert_eq!(named.iter().map(<[_]>::len).collect::<Vec<_>>(), [41, 41]);
+    // The number is that of examples/faults/EXPECTED.tsv.
+    let refused = references(&content("faults/25-leaf.pdb")).expect_err("a refusal");
+    assert_eq!(refused.number(), 25);
+    assert!(
+        refused.to_string().starts_with("index 0x1000: 25 Leaf"),
+        "{refused}"
+    );
 }
 
 #[test]
