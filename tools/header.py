@@ -6,7 +6,7 @@ HEADER = ROOT / 'include' / 'pdbmerge.h'
 
 
 def version():
-    """The version, as 0.1.0."""
+    """The version, as 0.2.0."""
     number = int(re.search(r'#define PDBMERGE_VERSION (0x[0-9a-fA-F]+)', HEADER.read_text())[1], 16)
     return '.'.join(map(str, number.to_bytes(3, 'big')))
 
