@@ -12,7 +12,20 @@
 
 /* ---- Errors */
 
-enum { LINUX_EIO = 5 };
+/* Linux's numbers of those errors that the program tells from others, or has words for. */
+enum {
+    LINUX_ENOENT = 2,
+    LINUX_EIO = 5,
+    LINUX_EACCES = 13,
+    LINUX_EEXIST = 17,
+    LINUX_ENOTDIR = 20,
+    LINUX_EISDIR = 21,
+    LINUX_ENOSPC = 28,
+    LINUX_EROFS = 30,
+    LINUX_EPIPE = 32,
+    LINUX_ENAMETOOLONG = 36,
+    LINUX_ENOSYS = 38
+};
 
 static int last_error;
 
@@ -24,10 +37,38 @@ void rattle_set_errno(int error) {
     last_error = error;
 }
 
-/* The program tells no error from another, but for EINTR, at which it tries again. Windows has no such error. */
-static int fail(void) {
-    last_error = LINUX_EIO;
+/* Linux's number for an error of Windows. No error is EINTR, at which the program would try again. */
+static int linux_error(DWORD error) {
+    switch (error) {
+        case ERROR_FILE_NOT_FOUND:
+        case ERROR_PATH_NOT_FOUND:
+        case ERROR_INVALID_DRIVE:
+        case ERROR_BAD_NETPATH:
+        case ERROR_BAD_NET_NAME: return LINUX_ENOENT;
+        case ERROR_ACCESS_DENIED:
+        case ERROR_SHARING_VIOLATION:
+        case ERROR_LOCK_VIOLATION: return LINUX_EACCES;
+        case ERROR_FILE_EXISTS:
+        case ERROR_ALREADY_EXISTS: return LINUX_EEXIST;
+        case ERROR_DIRECTORY: return LINUX_ENOTDIR;
+        case ERROR_DISK_FULL:
+        case ERROR_HANDLE_DISK_FULL: return LINUX_ENOSPC;
+        case ERROR_WRITE_PROTECT: return LINUX_EROFS;
+        case ERROR_BROKEN_PIPE:
+        case ERROR_NO_DATA: return LINUX_EPIPE;
+        case ERROR_FILENAME_EXCED_RANGE: return LINUX_ENAMETOOLONG;
+        default: return LINUX_EIO;
+    }
+}
+
+static int fail_with(int error) {
+    last_error = error;
     return -1;
+}
+
+/* Fails with what Windows said last. */
+static int fail(void) {
+    return fail_with(linux_error(GetLastError()));
 }
 
 /* ---- Arguments */
@@ -89,13 +130,13 @@ static int numbered(HANDLE handle) {
             return number;
         }
     CloseHandle(handle);
-    return fail();
+    return fail_with(LINUX_EIO);
 }
 
 int close(int number) {
     HANDLE handle = handle_of(number);
     if (handle == NULL)
-        return fail();
+        return fail_with(LINUX_EIO);
     files[number] = NULL;
     return CloseHandle(handle) ? 0 : fail();
 }
@@ -202,8 +243,8 @@ static int describe(HANDLE handle, statx_answer *to) {
 
 /* ---- Files */
 
-/* The two sets of flags with which the program opens a file. */
-enum { TO_READ = 0x80100, TO_OVERWRITE = 0x80341 };
+/* The sets of flags with which the program opens a file. */
+enum { TO_READ = 0x80100, TO_OVERWRITE = 0x80341, TO_CREATE = 0x801c2 };
 
 /* Opens a file, or a folder to read it, and locks nobody out. */
 static HANDLE opened(const char *name, DWORD access, DWORD creation) {
@@ -234,8 +275,12 @@ static HANDLE opened_again(HANDLE stream, int is_written) {
 
 int open(const char *name, int flags, ...) {
     int standard = standard_of(name), is_written = flags == TO_OVERWRITE;
+    if (flags == TO_CREATE)
+        return standard >= 0 || strcmp(name, "/dev/null") == 0
+                   ? fail_with(LINUX_EEXIST)
+                   : numbered(opened(name, GENERIC_WRITE, CREATE_NEW));
     if (flags != TO_READ && !is_written)
-        return fail();
+        return fail_with(LINUX_EIO);
     if (standard >= 0)
         return numbered(opened_again(files[standard], is_written));
     return numbered(is_written ? opened(name, GENERIC_WRITE, CREATE_ALWAYS)
@@ -254,7 +299,10 @@ int64_t read(int number, uint8_t *to, size_t room) {
     if (ReadFile(handle, to, piece(handle, room), &count, NULL))
         return count;
     /* A pipe that nobody writes any more has ended. */
-    return GetLastError() == ERROR_BROKEN_PIPE ? 0 : fail();
+    if (GetLastError() == ERROR_BROKEN_PIPE)
+        return 0;
+    statx_answer is;
+    return describe(handle, &is) == 0 && is.mode == A_FOLDER ? fail_with(LINUX_EISDIR) : fail();
 }
 
 int64_t write(int number, const uint8_t *from, size_t length) {
@@ -292,6 +340,67 @@ int statx(int number, const char *name, int flags, unsigned mask, statx_answer *
     int answer = describe(handle, to);
     CloseHandle(handle);
     return answer;
+}
+
+/* ---- Files that take the places of others */
+
+/* Rights of a file are those of its folder and, where it replaces one, of that one. What the program asks for is what
+ * `statx` told, and that has none. */
+int fchmod(int number, unsigned mode) {
+    (void)number, (void)mode;
+    return 0;
+}
+
+int chown(const char *name, unsigned user, unsigned group) {
+    (void)name, (void)user, (void)group;
+    return fail_with(LINUX_ENOSYS);
+}
+
+/* The whole path of a file that is there, with slashes, so that the program finds its folder. */
+char *realpath(const char *name, char *to) {
+    static wchar_t whole[MOST_WHOLE];
+    HANDLE handle = opened(name, 0, OPEN_EXISTING);
+    DWORD count = handle == INVALID_HANDLE_VALUE ? 0 : GetFinalPathNameByHandleW(handle, whole, MOST_WHOLE, 0);
+    int error = linux_error(GetLastError());
+    if (handle != INVALID_HANDLE_VALUE)
+        CloseHandle(handle);
+    wchar_t *from = whole;
+    if (count == 0 || count >= MOST_WHOLE) {
+        fail_with(count == 0 ? error : LINUX_ENAMETOOLONG);
+        return NULL;
+    }
+    if (wcsncmp(from, L"\\\\?\\UNC\\", 8) == 0)
+        *(from += 6) = L'\\';
+    else if (wcsncmp(from, L"\\\\?\\", 4) == 0)
+        from += 4;
+    for (wchar_t *at = from; *at != 0; at++)
+        if (*at == L'\\')
+            *at = L'/';
+    if (WideCharToMultiByte(CP_UTF8, 0, from, -1, to, MOST_GIVEN, NULL, NULL) == 0) {
+        fail_with(LINUX_ENAMETOOLONG);
+        return NULL;
+    }
+    return to;
+}
+
+/* A file that is replaced gives its rights to the one that takes its place. */
+int rename(const char *from, const char *to) {
+    static wchar_t old[MARK + MOST_WHOLE];
+    const wchar_t *wide = widened(from);
+    if (wide == NULL || wcslen(wide) >= MARK + MOST_WHOLE)
+        return fail_with(LINUX_ENAMETOOLONG);
+    wcscpy(old, wide);
+    wide = widened(to);
+    if (wide == NULL)
+        return fail_with(LINUX_ENAMETOOLONG);
+    if (ReplaceFileW(wide, old, NULL, REPLACEFILE_IGNORE_MERGE_ERRORS, NULL, NULL))
+        return 0;
+    return MoveFileExW(old, wide, MOVEFILE_REPLACE_EXISTING | MOVEFILE_WRITE_THROUGH) ? 0 : fail();
+}
+
+int unlink(const char *name) {
+    const wchar_t *wide = widened(name);
+    return wide != NULL && DeleteFileW(wide) ? 0 : fail();
 }
 
 /* ---- Random bytes, the clock, signals */
