@@ -24,16 +24,16 @@ const NO_CLOBBER: &str = "no-clobber";
 const EXPLAIN_NAME: &str = "explain";
 
 /// What `merge` does.
-const MERGE: &str = "Merges the types of files into one: the same types give the same bytes";
+const MERGE: &str = "Merges the types of files: the same types give the same bytes";
 
 /// What `diff` does.
-const DIFF: &str = "Shows types that only one file has: A's own after '- ', B's after '+ '";
+const DIFF: &str = "Shows types that only one file has: A's after '- ', B's after '+ '";
 
 /// The name of the command that shows definitions.
 const MEMBERS_NAME: &str = "members";
 
 /// What `members` does.
-const MEMBERS: &str = "Shows classes, structures, unions and enumerations, with their members";
+const MEMBERS: &str = "Shows structures, unions and enumerations, with their members";
 
 /// What `explain` does.
 const EXPLAIN: &str = "Shows what a fault means, what makes it, and what to do";
@@ -96,7 +96,7 @@ static SUBCOMMANDS: [Kind; 10] = [
     }),
     Kind::Show(ShownCommand {
         name: "types",
-        about: "Shows each type record: its leaf, size, the types that it names, its name",
+        about: "Shows each type record: leaf, size, the types that it names, name",
         what: What::Whole(Shown::Types),
     }),
     Kind::Show(ShownCommand {
@@ -174,7 +174,7 @@ static OF_MERGE: [Choice; 12] = [
         name: "limit",
         short: None,
         value: Some("L"),
-        help: "The most bytes of all types together; the default, and{n}the greatest, is 1073741824",
+        help: "The most bytes of all types together; the default,{n}and the greatest, is 1073741824",
         is_required: false,
     },
     Choice {
@@ -235,7 +235,7 @@ static REPLACE: Choice = Choice {
     name: "replace",
     short: None,
     value: None,
-    help: "Writes OUT and MAP under names of their own, which take{n}their places at the end: a refusal leaves the old",
+    help: "Writes OUT and MAP under other names, which take{n}their places at the end: a refusal leaves the old",
     is_required: false,
 };
 
@@ -270,7 +270,7 @@ const STATUSES: &str =
 
 /// More on the options of `merge`, and the exit statuses, at the end of its help text.
 const MERGE_STATUSES: &str = "OUT comes first: an OUT that is there is written over.\n\
-    With --guid types the GUID is made of the types: the same types give the same one.\n\n\
+    With --guid types the GUID is made of the types.\n\n\
     Exit status: 0 done; 4 done, and an IN was left out; 1 refused, with one line on\n\
     standard error that begins with 'pdbmerge: ' and the fault's number and name; 2\n\
     the arguments are wrong.";
@@ -279,17 +279,16 @@ const MERGE_STATUSES: &str = "OUT comes first: an OUT that is there is written o
 const DIFF_STATUSES: &str =
     "With --members, files with the same structures, unions and enumerations have no\n\
     difference.\n\n\
-    Exit status: 0 the files have the same types; 3 they differ; 1 refused, with one\n\
-    line on standard error that begins with 'pdbmerge: ' and the fault's number and\n\
-    name; 2 the arguments are wrong.";
+    Exit status: 0 the files have the same types; 3 they differ; 1 refused, with\n\
+    one line on standard error that begins with 'pdbmerge: ' and the fault's number\n\
+    and name; 2 the arguments are wrong.";
 
 /// More on the arguments of `members`, and the exit statuses, at the end of its help text.
 const MEMBERS_STATUSES: &str =
-    "A declaration is shown only where a NAME asks for it, and no definition has that\n\
-    name.\n\n\
-    Exit status: 0 done; 3 no type has a NAME, as standard error says; 1 refused, with\n\
-    one line on standard error that begins with 'pdbmerge: ' and the fault's number\n\
-    and name; 2 the arguments are wrong.";
+    "A declaration is shown only where a NAME asks for it, and no definition has it.\n\n\
+    Exit status: 0 done; 3 no type has a NAME, as standard error says; 1 refused,\n\
+    with one line on standard error that begins with 'pdbmerge: ' and the fault's\n\
+    number and name; 2 the arguments are wrong.";
 
 // Commands and arguments are large values. Each is made by a function of its own, one at a time, so
 // that the stack has few of them.

@@ -6,6 +6,7 @@ use pdb_commands::{RunFault, write_maps};
 use pdb_merge::TypeMaps;
 use program_files::{Making, MapFault, NewFile, Place, ProgramFault, Said};
 use std::fs;
+use std::io::{Error, ErrorKind};
 use std::rt::HostRuntime;
 
 /// Whether a file is that of the merge, one of its inputs, or the list of them.
@@ -26,12 +27,15 @@ fn is_out(rt: &HostRuntime, map: &str, task: &Merging) -> bool {
 
 /// Refuses a file for the maps that the merge reads or writes: it would be spoilt. So would one that is
 /// there, where nothing may be written over.
-pub fn refuse_taken(rt: &HostRuntime, task: &Merging) -> Result<(), MapFault> {
+pub fn refuse_taken(rt: &HostRuntime, task: &Merging, said: &Said) -> Result<(), MapFault> {
     let Some(path) = &task.map else {
         return Ok(());
     };
-    let is_there = task.making == Making::New && fs::symlink_metadata(rt, path.as_str()).is_ok();
-    if is_there || is_taken(rt, task, &FileId::of(rt, path.as_str())) {
+    if task.making == Making::New && fs::symlink_metadata(rt, path.as_str()).is_ok() {
+        said.keep(Place::Map, &Error::from(ErrorKind::AlreadyExists));
+        return Err(MapFault::Create);
+    }
+    if is_taken(rt, task, &FileId::of(rt, path.as_str())) {
         return Err(MapFault::Create);
     }
     Ok(())

@@ -231,7 +231,7 @@ pub fn merge(
     said: &Said,
     is_verbose: bool,
 ) -> Result<ExitCode, ProgramFault> {
-    refuse_taken(rt, task)?;
+    refuse_taken(rt, task, said)?;
     let taken = TakenStreams::of(rt, task);
     // Nothing can take the place of a stream.
     if task.making == Making::Replace && taken.is_out {
