@@ -73,6 +73,7 @@ test:
 	tests/inputs
 	tests/guid
 	tests/maps
+	tests/outputs
 	tests/difference
 	tests/members
 	tests/changes

@@ -299,12 +299,24 @@ def quoted(path):
     return '"' + ''.join(chr(byte) if plain(byte) else f'\\x{byte:02x}' for byte in path.encode()) + '"'
 
 
-def more(line, paths=(), refused_list=None):
-    """The lines that -v adds to a refusal: of an input, where the inputs have these paths, or of this list."""
-    counted = re.match(r'pdbmerge: file (\d+): ', line)
-    named = f'file {counted[1]} is {quoted(paths[int(counted[1])])}\n' if counted else ''
-    listed = '' if refused_list is None else f'LIST is {quoted(refused_list)}\n'
-    return f'{listed}{named}pdbmerge explain {number_of(line)} says more\n'
+# What the system says, in words, and what it says in the usual runs: there is no file, it is a folder, or the device is
+# full.
+MISSING_FILE, FOLDER, FULL = 'there is no such file or folder', 'it is a folder', 'no room is left on the device'
+THERE, NO_FOLDER, NOT_REGULAR = (
+    'it is there already', 'its path leads through what is no folder', 'it is no regular file')
+USUAL = {36: FULL, 37: FOLDER, 40: MISSING_FILE, 41: MISSING_FILE}
+
+
+def more(line, paths=(), refused_list=None, of=None, why=USUAL):
+    """The lines that -v adds to a refusal: of an input, where the inputs have these paths, of this list, or of
+    another file; of standard output where it is none of them. `why` is what the system said, or None."""
+    number, counted = number_of(line), re.match(r'pdbmerge: file (\d+): ', line)
+    path = paths[int(counted[1])] if counted else of if refused_list is None else refused_list
+    named = f'file {counted[1]} is {quoted(path)}\n' if counted else ''
+    listed = '' if refused_list is None else f'LIST is {quoted(path)}\n'
+    words = why.get(number) if why is USUAL else why
+    said = '' if words is None else f'{"standard output" if path is None else quoted(path)}: {words}\n'
+    return f'{listed}{named}{said}pdbmerge explain {number} says more\n'
 
 
 def hold_refusal(runs, what, error, given, **settings):
@@ -312,9 +324,9 @@ def hold_refusal(runs, what, error, given, **settings):
     runs.hold(f'{what}: {" ".join(given)}', runs.run(*given, **settings), (1, '', error, None))
 
 
-def says_more(runs, what, line, paths, command, *others, refused_list=None, **settings):
+def says_more(runs, what, line, paths, command, *others, refused_list=None, of=None, why=USUAL, **settings):
     """Holds a refusal to its line, and with -v to the lines that follow it."""
-    verbose = line + more(line, paths, refused_list)
+    verbose = line + more(line, paths, refused_list, of, why)
     hold_refusal(runs, what, line, [command, *others], **settings)
     for given in [command, '-v', *others], [command, '--verbose', *others], [command, *others, '-v']:
         hold_refusal(runs, what, verbose, given, **settings)
