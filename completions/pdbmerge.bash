@@ -7,6 +7,12 @@ _pdbmerge_files() { # WORD
     mapfile -t COMPREPLY < <(compgen -f -X '!*.pdb' -- "$1"; compgen -d -- "$1")
 }
 
+# Offers the folders.
+_pdbmerge_folders() { # WORD
+    compopt -o filenames 2>/dev/null
+    mapfile -t COMPREPLY < <(compgen -d -- "$1")
+}
+
 # Offers all files and folders.
 _pdbmerge_any_files() { # WORD
     compopt -o filenames 2>/dev/null
@@ -28,14 +34,14 @@ _pdbmerge() {
     COMPREPLY=()
     if ((COMP_CWORD == 1)); then
         if [[ $word == -* ]]; then
-            _pdbmerge_words "$word" '-h --help'
+            _pdbmerge_words "$word" '-h --help -V --version'
         else
             _pdbmerge_words "$word" "$commands"
         fi
         return
     fi
     case $command in
-        merge) options='--guid --age --limit --block-size --max-bytes --files-from -0 --null --map --progress -v --verbose -h --help' ;;
+        merge) options='--guid --age --limit --block-size --max-bytes --files-from -0 --null --map --progress --no-clobber --replace --skip-refused -v --verbose -h --help' ;;
         diff) options='--origins --members --max-bytes -v --verbose -h --help' ;;
         members | records | record | types | check | streams | info) options='--max-bytes -v --verbose -h --help' ;;
         explain) options='-v --verbose -h --help' ;;
@@ -64,23 +70,28 @@ _pdbmerge() {
         --age | --limit | --max-bytes) return ;;
     esac
     if [[ $word == -* ]]; then
-        # One of these two is enough.
+        # Of each of these pairs one is enough.
         case " ${COMP_WORDS[*]:0:COMP_CWORD} " in
             *' --origins '* | *' --members '*) options=${options#--origins --members } ;;
+            *' --no-clobber '* | *' --replace '*) options=${options/--no-clobber --replace /} ;;
         esac
         _pdbmerge_words "$word" "$options"
         return
     fi
-    # How many files were given. The number behind an option is none.
+    # How many files were given. The value behind an option is none.
     given=0
     for ((k = 2; k < COMP_CWORD; k++)); do
-        if [[ ${COMP_WORDS[k]} != -* && ${COMP_WORDS[k]} != '=' && ${COMP_WORDS[k - 1]} != --max-bytes && ${COMP_WORDS[k - 1]} != '=' ]]; then
+        case ${COMP_WORDS[k - 1]} in
+            = | --guid | --age | --limit | --block-size | --max-bytes | --files-from | --map) continue ;;
+        esac
+        if [[ ${COMP_WORDS[k]} != -* && ${COMP_WORDS[k]} != '=' ]]; then
             given=$((given + 1))
         fi
     done
-    # merge reads any number of files, diff two, explain and help none, and each other command one.
+    # merge reads any number of files, diff two, explain and help none, and each other command one. The first path of
+    # merge is the file that it writes: no file that is there is offered, since it would be written over.
     case $command in
-        merge) _pdbmerge_files "$word" ;;
+        merge) if ((given < 1)); then _pdbmerge_folders "$word"; else _pdbmerge_files "$word"; fi ;;
         diff) ((given < 2)) && _pdbmerge_files "$word" ;;
         explain) ((given < 1)) && _pdbmerge_words "$word" "$(echo {1..41})" ;;
         help) ((given < 1)) && _pdbmerge_words "$word" "$commands" ;;
