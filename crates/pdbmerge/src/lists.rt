@@ -67,7 +67,7 @@ pub fn read_list(
         Ok(()) => Ok(()),
         Err(ListFault::NotUtf8) => {
             // Those before it were appended.
-            let number = task.inputs.len() - before + 1;
+            let number = task.inputs.len().saturating_sub(before).saturating_add(1);
             Err(Refusal::Line(not_utf8(number, is_verbose)))
         }
         Err(ListFault::Memory) => Err(Refusal::Program(RunFault::Memory.into())),
