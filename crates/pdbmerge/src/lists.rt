@@ -52,6 +52,7 @@ fn not_utf8(number: usize, is_verbose: bool) -> LineFault {
 }
 
 /// Reads the list of more inputs, if there is one. Its paths come after those of the arguments.
+#[inline(never)]
 pub fn read_list(
     rt: &HostRuntime,
     task: &mut Merging,

@@ -8,6 +8,9 @@
 //! The arguments are read by `command_line`, files are opened and created by `program_files`, and
 //! the commands are those of `pdb_commands`. This module joins these to the system: arguments, the
 //! standard streams and the exit status.
+//!
+//! Each step that keeps large values has a frame of its own (`inline(never)`), so that the stack has few
+//! of them at a time.
 #![tactic(auto)]
 
 mod arguments;
@@ -52,6 +55,7 @@ fn inputs_in<'a>(
 }
 
 /// Prints in what two files differ. Returns the exit status.
+#[inline(never)]
 fn compare_with<S: BuildHasher + Drop + Copy>(
     rt: &HostRuntime,
     inputs: &InputFiles<'_, HostRuntime>,
@@ -120,6 +124,7 @@ fn tell_missing(rt: &HostRuntime, names: &[String], asked: &[Asked<'_>]) -> bool
 
 /// Prints the definitions of the types of a file, or those that are asked for. Returns the exit
 /// status.
+#[inline(never)]
 fn tell(
     rt: &HostRuntime,
     file: &InputFiles<'_, HostRuntime>,
@@ -141,6 +146,7 @@ fn tell(
 
 /// Runs a command that shows a file. What it prints goes to standard output. A regular file is read
 /// only as far as the command needs it.
+#[inline(never)]
 fn show(
     rt: &HostRuntime,
     command: Shown,
@@ -180,6 +186,7 @@ fn show(
 }
 
 /// Prints what is said of a fault.
+#[inline(never)]
 fn explain(rt: &HostRuntime, page: &Page, said: &Said) -> Result<(), ProgramFault> {
     let text = format!(in rt.alloc(); "{page}")?;
     put_all(&mut standard_output(rt, said), text.as_bytes())?;
@@ -218,6 +225,7 @@ fn line_of(rt: &HostRuntime) -> Result<Line, LineFault> {
 }
 
 /// Runs a command, whose list of inputs is read first. Returns the exit status.
+#[inline(never)]
 fn run_line(rt: &HostRuntime, line: &mut Line, said: &Said) -> Result<ExitCode, Refusal> {
     if let Task::Merge(task) = &mut line.task {
         read_list(rt, task, line.is_verbose, said)?;

@@ -27,6 +27,7 @@ fn is_out(rt: &HostRuntime, map: &str, task: &Merging) -> bool {
 
 /// Refuses a file for the maps that the merge reads or writes: it would be spoilt. So would one that is
 /// there, where nothing may be written over.
+#[inline(never)]
 pub fn refuse_taken(rt: &HostRuntime, task: &Merging, said: &Said) -> Result<(), MapFault> {
     let Some(path) = &task.map else {
         return Ok(());
@@ -43,6 +44,7 @@ pub fn refuse_taken(rt: &HostRuntime, task: &Merging, said: &Said) -> Result<(),
 
 /// Creates the file for the maps. `out` is the file of the merge: it is there now, and may have the path
 /// of the maps for another name.
+#[inline(never)]
 fn create<'a>(
     rt: &'a HostRuntime,
     out: &str,
@@ -63,6 +65,7 @@ fn create<'a>(
 }
 
 /// Writes the maps into a file, which is stored then.
+#[inline(never)]
 fn fill(
     rt: &HostRuntime,
     maps: &TypeMaps,
@@ -78,6 +81,7 @@ fn fill(
 
 /// Writes the maps into a new file, which is stored then, and gives the file. If no input has a record,
 /// the file is empty.
+#[inline(never)]
 pub fn write_map_file<'a>(
     rt: &'a HostRuntime,
     out: &str,
@@ -98,6 +102,7 @@ pub fn write_map_file<'a>(
 
 /// Puts the file for the maps in its place. If the place is that of OUT, which was not there before,
 /// the file is removed, and the maps are refused.
+#[inline(never)]
 pub fn put_map(
     rt: &HostRuntime,
     file: &mut NewFile<'_, HostRuntime>,

@@ -58,6 +58,7 @@ fn inputs_of<'a>(job: &Job<'a>) -> InputFiles<'a, HostRuntime> {
 }
 
 /// Merges those inputs that are accepted into a new file, and reports on it.
+#[inline(never)]
 fn merge_some<S: BuildHasher + Drop, K: KeepMaps + Drop>(
     job: &Job<'_>,
     out: &mut NewFile<'_, HostRuntime>,
@@ -87,6 +88,7 @@ fn merge_some<S: BuildHasher + Drop, K: KeepMaps + Drop>(
 }
 
 /// Merges all inputs into a new file, and reports on it.
+#[inline(never)]
 fn merge_all<S: BuildHasher + Drop, K: KeepMaps + Drop>(
     job: &Job<'_>,
     out: &mut NewFile<'_, HostRuntime>,
@@ -132,6 +134,7 @@ fn merge_into<S: BuildHasher + Drop, K: KeepMaps + Drop>(
 }
 
 /// Merges inputs into a new file, and then writes the maps of the inputs where they are asked for.
+#[inline(never)]
 fn write_files<'a, S: BuildHasher + Drop>(
     job: &Job<'a>,
     out: &mut NewFile<'a, HostRuntime>,
@@ -171,6 +174,7 @@ fn write<'a, S: BuildHasher + Drop>(job: &Job<'a>, hasher: S) -> Result<Written<
 
 /// Tells which inputs were left out, each with its fault, and where the arguments ask for more, also its
 /// path. Where a line cannot be printed, only the report and the exit status are left.
+#[inline(never)]
 fn tell_left_out(job: &Job<'_>, left_out: &[LeftOut]) {
     if job.taken.error {
         return;
@@ -188,6 +192,7 @@ fn tell_left_out(job: &Job<'_>, left_out: &[LeftOut]) {
 }
 
 /// Prints what is said of a merge, and then puts its files in their places.
+#[inline(never)]
 fn finish(job: &Job<'_>, written: &mut Written<'_>) -> Result<(), ProgramFault> {
     if job.task.shows_progress && !job.taken.error {
         Progress::new(job.rt, job.task.inputs.len()).end();
@@ -201,6 +206,7 @@ fn finish(job: &Job<'_>, written: &mut Written<'_>) -> Result<(), ProgramFault> 
 }
 
 /// Merges, and prints what is said of it. Returns the exit status.
+#[inline(never)]
 fn merge_with<S: BuildHasher + Drop>(job: &Job<'_>, hasher: S) -> Result<ExitCode, ProgramFault> {
     let mut written = write(job, hasher)?;
     match finish(job, &mut written) {
@@ -225,6 +231,7 @@ fn merge_with<S: BuildHasher + Drop>(job: &Job<'_>, hasher: S) -> Result<ExitCod
 ///
 /// The hashes are such that nobody can predict them, where the system gives random numbers. Where it
 /// gives none, the key is fixed, and records that share a hash have to be searched for.
+#[inline(never)]
 pub fn merge(
     rt: &HostRuntime,
     task: &Merging,

@@ -41,6 +41,7 @@ fn print_line_fault<R: Print + Eprint>(rt: &R, fault: &LineFault) -> io::Result<
 }
 
 /// Prints why the arguments are refused, or the help that they ask for. Returns the exit status.
+#[inline(never)]
 pub fn refuse_line<R: Print + Eprint>(rt: &R, fault: &LineFault) -> ExitCode {
     match print_line_fault(rt, fault) {
         // Help that was not written whole is refused as any other text is.
@@ -139,6 +140,7 @@ fn name_page<R: Eprint>(rt: &R, fault: &ProgramFault) -> io::Result<()> {
 }
 
 /// Prints which file a refusal is about, why the system refused it, and where more is said of the fault.
+#[inline(never)]
 fn say_more<R: Eprint + AllocGlobal>(
     rt: &R,
     refusal: &Refusal,
@@ -162,6 +164,7 @@ fn say_more<R: Eprint + AllocGlobal>(
 
 /// Prints why a command was refused, and more where the arguments ask for it. Returns the exit
 /// status.
+#[inline(never)]
 pub fn refuse<R: Print + Eprint + AllocGlobal>(
     rt: &R,
     refusal: &Refusal,

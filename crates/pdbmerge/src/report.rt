@@ -24,6 +24,7 @@ pub struct TakenStreams {
 impl TakenStreams {
     /// The standard streams that are a file which this merge writes. The kit tells nothing of a
     /// stream but by the name that `/proc` has for it: without `/proc` no stream is known to be one.
+    #[inline(never)]
     pub fn of<R: Files>(rt: &R, task: &Merging) -> TakenStreams {
         let (output, error) = (
             FileId::of(rt, "/proc/self/fd/1"),
@@ -59,6 +60,7 @@ pub fn standard_output<'a>(
 
 /// Prints a report to the first of standard output and standard error that is neither OUT nor MAP. If
 /// both are, there is no report.
+#[inline(never)]
 pub fn print(
     rt: &HostRuntime,
     report: &[u8],

@@ -27,6 +27,20 @@ pub enum Making {
     Replace,
 }
 
+// Each name that the system is told has 4 KB of the stack, so each way to open a file has a frame of its own.
+
+/// Opens a file whose old bytes go.
+#[inline(never)]
+fn open_over<R: Files>(rt: &R, path: &str) -> io::Result<R::File> {
+    fs::create(rt, path)
+}
+
+/// Opens a file that is not there yet.
+#[inline(never)]
+pub(crate) fn open_new<R: Files>(rt: &R, path: &str) -> io::Result<R::File> {
+    File::create_new(rt, path)
+}
+
 /// Waits until the system has stored a regular file. Pipes and devices have nothing to store.
 fn store<F: OpenFile>(file: &F) -> Result<(), NotTaken> {
     let can_be_stored = file.metadata().map_or(true, |metadata| metadata.is_file());
@@ -153,8 +167,8 @@ impl<'a, R: Files + AllocGlobal> NewFile<'a, R> {
         ensures state { self.new.state ≡ self.old.state }
     {
         match self.making {
-            Making::Overwrite => fs::create(self.rt, self.path),
-            Making::New => File::create_new(self.rt, self.path),
+            Making::Overwrite => open_over(self.rt, self.path),
+            Making::New => open_new(self.rt, self.path),
             Making::Replace => {
                 let (spare, file) = Spare::create(self.rt, self.path)?;
                 self.spare = Some(spare);

@@ -1,8 +1,9 @@
 //! A name for a file until it takes the place of another one.
 
+use crate::output::open_new;
 use std::alloc::{AllocError, Global};
 use std::fs;
-use std::fs::{File, Metadata, OpenFile};
+use std::fs::{Metadata, OpenFile};
 use std::io::{self, Error, ErrorKind};
 use std::os::unix::fs::{MetadataExt, chown};
 use std::rt::Files;
@@ -17,7 +18,10 @@ pub struct Spare {
     target: String,
 }
 
+// Each name that the system is told has 4 KB of the stack, so these functions have frames of their own.
+
 /// What is at a path: a regular file, or nothing. All else is refused, and so is a link to nothing.
+#[inline(never)]
 fn old_file<R: Files>(rt: &R, path: &str) -> io::Result<Option<Metadata>> {
     match fs::metadata(rt, path) {
         Ok(found) if found.is_file() => Ok(Some(found)),
@@ -34,6 +38,7 @@ fn old_file<R: Files>(rt: &R, path: &str) -> io::Result<Option<Metadata>> {
 }
 
 /// The path of the file that is replaced: where a symbolic link leads to one, that of the file.
+#[inline(never)]
 fn target_of<R: Files + AllocGlobal>(rt: &R, path: &str, is_there: bool) -> io::Result<String> {
     if is_there {
         return Ok(fs::canonicalize(rt, path)?.into_string());
@@ -54,12 +59,13 @@ fn name_beside(alloc: Global, path: &str, number: u32) -> Result<String, AllocEr
 }
 
 /// Creates a file in the folder of a path, under a name that no file has.
+#[inline(never)]
 fn create_beside<R: Files + AllocGlobal>(rt: &R, path: &str) -> io::Result<(String, R::File)> {
     for number in 0..NAMES {
         let Ok(name) = name_beside(rt.alloc(), path, number) else {
             return Err(Error::from(ErrorKind::OutOfMemory));
         };
-        match File::create_new(rt, name.as_str()) {
+        match open_new(rt, name.as_str()) {
             Ok(file) => return Ok((name, file)),
             Err(error) if error.kind() == ErrorKind::AlreadyExists => {}
             Err(error) => return Err(error),
@@ -70,6 +76,7 @@ fn create_beside<R: Files + AllocGlobal>(rt: &R, path: &str) -> io::Result<(Stri
 
 /// Gives a new file the owner and the rights of an old one. Only some users may give files away; where
 /// that is refused, the owner is the one who runs the program.
+#[inline(never)]
 fn keep_rights<R: Files>(rt: &R, path: &str, file: &R::File, old: &Metadata) -> io::Result<()> {
     let _ = chown(rt, path, Some(old.uid()), Some(old.gid()));
     file.set_permissions(old.permissions())
@@ -78,6 +85,7 @@ fn keep_rights<R: Files>(rt: &R, path: &str, file: &R::File, old: &Metadata) -> 
 impl Spare {
     /// Creates a file that is to take the place of what is at a path: a regular file, whose rights it
     /// gets, or nothing.
+    #[inline(never)]
     pub fn create<R: Files + AllocGlobal>(rt: &R, path: &str) -> io::Result<(Spare, R::File)> {
         let old = old_file(rt, path)?;
         let target = target_of(rt, path, old.is_some())?;
@@ -93,11 +101,13 @@ impl Spare {
     }
 
     /// Puts the file in its place.
+    #[inline(never)]
     pub fn take_place<R: Files>(&self, rt: &R) -> io::Result<()> {
         fs::rename(rt, self.path.as_str(), self.target.as_str())
     }
 
     /// Removes the file. Where that is refused too, it is left.
+    #[inline(never)]
     pub fn remove<R: Files>(&self, rt: &R) {
         let _ = fs::remove_file(rt, self.path.as_str());
     }
