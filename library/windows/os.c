@@ -16,6 +16,7 @@
 enum {
     LINUX_ENOENT = 2,
     LINUX_EIO = 5,
+    LINUX_EBADF = 9,
     LINUX_EACCES = 13,
     LINUX_EEXIST = 17,
     LINUX_ENOTDIR = 20,
@@ -26,6 +27,9 @@ enum {
     LINUX_ENAMETOOLONG = 36,
     LINUX_ENOSYS = 38
 };
+
+/* What Windows has no error for: a folder where a file is wanted. Bit 29 is never set in its own. */
+enum { IS_FOLDER = 1 << 29 };
 
 static int last_error;
 
@@ -42,6 +46,7 @@ static int linux_error(DWORD error) {
     switch (error) {
         case ERROR_FILE_NOT_FOUND:
         case ERROR_PATH_NOT_FOUND:
+        case ERROR_INVALID_NAME:
         case ERROR_INVALID_DRIVE:
         case ERROR_BAD_NETPATH:
         case ERROR_BAD_NET_NAME: return LINUX_ENOENT;
@@ -51,11 +56,13 @@ static int linux_error(DWORD error) {
         case ERROR_FILE_EXISTS:
         case ERROR_ALREADY_EXISTS: return LINUX_EEXIST;
         case ERROR_DIRECTORY: return LINUX_ENOTDIR;
+        case IS_FOLDER: return LINUX_EISDIR;
         case ERROR_DISK_FULL:
         case ERROR_HANDLE_DISK_FULL: return LINUX_ENOSPC;
         case ERROR_WRITE_PROTECT: return LINUX_EROFS;
         case ERROR_BROKEN_PIPE:
-        case ERROR_NO_DATA: return LINUX_EPIPE;
+        case ERROR_NO_DATA:
+        case ERROR_PIPE_NOT_CONNECTED: return LINUX_EPIPE;
         case ERROR_FILENAME_EXCED_RANGE: return LINUX_ENAMETOOLONG;
         default: return LINUX_EIO;
     }
@@ -174,8 +181,10 @@ static const wchar_t *widened(const char *name) {
         given[length - 2] = 0;
     wchar_t *whole = room + MARK;
     DWORD count = GetFullPathNameW(given, MOST_WHOLE, whole, NULL);
-    if (count == 0 || count >= MOST_WHOLE)
+    if (count == 0 || count >= MOST_WHOLE) {
+        SetLastError(count == 0 ? ERROR_INVALID_NAME : ERROR_FILENAME_EXCED_RANGE);
         return NULL;
+    }
     if (count < MAX_PATH || is_plain(whole))
         return given;
     if (wcsncmp(whole, L"\\\\", 2) != 0)
@@ -246,15 +255,39 @@ static int describe(HANDLE handle, statx_answer *to) {
 /* The sets of flags with which the program opens a file. */
 enum { TO_READ = 0x80100, TO_OVERWRITE = 0x80341, TO_CREATE = 0x801c2 };
 
-/* Opens a file, or a folder to read it, and locks nobody out. */
-static HANDLE opened(const char *name, DWORD access, DWORD creation) {
+static HANDLE failed_with(DWORD error) {
+    SetLastError(error);
+    return INVALID_HANDLE_VALUE;
+}
+
+static int is_folder(const wchar_t *name) {
+    DWORD is = GetFileAttributesW(name);
+    return is != INVALID_FILE_ATTRIBUTES && (is & FILE_ATTRIBUTE_DIRECTORY) != 0;
+}
+
+/* How a file is opened. Without the first flag no folder can be read. With the second one a link is not followed. */
+enum { AS_FOLDER_TOO = FILE_FLAG_BACKUP_SEMANTICS, AS_LINK = FILE_FLAG_OPEN_REPARSE_POINT };
+
+/* Opens a file, and locks nobody out. Of a folder that is to be overwritten Windows says that access is denied. */
+static HANDLE opened(const char *name, DWORD access, DWORD creation, DWORD flags) {
     const wchar_t *wide = widened(strcmp(name, "/dev/null") == 0 ? "NUL" : name);
-    /* Without this flag no folder can be opened. */
-    DWORD flags = access == GENERIC_WRITE ? FILE_ATTRIBUTE_NORMAL : FILE_FLAG_BACKUP_SEMANTICS;
     DWORD shared = FILE_SHARE_READ | FILE_SHARE_WRITE | FILE_SHARE_DELETE;
     if (wide == NULL)
         return INVALID_HANDLE_VALUE;
-    return CreateFileW(wide, access, shared, NULL, creation, flags, NULL);
+    HANDLE handle = CreateFileW(wide, access, shared, NULL, creation, flags, NULL);
+    DWORD error = GetLastError();
+    if (handle == INVALID_HANDLE_VALUE && creation == CREATE_ALWAYS && is_folder(wide))
+        error = IS_FOLDER;
+    return handle == INVALID_HANDLE_VALUE ? failed_with(error) : handle;
+}
+
+/* Creates a file that is not there. A device always is, and so is a link to nothing. */
+static int created(const char *name) {
+    HANDLE handle = opened(name, GENERIC_WRITE, CREATE_NEW, AS_LINK);
+    if (handle == INVALID_HANDLE_VALUE || GetFileType(handle) == FILE_TYPE_DISK)
+        return numbered(handle);
+    CloseHandle(handle);
+    return fail_with(LINUX_EEXIST);
 }
 
 /* Opens a standard stream once more. A file is read from its start, and what is written to it is all that it has. A
@@ -263,8 +296,10 @@ static HANDLE opened_again(HANDLE stream, int is_written) {
     LARGE_INTEGER start = {.QuadPart = 0};
     HANDLE self = GetCurrentProcess(), copy;
     statx_answer is;
-    if (describe(stream, &is) != 0 || (is_written && is.mode == A_FOLDER))
+    if (describe(stream, &is) != 0)
         return INVALID_HANDLE_VALUE;
+    if (is_written && is.mode == A_FOLDER)
+        return failed_with(IS_FOLDER);
     if (is.mode == A_FILE) {
         SetFilePointerEx(stream, start, NULL, FILE_BEGIN);
         if (is_written && is.size != 0 && !SetEndOfFile(stream))
@@ -276,21 +311,26 @@ static HANDLE opened_again(HANDLE stream, int is_written) {
 int open(const char *name, int flags, ...) {
     int standard = standard_of(name), is_written = flags == TO_OVERWRITE;
     if (flags == TO_CREATE)
-        return standard >= 0 || strcmp(name, "/dev/null") == 0
-                   ? fail_with(LINUX_EEXIST)
-                   : numbered(opened(name, GENERIC_WRITE, CREATE_NEW));
+        return standard >= 0 ? fail_with(LINUX_EEXIST) : created(name);
     if (flags != TO_READ && !is_written)
         return fail_with(LINUX_EIO);
     if (standard >= 0)
         return numbered(opened_again(files[standard], is_written));
-    return numbered(is_written ? opened(name, GENERIC_WRITE, CREATE_ALWAYS)
-                               : opened(name, GENERIC_READ, OPEN_EXISTING));
+    return numbered(is_written ? opened(name, GENERIC_WRITE, CREATE_ALWAYS, FILE_ATTRIBUTE_NORMAL)
+                               : opened(name, GENERIC_READ, OPEN_EXISTING, AS_FOLDER_TOO));
 }
 
 /* How many bytes are moved at a time. A console of an old Windows takes fewer than 64 KiB. */
 static DWORD piece(HANDLE handle, size_t length) {
     size_t most = GetFileType(handle) == FILE_TYPE_CHAR ? 1 << 14 : 1 << 30;
     return (DWORD)(length < most ? length : most);
+}
+
+/* Fails with what Windows said last, or with another error where the handle is of a folder. */
+static int fail_of(HANDLE handle, int error_of_folder) {
+    int error = linux_error(GetLastError());
+    statx_answer is;
+    return fail_with(describe(handle, &is) == 0 && is.mode == A_FOLDER ? error_of_folder : error);
 }
 
 int64_t read(int number, uint8_t *to, size_t room) {
@@ -301,8 +341,7 @@ int64_t read(int number, uint8_t *to, size_t room) {
     /* A pipe that nobody writes any more has ended. */
     if (GetLastError() == ERROR_BROKEN_PIPE)
         return 0;
-    statx_answer is;
-    return describe(handle, &is) == 0 && is.mode == A_FOLDER ? fail_with(LINUX_EISDIR) : fail();
+    return fail_of(handle, LINUX_EISDIR);
 }
 
 int64_t write(int number, const uint8_t *from, size_t length) {
@@ -311,7 +350,8 @@ int64_t write(int number, const uint8_t *from, size_t length) {
     /* The reader of a pipe would take a write of no bytes for the end. */
     if (length == 0)
         return 0;
-    return WriteFile(handle, from, piece(handle, length), &count, NULL) ? (int64_t)count : fail();
+    return WriteFile(handle, from, piece(handle, length), &count, NULL) ? (int64_t)count
+                                                                        : fail_of(handle, LINUX_EBADF);
 }
 
 int64_t lseek(int number, int64_t offset, int whence) {
@@ -327,14 +367,31 @@ int fsync(int number) {
     return FlushFileBuffers(handle_of(number)) ? 0 : fail();
 }
 
+/* The program asks for none of the next three. The kit has them in one function with `fsync` and `fchmod`. */
+int fdatasync(int number) {
+    return fsync(number);
+}
+
+int ftruncate(int number, int64_t size) {
+    (void)number, (void)size;
+    return fail_with(LINUX_ENOSYS);
+}
+
+int flock(int number, int how) {
+    (void)number, (void)how;
+    return fail_with(LINUX_ENOSYS);
+}
+
 int statx(int number, const char *name, int flags, unsigned mask, statx_answer *to) {
-    (void)flags, (void)mask;
+    (void)mask;
     int standard = standard_of(name);
-    if (name[0] == 0)
+    /* Linux's AT_SYMLINK_NOFOLLOW. */
+    DWORD how = flags & 0x100 ? AS_FOLDER_TOO | AS_LINK : AS_FOLDER_TOO;
+    if (name[0] == 0 && number >= 0)
         return describe(handle_of(number), to);
     if (standard >= 0)
         return describe(files[standard], to);
-    HANDLE handle = opened(name, 0, OPEN_EXISTING);
+    HANDLE handle = opened(name, 0, OPEN_EXISTING, how);
     if (handle == INVALID_HANDLE_VALUE)
         return fail();
     int answer = describe(handle, to);
@@ -343,6 +400,9 @@ int statx(int number, const char *name, int flags, unsigned mask, statx_answer *
 }
 
 /* ---- Files that take the places of others */
+
+/* The most bytes of a list of rights, with what stands before it. */
+enum { MOST_RIGHTS = (1 << 16) + 64 };
 
 /* Rights of a file are those of its folder and, where it replaces one, of that one. What the program asks for is what
  * `statx` told, and that has none. */
@@ -356,17 +416,22 @@ int chown(const char *name, unsigned user, unsigned group) {
     return fail_with(LINUX_ENOSYS);
 }
 
-/* The whole path of a file that is there, with slashes, so that the program finds its folder. */
+/* The whole path of a file that is there, with slashes, so that the program finds its folder. A link is followed where
+ * Windows tells the path that it leads to, which it does not on every disk. */
 char *realpath(const char *name, char *to) {
     static wchar_t whole[MOST_WHOLE];
-    HANDLE handle = opened(name, 0, OPEN_EXISTING);
-    DWORD count = handle == INVALID_HANDLE_VALUE ? 0 : GetFinalPathNameByHandleW(handle, whole, MOST_WHOLE, 0);
-    int error = linux_error(GetLastError());
-    if (handle != INVALID_HANDLE_VALUE)
-        CloseHandle(handle);
     wchar_t *from = whole;
+    HANDLE handle = opened(name, 0, OPEN_EXISTING, AS_FOLDER_TOO);
+    if (handle == INVALID_HANDLE_VALUE) {
+        fail();
+        return NULL;
+    }
+    DWORD count = GetFinalPathNameByHandleW(handle, whole, MOST_WHOLE, 0);
+    CloseHandle(handle);
+    if (count == 0 || count >= MOST_WHOLE)
+        count = GetFullPathNameW(widened(name), MOST_WHOLE, whole, NULL);
     if (count == 0 || count >= MOST_WHOLE) {
-        fail_with(count == 0 ? error : LINUX_ENAMETOOLONG);
+        fail_with(LINUX_ENAMETOOLONG);
         return NULL;
     }
     if (wcsncmp(from, L"\\\\?\\UNC\\", 8) == 0)
@@ -383,19 +448,35 @@ char *realpath(const char *name, char *to) {
     return to;
 }
 
-/* A file that is replaced gives its rights to the one that takes its place. */
+/* Gives a file the rights of another one, and has it hidden as that one is, as far as Windows lets it. ReplaceFileW
+ * would do so too, but not with a file that the program has open. */
+static void keep_rights(const wchar_t *name, const wchar_t *old, DWORD attributes) {
+    static uint64_t rights[MOST_RIGHTS / sizeof(uint64_t)];
+    DWORD length, kept = attributes & (FILE_ATTRIBUTE_HIDDEN | FILE_ATTRIBUTE_SYSTEM);
+    if (GetFileSecurityW(old, DACL_SECURITY_INFORMATION, rights, sizeof rights, &length))
+        SetFileSecurityW(name, DACL_SECURITY_INFORMATION, rights);
+    if (kept != 0)
+        SetFileAttributesW(name, kept | FILE_ATTRIBUTE_ARCHIVE);
+}
+
+/* A file that is read-only is not replaced. A new one may have to be moved to another disk. */
 int rename(const char *from, const char *to) {
-    static wchar_t old[MARK + MOST_WHOLE];
+    static wchar_t name[MARK + MOST_WHOLE];
     const wchar_t *wide = widened(from);
-    if (wide == NULL || wcslen(wide) >= MARK + MOST_WHOLE)
-        return fail_with(LINUX_ENAMETOOLONG);
-    wcscpy(old, wide);
+    if (wide == NULL)
+        return fail();
+    wcscpy(name, wide);
     wide = widened(to);
     if (wide == NULL)
-        return fail_with(LINUX_ENAMETOOLONG);
-    if (ReplaceFileW(wide, old, NULL, REPLACEFILE_IGNORE_MERGE_ERRORS, NULL, NULL))
-        return 0;
-    return MoveFileExW(old, wide, MOVEFILE_REPLACE_EXISTING | MOVEFILE_WRITE_THROUGH) ? 0 : fail();
+        return fail();
+    DWORD attributes = GetFileAttributesW(wide);
+    if (attributes != INVALID_FILE_ATTRIBUTES) {
+        if (attributes & FILE_ATTRIBUTE_READONLY)
+            return fail_with(LINUX_EACCES);
+        keep_rights(name, wide, attributes);
+    }
+    DWORD how = MOVEFILE_REPLACE_EXISTING | MOVEFILE_COPY_ALLOWED | MOVEFILE_WRITE_THROUGH;
+    return MoveFileExW(name, wide, how) ? 0 : fail();
 }
 
 int unlink(const char *name) {
