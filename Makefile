@@ -43,12 +43,8 @@ demo: announce $(PROGRAM)
 	cmp build/one.pdb build/other.pdb
 	@echo 'The order of the files makes no difference: the same bytes.'
 
-# The gate: every proof from nothing, every must-fail edit, every test; then the program as a
-# process, on the shipped files, with each call to the system failing in turn, with what is built
-# around it, and a minute of damaged files; then half a minute of them over the libraries, by the
-# program of campaign_driver. tests/tools installs the tools that this needs, and `rt ci` leaves the
-# programs that it proved and linked. Of a program that it has kept it leaves no object file, so that
-# is compiled again; tools/archive compiles the library for C.
+# The gate: every proof from nothing, every must-fail edit, every test; then the scripts. tests/tools
+# installs the tools that they need, and `rt ci` leaves the programs that it proved and linked.
 # Every script takes the program that this variable names.
 test: export PDBMERGE := $(CURDIR)/$(PROGRAM)
 test:
@@ -56,40 +52,38 @@ test:
 	$(RT) ci
 	mkdir -p build
 	cp crates/pdbmerge/out/pdbmerge $(PROGRAM)
-	[ -f $(OBJECT) ] || tools/compile pdbmerge x86_64-unknown-linux-gnu $(OBJECT)
-	tools/archive
-	tools/figures --check
-	tools/readmes --check
-	tools/faults --check
-	tools/stale
-	tests/help
-	tools/lint
-	tests/program
-	tests/examples
-	tests/examples examples/differences
-	tests/answers
-	tests/rows
-	tests/explain
+	$(MAKE) --jobs=$$(nproc) --output-sync --keep-going scripts
 	tests/inputs
-	tests/guid
-	tests/maps
-	tests/outputs
-	tests/difference
-	tests/members
-	tests/changes
-	tests/failures
-	tests/position
-	tests/surroundings
-	tests/streams
-	tests/faults
-	tests/cookbook
-	tests/manual
-	tests/library
-	tests/dist
 	tests/spread
-	tests/campaign 60 1
-	tests/driver
-	tests/campaign --driver crates/campaign_driver/out/campaign_driver 30 1
+
+# The scripts that share nothing, so that they run side by side, the longest first: the packages, the program
+# as a process, with each call to the system failing in turn, a minute of damaged files, and half a minute of
+# them over the libraries, by the program of campaign_driver. Of tests/inputs and tests/spread the clock is a
+# part, so that they run alone.
+SCRIPTS := tools/archive tests/dist tests/library tests/failures tests/campaign crates/campaign_driver tests/driver \
+	tests/surroundings tests/answers tests/outputs tests/program tests/examples examples/differences tests/rows \
+	tests/explain tests/guid tests/maps tests/difference tests/members tests/changes tests/position \
+	tests/streams tests/faults tests/cookbook tests/manual tests/help \
+	tools/figures tools/readmes tools/faults tools/stale tools/lint
+.PHONY: scripts tools/compile $(SCRIPTS)
+scripts: $(SCRIPTS)
+
+# Of a program that `rt ci` has kept it leaves no object file, so that is compiled again.
+tools/compile:
+	[ -f $(OBJECT) ] || $@ pdbmerge x86_64-unknown-linux-gnu $(OBJECT)
+
+examples/differences:
+	tests/examples $@
+
+crates/campaign_driver:
+	tests/campaign --driver $@/out/campaign_driver 30 1
+
+# What these use of the kit and of what it made waits for the first two. A script that runs make has its own flags.
+tests/dist tests/library tests/cookbook: tools/archive tools/compile
+tests/campaign: words := 60 1
+tools/figures tools/readmes tools/faults: words := --check
+$(filter-out examples/% crates/%,$(SCRIPTS)):
+	MAKEFLAGS= $@ $(words)
 
 # Times merges of growing size beside llvm-pdbutil, and plots them in docs/sizes.svg.
 bench: $(PROGRAM)
