@@ -1,9 +1,9 @@
 -- Definitions as the code has them: their parts lie in records and in texts.
-use Rattle.std.specs.Prelude.{ℕ, ◌≡◌, ◌≤◌, Bool, nat_eq, List, [], ◌∷◌, Option, Some, None, filter, option_map, slice_range}
+use Rattle.std.specs.Prelude.{ℕ, ◌≡◌, ◌≤◌, Bool, true, false, nat_eq, List, [], ◌∷◌, Option, Some, None, filter, option_map, slice_range}
 use Rattle.std.specs.List.{list_any}
 use Rattle.indexmap.specs.IndexMap.{IndexMap, get_by}
 use Rattle.type_changes.specs.Definition.{Key, Definition}
-use Rattle.type_changes.specs.Lone.{is_same_key}
+use Rattle.type_changes.specs.Lone.{has, is_same_key}
 use Rattle.type_changes.specs.declared.key.Key.{Key as KeyIn}
 use Rattle.type_changes.specs.declared.place.Place.{Place}
 use Rattle.type_changes.specs.declared.told.Told.{Told}
@@ -40,6 +40,11 @@ pub record IsInside (many : ℕ) (place : Place) : Type 0 where
 -- the hash of the name of the definition is among these, where h gives the hash of a name
 abbrev pub is_noted : (List ℕ → ℕ) → List ℕ → Definition → Bool
 is_noted h names d = list_any (nat_eq (h d.key.name)) names
+
+-- the hash of the name of each of our definitions that is not among theirs is among these
+abbrev pub AreNoted : (List ℕ → ℕ) → List ℕ → List Definition → List Definition → Type 0
+AreNoted h names ours theirs =
+    (d : Definition) → has ours d ≡ true → has theirs d ≡ false → is_noted h names d ≡ true
 
 -- whether there is one definition with a key, or there are several
 abbrev pub one_or_several : List Definition → Option (Option Definition)

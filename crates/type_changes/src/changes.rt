@@ -11,15 +11,12 @@ ghost use Rattle.type_changes.specs.Seen.{AreSoles, seen, seen_key};
 use crate::key::Key;
 use crate::lines::{push_lines, push_lone_lines};
 use crate::lone::{distinct, lone};
-use crate::names::note_lacked;
-use crate::place::push_texts;
+use crate::place::push_both;
 use crate::sole::{Soles, sole_of, soles};
 use crate::told::Told;
 use checked_types::Types;
-use indexmap::IndexSet;
 use std::alloc::{AllocError, Allocator};
 use std::hash::BuildHasher;
-use type_difference::compare;
 
 /// Appends a whole definition after a sign, and each of its lines.
 #[tactic(auto, unfolding(crate::specs::Changes::whole))]
@@ -171,15 +168,10 @@ pub fn push_changes<S: BuildHasher + Drop + Copy, A: Allocator + Copy>(
         OnOk result (text.new.items
         ≡ text.old.items ++ changes_text (definitions trees) (definitions others)) }
 {
-    let difference = compare(alloc, first, second, hasher)?;
-    let mut names = IndexSet::new(alloc);
-    note_lacked(&hasher, first, &difference.first, &mut names)?;
-    note_lacked(&hasher, second, &difference.second, &mut names)?;
     let mut texts = Vec::new(alloc);
-    let first_places = push_texts(alloc, &mut texts, first, &hasher, &names)?;
-    let second_places = push_texts(alloc, &mut texts, second, &hasher, &names)?;
-    let olds = distinct(alloc, hasher, &texts, &first_places)?;
-    let news = distinct(alloc, hasher, &texts, &second_places)?;
+    let places = push_both(alloc, hasher, &mut texts, first, second)?;
+    let olds = distinct(alloc, hasher, &texts, &places.first)?;
+    let news = distinct(alloc, hasher, &texts, &places.second)?;
     let gone = lone(alloc, &olds, &news)?;
     let come = lone(alloc, &news, &olds)?;
     push_between(alloc, hasher, text, &gone, &come)

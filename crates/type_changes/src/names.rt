@@ -1,16 +1,19 @@
 //! The names of the definitions that only one of two lists of types has.
 
-ghost use Rattle.std.specs.Prelude.{◌≡◌, ◌≢◌, ◌<◌, ℕ, [], OnOk, length, get_or};
+ghost use Rattle.std.specs.Prelude.{◌≡◌, ◌≢◌, ◌<◌, ℕ, List, [], OnOk, IfOk, length, get_or};
 ghost use Rattle.std.specs.List.{Contains};
+ghost use Rattle.closed_trees.specs.Tree.{Tree};
 ghost use Rattle.closed_trees.specs.Types.{AreTypes};
-ghost use Rattle.type_changes.specs.Definition.{key_of};
+ghost use Rattle.type_texts.specs.Asked.{AreTrees};
+ghost use Rattle.type_changes.specs.Definition.{definitions, key_of};
+ghost use Rattle.type_changes.specs.Seen.{AreNoted};
 
 use crate::key::Key;
 use checked_types::Types;
 use indexmap::IndexSet;
 use std::alloc::{AllocError, Allocator};
 use std::hash::{BuildHasher, BuildHasherDefault, FoldHasher, Hasher};
-use type_difference::Standing;
+use type_difference::{Standing, compare};
 
 /// The hashes of names.
 pub type Names<A> = IndexSet<u64, BuildHasherDefault<FoldHasher>, A>;
@@ -49,4 +52,27 @@ pub fn note_lacked<S: BuildHasher, A: Allocator, T: Allocator>(
         }
     }
     Ok(())
+}
+
+/// The hashes of the names of the definitions that only one of two lists of types has.
+pub fn lacked_names<S: BuildHasher + Drop + Copy, A: Allocator + Copy>(
+    alloc: A,
+    hasher: S,
+    first: &Types<'_, A>,
+    second: &Types<'_, A>,
+) -> Result<Names<A>, AllocError>
+    ensures gone { (trees others : List Tree) → AreTrees first.now trees
+        → AreTrees second.now others → IfOk result (λ names. AreNoted
+        (λ name. S.Hasher.finish (S.Hasher.write (S.build_hasher hasher) name))
+        names.keys (definitions trees) (definitions others)) }
+    ensures come { (trees others : List Tree) → AreTrees first.now trees
+        → AreTrees second.now others → IfOk result (λ names. AreNoted
+        (λ name. S.Hasher.finish (S.Hasher.write (S.build_hasher hasher) name))
+        names.keys (definitions others) (definitions trees)) }
+{
+    let difference = compare(alloc, first, second, hasher)?;
+    let mut names = IndexSet::new(alloc);
+    note_lacked(&hasher, first, &difference.first, &mut names)?;
+    note_lacked(&hasher, second, &difference.second, &mut names)?;
+    Ok(names)
 }

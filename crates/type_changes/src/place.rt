@@ -6,10 +6,11 @@ ghost use Rattle.closed_trees.specs.Tree.{Tree, IsTreeAt};
 ghost use Rattle.type_texts.specs.Asked.{AreTrees};
 ghost use Rattle.type_texts.specs.Spans.{AreListed};
 ghost use Rattle.type_changes.specs.Definition.{defined_by, definitions};
+ghost use Rattle.type_changes.specs.Lone.{lone};
 ghost use Rattle.type_changes.specs.Seen.{IsInside, is_noted, seen, seen_at};
 
 use crate::key::Key;
-use crate::names::{Names, hash_of};
+use crate::names::{Names, hash_of, lacked_names};
 use crate::told::Told;
 use checked_types::Types;
 use std::alloc::{AllocError, Allocator};
@@ -127,4 +128,44 @@ pub fn push_texts<S: BuildHasher, A: Allocator + Copy, T: Allocator>(
         )?;
     }
     Ok(places)
+}
+
+/// Where the definitions of two lists of types stand in a text, those of each list in their order.
+#[derive(Drop)]
+pub struct Places<A: Allocator> {
+    pub first: Vec<Place, A>,
+    pub second: Vec<Place, A>,
+}
+
+/// Appends the texts of those definitions of two lists of types that may be in one of them alone, and
+/// says where each stands.
+pub fn push_both<S: BuildHasher + Drop + Copy, A: Allocator + Copy>(
+    alloc: A,
+    hasher: S,
+    text: &mut Vec<u8, A>,
+    first: &Types<'_, A>,
+    second: &Types<'_, A>,
+) -> Result<Places<A>, AllocError>
+    ensures gone { (trees others : List Tree) → AreTrees first.now trees
+        → AreTrees second.now others → IfOk result (λ places. lone
+        (map (seen_at text.new.items) places.first.items)
+        (map (seen_at text.new.items) places.second.items)
+        ≡ lone (definitions trees) (definitions others)) }
+    ensures come { (trees others : List Tree) → AreTrees first.now trees
+        → AreTrees second.now others → IfOk result (λ places. lone
+        (map (seen_at text.new.items) places.second.items)
+        (map (seen_at text.new.items) places.first.items)
+        ≡ lone (definitions others) (definitions trees)) }
+    ensures first { IfOk result (λ places.
+        AllByRecursion (IsInside (length text.new.items)) places.first.items) }
+    ensures second { IfOk result (λ places.
+        AllByRecursion (IsInside (length text.new.items)) places.second.items) }
+{
+    let names = lacked_names(alloc, hasher, first, second)?;
+    let ours = push_texts(alloc, text, first, &hasher, &names)?;
+    let theirs = push_texts(alloc, text, second, &hasher, &names)?;
+    Ok(Places {
+        first: ours,
+        second: theirs,
+    })
 }
