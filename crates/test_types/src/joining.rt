@@ -554,35 +554,52 @@ fn is_answer(answer: &Answer, said: Result<(), JoinFault>, after: &[u8], end: &[
     answer.0 == said && answer.1.as_slice() == after && answer.2.as_slice() == end
 }
 
-#[test]
-fn a_union_at_the_limit(rt: HostRuntime) -> Result<(), Fail> {
-    let large = Err(JoinFault::TooLarge { bytes: 24 });
-    let pointer = stream_with(rt.alloc(), &[TO_INT])?;
-    let other = stream_with(rt.alloc(), &[CONST])?;
-    let both = stream_with(rt.alloc(), &[TO_INT, CONST])?;
-    let want = bytes_of(rt.alloc(), &[CONST, TO_INT])?;
-    let heap = TestHeap::new(LocalHeap::new(rt.alloc(), HEAP)?);
-    let pointers = [pointer.as_slice()];
+/// What a call says at a limit, with ample memory, of these records after those of an earlier stream.
+fn said_at(
+    alloc: Global,
+    call: Call,
+    limit: u32,
+    earlier: &[&[u8]],
+    records: &[&[u8]],
+) -> Result<Answer, Fail> {
+    let before = stream_with(alloc, earlier)?;
+    let stream = stream_with(alloc, records)?;
+    let heap = TestHeap::new(LocalHeap::new(alloc, HEAP)?);
     let trial = Trial {
-        alloc: rt.alloc(),
+        alloc,
         heap: &heap,
         refusal: Refusal::Taken(0),
-        limit: 23,
-        earlier: &pointers,
-        stream: &other,
+        limit,
+        earlier: &[&before],
+        stream: &stream,
     };
-    let answer = join_amid(trial)?;
+    amid(call, trial)
+}
+
+#[test]
+fn a_union_at_the_limit(rt: HostRuntime) -> Result<(), Fail> {
+    let want = bytes_of(rt.alloc(), &[CONST, TO_INT])?;
+    let answer = said_at(rt.alloc(), Call::Join, 24, &[TO_INT], &[CONST])?;
+    assert!(rt; is_answer(&answer, Ok(()), &want, &want));
+    let answer = said_at(rt.alloc(), Call::Add, 24, &[CONST], &[TO_INT, CONST])?;
+    assert!(rt; is_answer(&answer, Ok(()), &want, &want));
+    Ok(())
+}
+
+#[test]
+fn a_union_past_the_limit(rt: HostRuntime) -> Result<(), Fail> {
+    let large = Err(JoinFault::TooLarge { bytes: 24 });
+    let want = bytes_of(rt.alloc(), &[CONST, TO_INT])?;
+    let answer = said_at(rt.alloc(), Call::Join, 23, &[TO_INT], &[CONST])?;
     assert!(rt; is_answer(&answer, large, TO_INT, &want));
-    let answer = join_amid(Trial { limit: 24, ..trial })?;
-    assert!(rt; is_answer(&answer, Ok(()), &want, &want));
-    let others = [other.as_slice()];
-    let answer = add_amid(Trial {
-        limit: 24,
-        earlier: &others,
-        stream: &both,
-        ..trial
-    })?;
-    assert!(rt; is_answer(&answer, Ok(()), &want, &want));
+    Ok(())
+}
+
+#[test]
+fn types_that_come_again_after_a_union_past_the_limit(rt: HostRuntime) -> Result<(), Fail> {
+    let large = Err(JoinFault::TooLarge { bytes: 24 });
+    let other = stream_with(rt.alloc(), &[CONST])?;
+    let both = stream_with(rt.alloc(), &[TO_INT, CONST])?;
     let answer = add_again(rt.alloc(), &other, &both)?;
     assert!(rt; is_answer(&answer, large, CONST, CONST));
     Ok(())
