@@ -1,5 +1,5 @@
 -- The definitions that only one of two lists of definitions has.
-use Rattle.std.specs.Prelude.{◌==◌, ◌&&◌, not, Bool, List, [], ◌∷◌, Option, Some, None, filter}
+use Rattle.std.specs.Prelude.{◌≡◌, ◌==◌, ◌&&◌, not, Bool, List, [], ◌∷◌, Option, Some, None, filter}
 use Rattle.std.specs.List.{list_any}
 use Rattle.std.specs.Str.{bytes_eq}
 use Rattle.type_changes.specs.Definition.{Key, Definition}
@@ -25,6 +25,11 @@ distinct (d ∷ ds) = d ∷ filter (λ other. not (is_same d other)) (distinct d
 -- those of our definitions that are not among theirs, each once
 abbrev pub lone : List Definition → List Definition → List Definition
 lone ours theirs = filter (λ d. not (has theirs d)) (distinct ours)
+
+-- what each of these two lists has alone is what each of ours and theirs has alone
+pub record HaveLone (some others ours theirs : List Definition) : Type 0 where
+  pub gone : lone some others ≡ lone ours theirs
+  pub come : lone others some ≡ lone theirs ours
 
 -- the one definition of a list that has only one
 abbrev pub only : List Definition → Option Definition

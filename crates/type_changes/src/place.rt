@@ -6,7 +6,7 @@ ghost use Rattle.closed_trees.specs.Tree.{Tree, IsTreeAt};
 ghost use Rattle.type_texts.specs.Asked.{AreTrees};
 ghost use Rattle.type_texts.specs.Spans.{AreListed};
 ghost use Rattle.type_changes.specs.Definition.{defined_by, definitions};
-ghost use Rattle.type_changes.specs.Lone.{lone};
+ghost use Rattle.type_changes.specs.Lone.{HaveLone};
 ghost use Rattle.type_changes.specs.Seen.{IsInside, is_noted, seen, seen_at};
 
 use crate::key::Key;
@@ -146,16 +146,11 @@ pub fn push_both<S: BuildHasher + Drop + Copy, A: Allocator + Copy>(
     first: &Types<'_, A>,
     second: &Types<'_, A>,
 ) -> Result<Places<A>, AllocError>
-    ensures gone { (trees others : List Tree) → AreTrees first.now trees
-        → AreTrees second.now others → IfOk result (λ places. lone
+    ensures lone { (trees others : List Tree) → AreTrees first.now trees
+        → AreTrees second.now others → IfOk result (λ places. HaveLone
         (map (seen_at text.new.items) places.first.items)
         (map (seen_at text.new.items) places.second.items)
-        ≡ lone (definitions trees) (definitions others)) }
-    ensures come { (trees others : List Tree) → AreTrees first.now trees
-        → AreTrees second.now others → IfOk result (λ places. lone
-        (map (seen_at text.new.items) places.second.items)
-        (map (seen_at text.new.items) places.first.items)
-        ≡ lone (definitions others) (definitions trees)) }
+        (definitions trees) (definitions others)) }
     ensures first { IfOk result (λ places.
         AllByRecursion (IsInside (length text.new.items)) places.first.items) }
     ensures second { IfOk result (λ places.

@@ -6,8 +6,8 @@ use Rattle.type_changes.proofs.ChangeLaws.{lone_kept}
 use Rattle.type_changes.proofs.PlaceLaws.{all_inside, all_kept}
 use Rattle.type_changes.proofs.place.push_both.Goals as goal
 
-pub returns-clause-gone : goal.returns-clause-gone
-returns-clause-gone g c = λ trees others are other_are.
+pub returns-clause-lone : goal.returns-clause-lone
+returns-clause-lone g c = λ trees others are other_are.
     let ours = definitions trees in
     let theirs = definitions others in
     let h = λ (x : List ℕ). g.S.Hasher.Hasher.finish (g.S.Hasher.Hasher.write (g.S.BuildHasher.build_hasher c.args.hasher) x) in
@@ -18,21 +18,11 @@ returns-clause-gone g c = λ trees others are other_are.
     let grown = c.in_ok-theirs.ensures.kept in
     let first : map (seen_at both) places ≡ filter v ours =
     all_kept texts grown.0 both places grown.1 c.in_ok-ours.ensures.inside ∙ c.in_ok-ours.ensures.value trees are in
-    rw (first, c.in_ok-theirs.ensures.value others other_are) (lone_kept v ours theirs (c.in_ok-names.ensures.gone trees others are other_are))
-
-pub returns-clause-come : goal.returns-clause-come
-returns-clause-come g c = λ trees others are other_are.
-    let ours = definitions trees in
-    let theirs = definitions others in
-    let h = λ (x : List ℕ). g.S.Hasher.Hasher.finish (g.S.Hasher.Hasher.write (g.S.BuildHasher.build_hasher c.args.hasher) x) in
-    let v = is_noted h c.in_ok-names.names.keys in
-    let texts = c.push_texts.new.text.items in
-    let both = c.push_texts-2.new.text.items in
-    let places = c.in_ok-ours.ours.items in
-    let grown = c.in_ok-theirs.ensures.kept in
-    let first : map (seen_at both) places ≡ filter v ours =
-    all_kept texts grown.0 both places grown.1 c.in_ok-ours.ensures.inside ∙ c.in_ok-ours.ensures.value trees are in
-    rw (first, c.in_ok-theirs.ensures.value others other_are) (lone_kept v theirs ours (c.in_ok-names.ensures.come trees others are other_are))
+    rw (first, c.in_ok-theirs.ensures.value others other_are)
+    (record {
+      gone = lone_kept v ours theirs (c.in_ok-names.ensures.gone trees others are other_are);
+      come = lone_kept v theirs ours (c.in_ok-names.ensures.come trees others are other_are);
+    })
 
 pub returns-clause-first : goal.returns-clause-first
 returns-clause-first g c =
