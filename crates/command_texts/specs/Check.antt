@@ -1,6 +1,6 @@
 -- The lines on types that are accepted.
 use Rattle.std.specs.Prelude.{ℕ, List, ◌∷◌, ◌++◌, codes}
-use Rattle.command_texts.specs.Text.{named_line}
+use Rattle.output_words.specs.Text.{named_line}
 
 -- what is printed of types that have this number of records, of bytes together and of levels
 unfoldable pub checked_lines : ℕ → ℕ → ℕ → List ℕ

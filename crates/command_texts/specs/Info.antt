@@ -4,7 +4,7 @@ use Rattle.std.specs.Fmt.{decimal}
 use Rattle.uuid.specs.Text.{hyphenated_text, lower}
 use Rattle.pdb_info.specs.Header.{HeaderFields}
 use Rattle.pdb_info.specs.Names.{NamedStream}
-use Rattle.command_texts.specs.Text.{index_text, quoted, named_line}
+use Rattle.output_words.specs.Text.{index_text, quoted, named_line}
 
 -- the line of the signature
 unfoldable pub signature_line : ℕ → List ℕ

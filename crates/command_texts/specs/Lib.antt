@@ -1,4 +1,3 @@
-pub mod Bounded
 pub mod Check
 pub mod Difference
 pub mod Info
@@ -6,5 +5,4 @@ pub mod Maps
 pub mod Record
 pub mod Records
 pub mod Streams
-pub mod Text
 pub mod Types

@@ -2,7 +2,7 @@
 use Rattle.std.specs.Prelude.{ℕ, ◌+◌, List, [], ◌∷◌, ◌++◌}
 use Rattle.std.specs.Fmt.{decimal}
 use Rattle.tpi_records.specs.Header.{first_index}
-use Rattle.command_texts.specs.Text.{index_text}
+use Rattle.output_words.specs.Text.{index_text}
 
 -- the line of a record: the position of its file, its type index, and the type index of its type in
 -- the file that was written

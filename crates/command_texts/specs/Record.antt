@@ -4,7 +4,7 @@ use Rattle.std.specs.Fmt.{decimal}
 use Rattle.hex.specs.Hex.{encode_lower}
 use Rattle.byte_fields.specs.Number.{number_at}
 use Rattle.cv_leaves.specs.Checks.{body_of}
-use Rattle.command_texts.specs.Text.{index_text, quoted}
+use Rattle.output_words.specs.Text.{index_text, quoted}
 
 -- the line of the bytes of a record, in hexadecimal
 unfoldable pub bytes_line : List ℕ → List ℕ

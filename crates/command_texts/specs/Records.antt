@@ -2,7 +2,7 @@
 use Rattle.std.specs.Prelude.{ℕ, ◌+◌, List, [], ◌∷◌, ◌++◌, length}
 use Rattle.std.specs.Fmt.{decimal}
 use Rattle.byte_fields.specs.Number.{number_at}
-use Rattle.command_texts.specs.Text.{index_text, kind_text}
+use Rattle.output_words.specs.Text.{index_text, kind_text}
 
 -- the line of a record: its type index, its kind, its size in bytes
 unfoldable pub record_line : ℕ → List ℕ → List ℕ

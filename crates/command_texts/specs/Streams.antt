@@ -4,7 +4,7 @@ use Rattle.std.specs.List.{flat_map}
 use Rattle.std.specs.Fmt.{decimal}
 use Rattle.msf_blocks.specs.Directory.{Listed, bytes_of}
 use Rattle.msf_blocks.specs.Layout.{LayoutView}
-use Rattle.command_texts.specs.Text.{named_line}
+use Rattle.output_words.specs.Text.{named_line}
 
 -- the lines on a container, of which this many blocks are free
 unfoldable pub container_with : ℕ → LayoutView → List ℕ

@@ -1,5 +1,5 @@
 -- The line of a type.
-use Rattle.std.specs.Prelude.{ℕ, List, [], ◌∷◌, ◌++◌, Option, Some, None, length}
+use Rattle.std.specs.Prelude.{ℕ, List, [], ◌∷◌, ◌++◌, length}
 use Rattle.std.specs.Option.{option_map_or}
 use Rattle.std.specs.List.{flat_map}
 use Rattle.std.specs.Fmt.{decimal}
@@ -7,16 +7,11 @@ use Rattle.byte_fields.specs.Number.{number_at}
 use Rattle.cv_leaves.specs.Leaf.{leaf_of}
 use Rattle.cv_leaves.specs.Checks.{kind_of, body_of}
 use Rattle.cv_leaves.specs.Name.{name_of}
-use Rattle.command_texts.specs.Text.{index_text, quoted}
+use Rattle.output_words.specs.Text.{index_text, quoted_name}
 
 -- a space and a reference: the type index at a place of a record
 abbrev pub reference : List ℕ → ℕ → List ℕ
 reference bytes place = 32 ∷ index_text (number_at 4 (body_of bytes) place)
-
--- a space and a name in quotes, where there is a name
-unfoldable pub quoted_name : Option (List ℕ) → List ℕ
-quoted_name None = []
-quoted_name (Some name) = 32 ∷ quoted name
 
 -- the name of the leaf of a record
 unfoldable pub leaf_name : List ℕ → List ℕ

@@ -3,7 +3,7 @@
 ghost use Rattle.std.specs.Prelude.{◌≡◌, ◌++◌, OnOk, string_bytes};
 ghost use Rattle.command_texts.specs.Check.{checked_lines};
 
-use crate::text::push_named;
+use output_words::push_named;
 use std::alloc::{AllocError, Allocator};
 
 /// Appends `accepted`, then the number of records, of bytes and of levels, one per line.

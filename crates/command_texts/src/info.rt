@@ -5,7 +5,7 @@ ghost use Rattle.std.specs.List.{flat_map};
 ghost use Rattle.pdb_info.specs.Name.{named};
 ghost use Rattle.command_texts.specs.Info.{signature_line, guid_line, header_lines, name_line, feature_line};
 
-use crate::text::{push_index, push_named, push_number, push_quoted};
+use output_words::{push_index, push_named, push_number, push_quoted};
 use pdb_info::{InfoHeader, Name};
 use std::alloc::{AllocError, Allocator};
 use uuid::Uuid;

@@ -5,7 +5,7 @@ ghost use Rattle.closed_trees.specs.Depth.{AreBelow};
 ghost use Rattle.tpi_records.specs.Header.{first_index};
 ghost use Rattle.command_texts.specs.Maps.{map_line, map_lines};
 
-use crate::text::{push_decimal, push_index};
+use output_words::{push_decimal, push_index};
 use std::alloc::{AllocError, Allocator};
 use tpi_records::FIRST_INDEX;
 

@@ -6,8 +6,8 @@ ghost use Rattle.cv_leaves.specs.Place.{HasPlaces, IsChecked};
 ghost use Rattle.cv_leaves.specs.Name.{name_of};
 ghost use Rattle.command_texts.specs.Record.{bytes_line, place_line, name_lines};
 
-use crate::text::{push_decimal, push_index, push_quoted};
 use cv_leaves::{places, ref_at, type_name};
+use output_words::{push_decimal, push_index, push_quoted};
 use std::alloc::{AllocError, Allocator};
 
 /// Appends the line with the bytes in hexadecimal.

@@ -4,8 +4,8 @@ ghost use Rattle.std.specs.Prelude.{◌≡◌, ◌++◌, OnOk, IfOk, string_byte
 ghost use Rattle.tpi_records.specs.Records.{IsRecord};
 ghost use Rattle.command_texts.specs.Records.{record_line, record_lines};
 
-use crate::text::{push_index, push_kind, push_number};
 use cv_leaves::kind_of;
+use output_words::{push_index, push_kind, push_number};
 use std::alloc::{AllocError, Allocator};
 use tpi_records::FIRST_INDEX;
 

@@ -5,8 +5,8 @@ ghost use Rattle.std.specs.List.{flat_map};
 ghost use Rattle.msf_streams.specs.Streams.{blocks_in};
 ghost use Rattle.command_texts.specs.Streams.{blank_number, container_with, stream_line, stream_lines};
 
-use crate::text::{push_decimal, push_named, push_number};
 use msf_blocks::{Layout, blocks_for};
+use output_words::{push_decimal, push_named, push_number};
 use std::alloc::{AllocError, Allocator};
 
 /// Appends the lines on the container, of which this many blocks are free.

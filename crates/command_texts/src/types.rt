@@ -5,11 +5,11 @@ ghost use Rattle.std.specs.List.{flat_map};
 ghost use Rattle.std.specs.Fmt.{decimal};
 ghost use Rattle.cv_leaves.specs.Place.{HasPlaces, IsChecked};
 ghost use Rattle.cv_leaves.specs.Name.{name_of};
-ghost use Rattle.command_texts.specs.Text.{index_text};
-ghost use Rattle.command_texts.specs.Types.{type_line, reference, quoted_name, leaf_name};
+ghost use Rattle.output_words.specs.Text.{index_text, quoted_name};
+ghost use Rattle.command_texts.specs.Types.{type_line, reference, leaf_name};
 
-use crate::text::{push_index, push_number, push_quoted};
 use cv_leaves::{kind_of, leaf_text, places, ref_at, type_name};
+use output_words::{push_index, push_number, push_quoted};
 use std::alloc::{AllocError, Allocator};
 
 /// Appends the name of the leaf of a record.
@@ -68,7 +68,7 @@ fn push_references<A: Allocator>(text: &mut String<A>, bytes: &[u8]) -> Result<(
 }
 
 /// Appends a space and the name of a type in quotes, where it has one.
-#[tactic(auto, unfolding(crate::specs::Types::quoted_name))]
+#[tactic(auto, unfolding(output_words::specs::Text::quoted_name))]
 fn push_name<A: Allocator>(text: &mut String<A>, bytes: &[u8]) -> Result<(), AllocError>
     requires { (4 ≤ length bytes.now) × (length bytes.now ≤ 2 ^ 16) }
     ensures { OnOk result

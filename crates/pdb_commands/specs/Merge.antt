@@ -12,7 +12,7 @@ use Rattle.pdb_merge.specs.Fault.{NamesFault}
 use Rattle.pdb_merge.specs.declared.summary.Summary.{Summary}
 use Rattle.pdb_merge.specs.declared.fault.MergeFault.{MergeFault}
 use Rattle.pdb_merge.specs.declared.fault.MergeFault.TheVariants as merge
-use Rattle.command_texts.specs.Text.{named_line}
+use Rattle.output_words.specs.Text.{named_line}
 use Rattle.pdb_commands.specs.declared.fault.RunFault.{RunFault}
 use Rattle.pdb_commands.specs.declared.fault.RunFault.TheVariants.{Merge, Memory, Write}
 

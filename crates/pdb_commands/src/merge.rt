@@ -11,7 +11,7 @@ ghost use Rattle.pdb_commands.specs.Merge.{accepted_lines, summary_lines, AreMap
 
 use crate::fault::RunFault;
 use byte_io::{Inputs, Sink, put_all};
-use command_texts::push_named;
+use output_words::push_named;
 use pdb_info::Settings;
 use pdb_merge::{KeepMaps, Summary, merge_to, merge_to_with};
 use std::alloc::{AllocError, Allocator};

@@ -2,9 +2,9 @@
 
 use crate::same::{FileId, is_one_of};
 use command_line::Merging;
-use pdb_commands::{RunFault, write_maps};
+use pdb_commands::{Making, RunFault, write_maps};
 use pdb_merge::TypeMaps;
-use program_files::{Making, MapFault, NewFile, Place, ProgramFault, Said};
+use program_files::{MapFault, NewFile, Place, ProgramFault, Said};
 use std::fs;
 use std::io::{Error, ErrorKind};
 use std::rt::HostRuntime;

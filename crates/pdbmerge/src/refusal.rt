@@ -1,7 +1,7 @@
 //! What the program says of a refusal.
 
 use command_line::{Line, LineFault, Task};
-use command_texts::push_quoted;
+use output_words::push_quoted;
 use pdb_commands::RunFault;
 use program_files::{Place, ProgramFault, Said};
 use std::alloc::AllocError;

@@ -10,22 +10,11 @@ use crate::fault::ProgramFault;
 use crate::said::{Place, Said, Telling};
 use crate::spare::Spare;
 use byte_io::{NotTaken, Out, Sink};
-use pdb_commands::RunFault;
+use pdb_commands::{Making, RunFault};
 use std::fs::{File, OpenFile};
 use std::io::{self, ErrorKind};
 use std::rt::Files;
 use std::{fmt, fs};
-
-/// How a file is made that may be there already.
-#[derive(Clone, Copy, Debug, PartialEq, Eq)]
-pub enum Making {
-    /// What is there is written over.
-    Overwrite,
-    /// Nothing may be there.
-    New,
-    /// It is written under a name of its own in the same folder, and takes its place at the end.
-    Replace,
-}
 
 // Each name that the system is told has 4 KB of the stack, so each way to open a file has a frame of its own.
 

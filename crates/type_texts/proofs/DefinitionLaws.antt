@@ -12,7 +12,7 @@ use Rattle.cv_leaves.proofs.FilledLaws.{blanked_kind, blanked_len, blanked_place
 use Rattle.closed_trees.specs.Tree.{Tree, Branches, tree, blank_of, IsTreeAt, AreBranches}
 use Rattle.type_texts.specs.Definition.{defined_words, only_declares, title, size_text, end_of_head, list_place, title_of, definition_size, members_text, is_definition, definition_text, parts_of}
 use Rattle.type_texts.specs.Expression.{position_of, branch_text, IsTold}
-use Rattle.command_texts.specs.Bounded.{cut}
+use Rattle.output_words.specs.Bounded.{cut}
 use Rattle.type_texts.specs.Field.{number_in}
 use Rattle.type_texts.specs.Lines.{shown_type, lines_at, lines_text, AreLines, GoOn}
 use Rattle.type_texts.proofs.BlankLaws.{Outside, body_len, two_same, numeric_same, same_name, same_rest, same_in_body}

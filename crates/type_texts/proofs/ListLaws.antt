@@ -2,7 +2,7 @@
 use Rattle.std.proofs.Common.{◌≡◌, ◌∙◌, ℕ, List, ◌∷◌, ◌++◌, take, ap}
 use Rattle.std.proofs.lemmas.List.{append_assoc}
 use Rattle.type_texts.specs.Told.{strung}
-use Rattle.command_texts.proofs.TakeLaws.{take_again, take_more}
+use Rattle.output_words.proofs.TakeLaws.{take_again, take_more}
 
 -- one text more
 pub list_more : (end : ℕ) (text before here separator one two all : List ℕ) (others : List (List ℕ)) → one ≡ take end (text ++ before) → two ≡ take end (one ++ here)

@@ -10,7 +10,7 @@ use Rattle.cv_leaves.specs.Numeric.{numeric_len, has_numeric, numeric_end}
 use Rattle.cv_leaves.specs.Member.{Member, members, member_of, member_places}
 use Rattle.cv_leaves.specs.FieldList.{indices_of, IsWholeMember, DifferInIndices}
 use Rattle.cv_leaves.proofs.TestLaws.{found_passes}
-use Rattle.command_texts.specs.Types.{quoted_name}
+use Rattle.output_words.specs.Text.{quoted_name}
 use Rattle.type_texts.specs.Field.{number_in, numeric_text}
 use Rattle.type_texts.specs.Member.{member_kind, second_numeric, place_words, what_words, member_name, names_type, member_line}
 use Rattle.type_texts.proofs.BlankLaws.{two_same, four_same, numeric_same, name_same, named_same, choose}

@@ -6,7 +6,7 @@ use Rattle.byte_fields.specs.Name.{name_at}
 use Rattle.byte_fields.specs.Number.{number_at}
 use Rattle.cv_leaves.specs.Numeric.{has_numeric}
 use Rattle.cv_leaves.specs.Name.{from_name, name_of}
-use Rattle.command_texts.specs.Text.{quoted}
+use Rattle.output_words.specs.Text.{quoted}
 
 -- the number of `count` bytes at an offset of a body, or 0 where it does not fit
 unfoldable pub number_in : ℕ → List ℕ → ℕ → ℕ

@@ -6,7 +6,7 @@ use Rattle.tpi_records.specs.Header.{first_index}
 use Rattle.cv_leaves.specs.FieldList.{members_of, indices_of}
 use Rattle.closed_trees.specs.Depth.{depth}
 use Rattle.closed_trees.specs.Tree.{Tree, Branches, tree, no_branch, simple, branch, IsTreeAt}
-use Rattle.command_texts.specs.Bounded.{cut}
+use Rattle.output_words.specs.Bounded.{cut}
 use Rattle.type_texts.specs.Expression.{branch_text}
 use Rattle.type_texts.specs.Member.{member_kind, member_line}
 

@@ -6,7 +6,7 @@ use Rattle.cv_leaves.specs.Attributes.{introduces}
 use Rattle.cv_leaves.specs.Numeric.{has_numeric, numeric_end}
 use Rattle.cv_leaves.specs.Name.{name_in}
 use Rattle.cv_leaves.specs.declared.leaf.NamePlace.TheVariants.{AfterNumeric}
-use Rattle.command_texts.specs.Types.{quoted_name}
+use Rattle.output_words.specs.Text.{quoted_name}
 use Rattle.type_texts.specs.Field.{number_in, numeric_text}
 
 -- the kind of a member, and the two bytes after it, which are attributes in most kinds

@@ -1,7 +1,7 @@
 -- The names of simple types. The low byte of a type index below 0x1000 is the kind. Any other mode
 -- than 0 is a pointer to it.
 use Rattle.std.specs.Prelude.{ℕ, ◌/◌, ◌%◌, ◌==◌, if◌then◌else◌, List, [], ◌∷◌, ◌++◌, Option, Some, None, codes}
-use Rattle.command_texts.specs.Text.{digit}
+use Rattle.output_words.specs.Text.{digit}
 
 -- the name of a kind of simple type
 unfoldable pub simple_name : ℕ → Option (List ℕ)

@@ -8,14 +8,14 @@ ghost use Rattle.type_texts.specs.Definition.{defined_words, only_declares, titl
 ghost use Rattle.type_texts.specs.Expression.{IsTold};
 ghost use Rattle.type_texts.specs.Field.{number_in};
 ghost use Rattle.type_texts.specs.Spans.{AreListed};
-ghost use Rattle.command_texts.specs.Bounded.{cut};
+ghost use Rattle.output_words.specs.Bounded.{cut};
 
 use crate::expression::push_type;
 use crate::field::{add_numeric, add_own_name, u16_in, u32_in};
 use crate::lists::{Lists, push_members};
 use checked_types::Types;
-use command_texts::bounded::add;
 use cv_leaves::{body_of, kind_of};
+use output_words::bounded::add;
 use std::alloc::{AllocError, Allocator};
 
 /// The leaf of an enumeration.

@@ -5,7 +5,7 @@ ghost use Rattle.tpi_records.specs.Records.{IsRecord};
 ghost use Rattle.cv_leaves.specs.Checks.{body_of, places_of};
 ghost use Rattle.cv_leaves.specs.Place.{IsChecked};
 ghost use Rattle.type_texts.specs.Field.{number_in};
-ghost use Rattle.command_texts.specs.Bounded.{cut};
+ghost use Rattle.output_words.specs.Bounded.{cut};
 ghost use Rattle.type_texts.specs.Told.{nothing_words, strung, told};
 ghost use Rattle.type_texts.specs.Expression.{AreToldAt, IsNamed, IsTold};
 
@@ -13,8 +13,8 @@ use crate::field::{push_numeric, u32_in};
 use crate::simple::push_simple;
 use crate::told::{push_bits, push_modifier, push_plain, push_pointer};
 use checked_types::Types;
-use command_texts::bounded::push;
 use cv_leaves::{body_of, kind_of, places, points_to_member};
+use output_words::bounded::push;
 use std::alloc::{AllocError, Allocator};
 use tpi_records::FIRST_INDEX;
 

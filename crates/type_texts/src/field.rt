@@ -6,8 +6,8 @@ ghost use Rattle.type_texts.specs.Field.{number_in, numeric_text, name_text, sho
 
 use byte_fields::{fits, name_at, u16_at, u32_at};
 use byteorder::{ByteOrder, LittleEndian};
-use command_texts::bounded::{FREE, push, push_number, push_quoted};
 use cv_leaves::{from_name, type_name};
+use output_words::bounded::{FREE, push, push_number, push_quoted};
 use std::alloc::{AllocError, Allocator};
 
 /// The byte at an offset, or 0 where it does not fit.
@@ -56,7 +56,7 @@ pub fn u64_in(body: &[u8], at: usize) -> u64
 
 /// Appends a number in two's complement. `half` is the lowest number that stands for a negative
 /// one.
-#[tactic(auto, using(command_texts::proofs::TakeLaws::take_more), unfolding(crate::specs::Field::signed))]
+#[tactic(auto, using(output_words::proofs::TakeLaws::take_more), unfolding(crate::specs::Field::signed))]
 fn push_signed<A: Allocator>(
     text: &mut Vec<u8, A>,
     end: usize,

@@ -11,13 +11,13 @@ ghost use Rattle.type_texts.specs.Expression.{IsTold};
 ghost use Rattle.type_texts.specs.Field.{number_in};
 ghost use Rattle.type_texts.specs.Lines.{GoOn, lines_text, own_lines, rest_lines};
 ghost use Rattle.type_texts.specs.Member.{member_line, names_type};
-ghost use Rattle.command_texts.specs.Bounded.{cut};
+ghost use Rattle.output_words.specs.Bounded.{cut};
 
 use crate::field::{u16_in, u32_in};
 use crate::member::push_member;
 use checked_types::Types;
-use command_texts::bounded::add;
 use cv_leaves::members;
+use output_words::bounded::add;
 use std::alloc::{AllocError, Allocator};
 use tpi_records::FIRST_INDEX;
 

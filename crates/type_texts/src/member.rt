@@ -1,18 +1,18 @@
 //! The line of a member of a field list.
 
 ghost use Rattle.std.specs.Prelude.{◌≡◌, ◌≤◌, ◌<◌, ◌++◌, ◌^◌, ℕ, List, true, OnOk, option_map, length};
-ghost use Rattle.command_texts.specs.Types.{quoted_name};
+ghost use Rattle.output_words.specs.Text.{quoted_name};
 ghost use Rattle.type_texts.specs.Expression.{IsTold};
 ghost use Rattle.type_texts.specs.Field.{number_in};
 ghost use Rattle.type_texts.specs.Member.{access_words, method_words, second_numeric, place_words, what_words, member_name, names_type, member_line};
-ghost use Rattle.command_texts.specs.Bounded.{cut};
+ghost use Rattle.output_words.specs.Bounded.{cut};
 
 use crate::expression::push_type;
 use crate::field::{add_numeric, u16_in, u32_in};
 use byte_fields::name_at;
 use checked_types::Types;
-use command_texts::bounded::{add, add_number, add_quoted};
 use cv_leaves::{after_numeric, introduces};
+use output_words::bounded::{add, add_number, add_quoted};
 use std::alloc::{AllocError, Allocator};
 
 /// The words of the attributes of a member: who may use it.
@@ -136,7 +136,7 @@ fn member_name(member: &[u8]) -> Option<&[u8]>
 }
 
 /// Appends a space and the name of a member in quotes, where it has one.
-#[tactic(auto, unfolding(command_texts::specs::Types::quoted_name))]
+#[tactic(auto, unfolding(output_words::specs::Text::quoted_name))]
 fn push_name<A: Allocator>(text: &mut Vec<u8, A>, member: &[u8]) -> Result<(), AllocError>
     requires { length member.now ≤ 2 ^ 16 }
     ensures { OnOk result

@@ -3,7 +3,7 @@
 ghost use Rattle.std.specs.Prelude.{◌≡◌, ◌≤◌, ◌<◌, ◌++◌, OnOk, option_map, length, take};
 ghost use Rattle.type_texts.specs.Simple.{simple_name, simple_mode_words, simple_words};
 
-use command_texts::bounded::{digit, push};
+use output_words::bounded::{digit, push};
 use std::alloc::{AllocError, Allocator};
 
 /// The name of a kind of simple type.
@@ -68,7 +68,7 @@ fn simple_mode_words(mode: u32) -> &'static str
 
 /// Appends the words of a simple type: its name, or its number where the table lacks its kind.
 /// `nothing` stands for no type.
-#[tactic(auto, using(command_texts::proofs::TakeLaws::take_more), unfolding(crate::specs::Simple::simple_words, crate::specs::Simple::simple_text))]
+#[tactic(auto, using(output_words::proofs::TakeLaws::take_more), unfolding(crate::specs::Simple::simple_words, crate::specs::Simple::simple_text))]
 pub fn push_simple<A: Allocator>(
     text: &mut Vec<u8, A>,
     end: usize,

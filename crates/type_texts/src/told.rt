@@ -5,12 +5,12 @@ ghost use Rattle.tpi_records.specs.Records.{IsRecord};
 ghost use Rattle.type_texts.specs.Told.{plain_words, if_bit, pointer_mode_words, modifier_words, pointer_words, bit_words};
 
 use crate::field::{byte_in, push_told_name, u16_in, u32_in};
-use command_texts::bounded::{push, push_number};
 use cv_leaves::{body_of, kind_of};
+use output_words::bounded::{push, push_number};
 use std::alloc::{AllocError, Allocator};
 
 /// Appends words if the lowest bit is set.
-#[tactic(auto, using(command_texts::proofs::TakeLaws::take_none))]
+#[tactic(auto, using(output_words::proofs::TakeLaws::take_none))]
 fn push_if<A: Allocator>(
     text: &mut Vec<u8, A>,
     end: usize,
@@ -29,7 +29,7 @@ fn push_if<A: Allocator>(
 }
 
 /// Appends the words of a modifier.
-#[tactic(auto, using(command_texts::proofs::TakeLaws::take_more), unfolding(crate::specs::Told::modifier_words))]
+#[tactic(auto, using(output_words::proofs::TakeLaws::take_more), unfolding(crate::specs::Told::modifier_words))]
 pub fn push_modifier<A: Allocator>(
     text: &mut Vec<u8, A>,
     end: usize,
@@ -61,7 +61,7 @@ fn pointer_mode_words(mode: u32) -> &'static str
 }
 
 /// Appends the words of a pointer.
-#[tactic(auto, using(command_texts::proofs::TakeLaws::take_more), unfolding(crate::specs::Told::pointer_words))]
+#[tactic(auto, using(output_words::proofs::TakeLaws::take_more), unfolding(crate::specs::Told::pointer_words))]
 pub fn push_pointer<A: Allocator>(
     text: &mut Vec<u8, A>,
     end: usize,
@@ -79,7 +79,7 @@ pub fn push_pointer<A: Allocator>(
 }
 
 /// Appends the words of a bit field.
-#[tactic(auto, using(command_texts::proofs::TakeLaws::take_more), unfolding(crate::specs::Told::bit_words))]
+#[tactic(auto, using(output_words::proofs::TakeLaws::take_more), unfolding(crate::specs::Told::bit_words))]
 pub fn push_bits<A: Allocator>(
     text: &mut Vec<u8, A>,
     end: usize,

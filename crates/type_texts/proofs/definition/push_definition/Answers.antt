@@ -4,7 +4,7 @@ use Rattle.cv_leaves.specs.Checks.{body_of, kind_of}
 use Rattle.type_texts.specs.Definition.{defined_words, end_of_head, list_place, size_text, title}
 use Rattle.type_texts.specs.Field.{number_in}
 use Rattle.type_texts.specs.Lines.{AreLines}
-use Rattle.command_texts.specs.Bounded.{cut}
+use Rattle.output_words.specs.Bounded.{cut}
 use Rattle.type_texts.proofs.BranchLaws.{got, gone}
 use Rattle.type_texts.proofs.DefinitionLaws.{tree_undefined, tree_defined, nothing_told, whole_text}
 use Rattle.std.proofs.lemmas.List.{append-nil}

@@ -11,7 +11,7 @@ use Rattle.type_texts.specs.Told.{nothing_words, modifier_words, pointer_words, 
 use Rattle.type_texts.proofs.BranchLaws.{told_place, words_got, words_none, not_there}
 use Rattle.type_texts.proofs.KindLaws.{told-modifier, has-modifier, told-procedure, has-procedure, told-method, has-method, told-bits, has-bits, told-array, has-array, told-list, told-methods, told-member_pointer, told-pointer, has-pointer, has-member, told-plain}
 use Rattle.type_texts.proofs.ListLaws.{list_more}
-use Rattle.command_texts.proofs.TakeLaws.{take_more, three_more, four_more, six_more}
+use Rattle.output_words.proofs.TakeLaws.{take_more, three_more, four_more, six_more}
 use Rattle.type_texts.proofs.TellLaws.{on_ok}
 use Rattle.type_texts.proofs.expression.+words.Goals as goal
 

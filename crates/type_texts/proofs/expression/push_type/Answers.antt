@@ -1,5 +1,5 @@
 use Rattle.std.proofs.Common.{◌≡◌, ◌≤◌, ◌<◌, ◌+◌, ◌++◌, codes, take, length, rules}
-use Rattle.command_texts.proofs.TakeLaws.{cut_whole, cut_part}
+use Rattle.output_words.proofs.TakeLaws.{cut_whole, cut_part}
 use Rattle.type_texts.proofs.expression.push_type.Goals as goal
 
 pub returns-in_ok-extend_from_slice : goal.returns-in_ok-extend_from_slice

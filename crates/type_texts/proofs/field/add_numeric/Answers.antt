@@ -1,6 +1,6 @@
 use Rattle.std.proofs.Common.{rules, ◌<◌, ◌-◌, ◌^◌, ◌++◌, length}
 use Rattle.type_texts.specs.Field.{numeric_text}
-use Rattle.command_texts.proofs.TakeLaws.{free}
+use Rattle.output_words.proofs.TakeLaws.{free}
 use Rattle.type_texts.proofs.field.add_numeric.Goals as goal
 
 pub returns : goal.returns

@@ -1,7 +1,7 @@
 use Rattle.std.proofs.Common.{rules, ◌<◌, ◌-◌, ◌^◌, ◌++◌, ◌∙◌, length, ap}
 use Rattle.std.specs.Prelude.{option_map}
 use Rattle.type_texts.specs.Field.{name_text, own_name}
-use Rattle.command_texts.proofs.TakeLaws.{free}
+use Rattle.output_words.proofs.TakeLaws.{free}
 use Rattle.type_texts.proofs.field.add_own_name.Goals as goal
 
 pub returns : goal.returns

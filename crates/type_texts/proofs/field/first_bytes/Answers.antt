@@ -1,5 +1,5 @@
 use Rattle.std.proofs.Common.{arith}
-use Rattle.command_texts.proofs.TakeLaws.{take_whole}
+use Rattle.output_words.proofs.TakeLaws.{take_whole}
 use Rattle.type_texts.proofs.field.first_bytes.Goals as goal
 
 pub returns-in-None : goal.returns-in-None

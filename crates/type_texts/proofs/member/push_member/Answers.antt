@@ -1,5 +1,5 @@
 use Rattle.std.proofs.Common.{rules, ◌≡◌, true}
-use Rattle.command_texts.specs.Bounded.{cut}
+use Rattle.output_words.specs.Bounded.{cut}
 use Rattle.type_texts.specs.Member.{names_type}
 use Rattle.type_texts.specs.Expression.{IsTold}
 use Rattle.type_texts.proofs.TellLaws.{on_ok}

@@ -2,7 +2,7 @@ use Rattle.std.proofs.Common.{◌≡◌, ◌+◌, ◌-◌, codes, rules}
 use Rattle.std.specs.Fmt.{decimal}
 use Rattle.type_texts.specs.Field.{number_in}
 use Rattle.type_texts.specs.Told.{bit_words}
-use Rattle.command_texts.proofs.TakeLaws.{four_more}
+use Rattle.output_words.proofs.TakeLaws.{four_more}
 use Rattle.type_texts.proofs.told.push_bits.Goals as goal
 
 pub returns-clause-value : goal.returns-clause-value

@@ -3,7 +3,7 @@ use Rattle.std.specs.Fmt.{decimal}
 use Rattle.cv_leaves.specs.Checks.{kind_of, body_of}
 use Rattle.type_texts.specs.Field.{number_in}
 use Rattle.type_texts.proofs.KindLaws.{plain-shape, plain-label, plain-table}
-use Rattle.command_texts.proofs.TakeLaws.{take_more}
+use Rattle.output_words.proofs.TakeLaws.{take_more}
 use Rattle.type_texts.proofs.TellLaws.{on_ok}
 use Rattle.type_texts.proofs.told.push_plain.Goals as goal
 

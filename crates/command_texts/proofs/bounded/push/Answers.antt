@@ -1,7 +1,0 @@
-use Rattle.std.proofs.Common.{rules}
-use Rattle.std.proofs.lemmas.List.{take_min}
-use Rattle.command_texts.proofs.TakeLaws.{take_room}
-use Rattle.command_texts.proofs.bounded.push.Goals as goal
-
-pub returns-clause-value : goal.returns-clause-value
-returns-clause-value c = search (rules, take_room, take_min)
