@@ -3,8 +3,8 @@
 //!
 //! `arguments` takes the arguments from the system. `merge` runs the command of that name: `lists` reads
 //! the list of more inputs, `map` writes its maps, and `report` prints the report on it. `same` tells
-//! whether two paths name one file. `hold` keeps files off the numbers of the standard streams, and
-//! `refusal` prints why a command was refused.
+//! whether two paths name one file. `hashes` makes the hashes of records. `hold` keeps files off the
+//! numbers of the standard streams, and `refusal` prints why a command was refused.
 //! The arguments are read by `command_line`, files are opened and created by `program_files`, and
 //! the commands are those of `pdb_commands`. This module joins these to the system: arguments, the
 //! standard streams and the exit status.
@@ -14,6 +14,7 @@
 #![tactic(auto)]
 
 mod arguments;
+mod hashes;
 mod hold;
 mod lists;
 mod map;
@@ -26,6 +27,7 @@ use arguments::arguments;
 use byte_io::{In, Out, put_all};
 use command_line::{Compared, Line, LineFault, Task, USAGE, query_of, read_line};
 use fault_pages::Page;
+use hashes::Hashes;
 use hold::hold;
 use lists::read_list;
 use merge::merge;
@@ -35,7 +37,6 @@ use pdb_commands::{
 use program_files::{InputFiles, ProgramFault, Reading, Said, WholeFile, open_within};
 use refusal::{Refusal, quoted, refuse, refuse_line};
 use report::standard_output;
-use std::hash::{BuildHasher, BuildHasherDefault, DefaultHasher, RandomState};
 use std::process::ExitCode;
 
 /// The exit status of `diff` where the files differ in their types.
@@ -56,14 +57,13 @@ fn inputs_in<'a>(
 
 /// Prints in what two files differ. Returns the exit status.
 #[inline(never)]
-fn compare_with<S: BuildHasher + Drop + Copy>(
+fn compare(
     rt: &HostRuntime,
     inputs: &InputFiles<'_, HostRuntime>,
     compared: Compared,
     said: &Said,
-    hasher: S,
 ) -> Result<ExitCode, ProgramFault> {
-    let mut out = standard_output(rt, said);
+    let (mut out, hasher) = (standard_output(rt, said), Hashes::new(rt));
     let same = match compared {
         Compared::Types(scope) => run_diff(rt.alloc(), inputs, scope, &mut out, hasher)?,
         Compared::Members => run_diff_members(rt.alloc(), inputs, &mut out, hasher)?,
@@ -72,22 +72,6 @@ fn compare_with<S: BuildHasher + Drop + Copy>(
         Ok(ExitCode::SUCCESS)
     } else {
         Ok(ExitCode::from(DIFFERENT))
-    }
-}
-
-/// Compares the types of two files, with hashes as [`merge`] has them.
-fn compare(
-    rt: &HostRuntime,
-    inputs: &InputFiles<'_, HostRuntime>,
-    compared: Compared,
-    said: &Said,
-) -> Result<ExitCode, ProgramFault> {
-    match RandomState::new(rt) {
-        Ok(hasher) => compare_with(rt, inputs, compared, said, hasher),
-        Err(_) => {
-            let hasher: BuildHasherDefault<DefaultHasher> = BuildHasherDefault::new();
-            compare_with(rt, inputs, compared, said, hasher)
-        }
     }
 }
 

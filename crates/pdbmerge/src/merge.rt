@@ -1,17 +1,17 @@
 //! The command `merge`: its files, its report and its exit status.
 
+use crate::hashes::Hashes;
 use crate::map::{put_map, refuse_taken, write_map_file};
 use crate::refusal::quoted;
 use crate::report::{REPORT_LENGTH, TakenStreams, print};
 use byte_io::Out;
 use command_line::Merging;
 use pdb_commands::{
-    GuidChoice, RunFault, SiftedFile, merge_accepted, report_accepted, run_merge_by_types,
+    GuidChoice, Making, RunFault, SiftedFile, merge_accepted, report_accepted, run_merge_by_types,
     run_merge_with,
 };
 use pdb_merge::{KeepMaps, LeftOut, NoMaps, TypeMaps};
-use program_files::{InputFiles, Making, NewFile, Place, ProgramFault, Progress, Said};
-use std::hash::{BuildHasher, BuildHasherDefault, DefaultHasher, RandomState};
+use program_files::{InputFiles, NewFile, Place, ProgramFault, Progress, Said};
 use std::io::{Error, ErrorKind};
 use std::process::ExitCode;
 use std::rt::HostRuntime;
@@ -59,11 +59,11 @@ fn inputs_of<'a>(job: &Job<'a>) -> InputFiles<'a, HostRuntime> {
 
 /// Merges those inputs that are accepted into a new file, and reports on it.
 #[inline(never)]
-fn merge_some<S: BuildHasher + Drop, K: KeepMaps + Drop>(
+fn merge_some<K: KeepMaps + Drop>(
     job: &Job<'_>,
     out: &mut NewFile<'_, HostRuntime>,
     report: &mut Vec<u8>,
-    hasher: S,
+    hasher: Hashes,
     maps: K,
 ) -> Result<Beside<K>, RunFault> {
     let (alloc, task) = (job.rt.alloc(), job.task);
@@ -89,11 +89,11 @@ fn merge_some<S: BuildHasher + Drop, K: KeepMaps + Drop>(
 
 /// Merges all inputs into a new file, and reports on it.
 #[inline(never)]
-fn merge_all<S: BuildHasher + Drop, K: KeepMaps + Drop>(
+fn merge_all<K: KeepMaps + Drop>(
     job: &Job<'_>,
     out: &mut NewFile<'_, HostRuntime>,
     report: &mut Vec<u8>,
-    hasher: S,
+    hasher: Hashes,
     maps: K,
 ) -> Result<Beside<K>, RunFault> {
     let (alloc, settings) = (job.rt.alloc(), &job.task.settings);
@@ -113,11 +113,11 @@ fn merge_all<S: BuildHasher + Drop, K: KeepMaps + Drop>(
 }
 
 /// Merges inputs into a new file, which is stored then.
-fn merge_into<S: BuildHasher + Drop, K: KeepMaps + Drop>(
+fn merge_into<K: KeepMaps + Drop>(
     job: &Job<'_>,
     out: &mut NewFile<'_, HostRuntime>,
     report: &mut Vec<u8>,
-    hasher: S,
+    hasher: Hashes,
     maps: K,
 ) -> Result<Beside<K>, ProgramFault> {
     let merged = if job.task.skips_refused {
@@ -135,11 +135,11 @@ fn merge_into<S: BuildHasher + Drop, K: KeepMaps + Drop>(
 
 /// Merges inputs into a new file, and then writes the maps of the inputs where they are asked for.
 #[inline(never)]
-fn write_files<'a, S: BuildHasher + Drop>(
+fn write_files<'a>(
     job: &Job<'a>,
     out: &mut NewFile<'a, HostRuntime>,
     report: &mut Vec<u8>,
-    hasher: S,
+    hasher: Hashes,
 ) -> Result<(Vec<LeftOut>, Option<NewFile<'a, HostRuntime>>), ProgramFault> {
     let (rt, task) = (job.rt, job.task);
     let Some(path) = &task.map else {
@@ -154,7 +154,7 @@ fn write_files<'a, S: BuildHasher + Drop>(
 
 /// Merges as [`write_files`] does. After a refusal nothing is left of files that have not taken their
 /// places.
-fn write<'a, S: BuildHasher + Drop>(job: &Job<'a>, hasher: S) -> Result<Written<'a>, ProgramFault> {
+fn write<'a>(job: &Job<'a>, hasher: Hashes) -> Result<Written<'a>, ProgramFault> {
     let (rt, task) = (job.rt, job.task);
     let mut out = NewFile::new(rt, task.out.as_str(), task.making, Place::Out, job.said);
     let mut report = Vec::with_capacity(rt.alloc(), REPORT_LENGTH)?;
@@ -207,7 +207,7 @@ fn finish(job: &Job<'_>, written: &mut Written<'_>) -> Result<(), ProgramFault> 
 
 /// Merges, and prints what is said of it. Returns the exit status.
 #[inline(never)]
-fn merge_with<S: BuildHasher + Drop>(job: &Job<'_>, hasher: S) -> Result<ExitCode, ProgramFault> {
+fn merge_with(job: &Job<'_>, hasher: Hashes) -> Result<ExitCode, ProgramFault> {
     let mut written = write(job, hasher)?;
     match finish(job, &mut written) {
         Ok(()) if written.left_out.is_empty() => Ok(ExitCode::SUCCESS),
@@ -228,9 +228,6 @@ fn merge_with<S: BuildHasher + Drop>(job: &Job<'_>, hasher: S) -> Result<ExitCod
 }
 
 /// Merges files into a new one, and prints the report on it. Returns the exit status.
-///
-/// The hashes are such that nobody can predict them, where the system gives random numbers. Where it
-/// gives none, the key is fixed, and records that share a hash have to be searched for.
 #[inline(never)]
 pub fn merge(
     rt: &HostRuntime,
@@ -252,11 +249,5 @@ pub fn merge(
         said,
         is_verbose,
     };
-    match RandomState::new(rt) {
-        Ok(hasher) => merge_with(&job, hasher),
-        Err(_) => {
-            let hasher: BuildHasherDefault<DefaultHasher> = BuildHasherDefault::new();
-            merge_with(&job, hasher)
-        }
-    }
+    merge_with(&job, Hashes::new(rt))
 }
