@@ -10,13 +10,14 @@ use byte_io::{In, InputFault, Out, put_all};
 use checked_types::Types;
 use closed_trees::renumber_in_place;
 use command_line::push_paths;
-use command_texts::{push_named, push_quoted};
+use command_texts::push_checked;
 use cv_leaves::{list_places, places, ref_at, type_name};
 use fault_pages::page_of;
 use file_types::{Buffer, read_stream, read_types};
 use msf_blocks::Layout;
 use msf_streams::{gather, pieces};
 use msf_superblock::{Superblock, blocks_for};
+use output_words::{push_named, push_quoted};
 use packed_texts::PackedTexts;
 use pdb_commands::run_check;
 use pdb_info::{Info, Settings, guid_of};
@@ -334,7 +335,16 @@ fn the_guid_of_no_types(rt: HostRuntime) -> Result<(), Fail> {
     Ok(())
 }
 
-/// `command_texts` appends the lines that commands print.
+/// `command_texts` makes the lines that commands print.
+#[test]
+fn lines_of_a_check(rt: HostRuntime) -> Result<(), Fail> {
+    let mut text = String::new(rt.alloc());
+    push_checked(&mut text, 2, 24, 1)?;
+    assert_eq!(rt; text.as_str(), "accepted\nrecords 2\nbytes 24\nlevels 1\n");
+    Ok(())
+}
+
+/// `output_words` appends numbers and names.
 #[test]
 fn lines_of_a_text(rt: HostRuntime) -> Result<(), Fail> {
     let mut text = String::new(rt.alloc());

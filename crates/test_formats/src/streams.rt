@@ -5,7 +5,7 @@ ghost use Rattle.msf_blocks.specs.Layout.{HasLayout};
 
 use byte_io::AtFault;
 use msf_blocks::Layout;
-use msf_streams::{StreamFault, contents_at, gather, pieces};
+use msf_streams::{StreamFault, contents_at, gather};
 use std::alloc::{Allocator, Global};
 use std::ops::Range;
 use std::test::Fail;
@@ -49,50 +49,6 @@ fn container() -> [u8; 40960] {
         *byte = (i % 251) as u8;
     }
     file
-}
-
-#[test]
-fn pieces_are_lent_in_the_order_of_the_list(rt: HostRuntime) -> Result<(), Fail> {
-    let file = container();
-    let layout = Layout::read(rt.alloc(), &file)?;
-    // Where each piece begins and ends in the file.
-    let table: [(u32, &[(usize, usize)]); 5] = [
-        (0, &[(36864, 40960), (20480, 20481)]),
-        (1, &[]),
-        (2, &[]),
-        (3, &[(24576, 24586)]),
-        (4, &[(24576, 28672)]),
-    ];
-    for (s, places) in table {
-        let mut left = pieces(&file, &layout, s).ok_or("no stream")?;
-        for (start, end) in places {
-            assert_eq!(rt;
-                left.next(),
-                file.get(*start..*end),
-                "stream {s} at {start}"
-            );
-        }
-        assert_eq!(rt; left.next(), None, "behind the pieces of stream {s}");
-    }
-    assert!(rt; pieces(&file, &layout, 5).is_none());
-    Ok(())
-}
-
-#[test]
-fn a_stream_is_gathered_whole(rt: HostRuntime) -> Result<(), Fail> {
-    let file = container();
-    let layout = Layout::read(rt.alloc(), &file)?;
-    let text = gather(rt.alloc(), &file, &layout, 0)?;
-    assert_eq!(rt; text.len(), 4097);
-    assert!(rt; text.starts_with(&file[36864..40960]));
-    assert_eq!(rt; text.last().copied(), Some(file[20480]));
-    for (s, size) in [(1, 0), (2, 0), (3, 10), (4, 4096)] {
-        let text = gather(rt.alloc(), &file, &layout, s)?;
-        assert_eq!(rt; text.as_slice(), &file[24576..24576 + size], "stream {s}");
-    }
-    let fault = gather(rt.alloc(), &file, &layout, 5).err();
-    assert_eq!(rt; fault, Some(StreamFault::NoStream(5)));
-    Ok(())
 }
 
 /// The bytes of a stream of a file in memory.

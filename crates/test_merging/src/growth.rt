@@ -1,8 +1,7 @@
 //! Growth refused in turn: after each refusal nothing was written, or the merge holds what it held,
 //! and the same call with ample memory gives the whole answer.
 
-use super::calls::{add, empty_merge, list_of, write_bytes};
-use super::merging::bytes_of_merge;
+use super::calls::{add, copied, empty_merge, finish, list_of, write_bytes};
 use msf_streams::WriteFault;
 use pdb_info::Settings;
 use pdb_merge::{AddFault, Buffer, Merge};
@@ -14,6 +13,16 @@ use test_samples::{
     pdb_with, refusals_amid, sample, settings,
 };
 use type_table::Canon;
+
+/// The bytes of the types that a merge has taken.
+fn bytes_of_merge<S: BuildHasher, A: Allocator + Copy>(
+    heap: A,
+    alloc: Global,
+    merge: &Merge<S, A>,
+) -> Result<Vec<u8>, Fail> {
+    let canon = finish(heap, merge)?;
+    copied(alloc, &canon)
+}
 
 /// What writing a list gives: whether it has the memory that it needs, and the bytes of the file.
 type Given = (bool, Vec<u8>);

@@ -1,4 +1,4 @@
-//! Tests of `pdb_merge`: merges by two hashers, and what is there after a refusal.
+//! Tests of `pdb_merge`: sinks that break, reads that fail, and what is there after a refusal.
 //!
 //! They say what no clause says, at public calls. What a run of the program shows is in `tests/rows`
 //! and `tests/answers`.
@@ -13,8 +13,8 @@ mod growth;
 #[cfg(test)]
 mod maps;
 #[cfg(test)]
-mod merging;
-#[cfg(test)]
 mod positions;
 #[cfg(test)]
 mod scattered;
+#[cfg(test)]
+mod sinks;

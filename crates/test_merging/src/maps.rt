@@ -1,4 +1,4 @@
-//! Maps of files: by two hashers, of later references and repeated types, and while memory is refused.
+//! Maps of files while memory is refused.
 
 use super::calls::merge_with_maps;
 use pdb_info::Settings;
@@ -7,8 +7,8 @@ use std::alloc::{Allocator, Global};
 use std::hash::BuildHasher;
 use std::test::Fail;
 use test_samples::{
-    CONST, Constant, LIMIT, Refusal, TO_FIRST, TO_INT, TO_SECOND, TestHeap, VOLATILE, folding,
-    pdb_with, refusals_amid, settings,
+    CONST, LIMIT, Refusal, TO_FIRST, TO_INT, TO_SECOND, TestHeap, VOLATILE, folding, pdb_with,
+    refusals_amid, settings,
 };
 
 /// The records of each file, and where their types went.
@@ -52,24 +52,6 @@ fn are_right<A: Allocator + Copy>(maps: &TypeMaps<A>) -> bool {
         }
     }
     true
-}
-
-/// Whether a merge by this hasher gives the maps of the rows.
-fn maps_by<S: BuildHasher + Drop>(alloc: Global, hasher: S) -> Result<bool, Fail> {
-    let files = files_of(alloc)?;
-    let files = slices_of(alloc, &files)?;
-    let (answer, _) = merge_with_maps(alloc, alloc, &files, &settings(LIMIT, 4096)?, hasher);
-    match answer {
-        Ok(maps) => Ok(are_right(&maps)),
-        Err(fault) => Err(fault.to_string(alloc)?.into()),
-    }
-}
-
-#[test]
-fn where_each_type_went(rt: HostRuntime) -> Result<(), Fail> {
-    assert!(rt; maps_by(rt.alloc(), folding())?);
-    assert!(rt; maps_by(rt.alloc(), Constant { number: 7 })?);
-    Ok(())
 }
 
 /// The number of the fault where memory is refused.

@@ -1,10 +1,8 @@
-//! Merges of files that are read by position: the rows of merges, a read that fails, a later file
-//! that cannot be opened, and refused memory.
+//! Merges of files that are read by position: a read that fails, and refused memory.
 
 ghost use Rattle.std.specs.Prelude.{None};
 
 use super::calls::copied;
-use super::merging::{ROWS, is_listed, wanted, zeros};
 use byte_io::{InputFault, Inputs, Opened};
 use pdb_info::Settings;
 use pdb_merge::{MergeFault, PdbFault, merge_files};
@@ -93,21 +91,6 @@ fn parts_alone<A: Allocator + Copy>(
 }
 
 #[test]
-fn each_type_once_by_position(rt: HostRuntime) -> Result<(), Fail> {
-    let settings = settings(LIMIT, 4096)?;
-    for (some, others, all) in ROWS {
-        let first = pdb_with(rt.alloc(), some)?;
-        let second = pdb_with(rt.alloc(), others)?;
-        let want = wanted(rt.alloc(), all)?;
-        let files = [first.as_slice(), second.as_slice(), first.as_slice()];
-        let list = parts_alone(rt.alloc(), &files, usize::MAX, &settings);
-        let canon = list.ok().ok_or("the files are refused")?;
-        assert!(rt; is_listed(rt.alloc(), &canon, &want)?);
-    }
-    Ok(())
-}
-
-#[test]
 fn after_a_read_that_fails_the_file_is_read_whole(rt: HostRuntime) -> Result<(), Fail> {
     let file = sample(rt.alloc())?;
     let files = [file.as_slice(), file.as_slice()];
@@ -140,32 +123,6 @@ fn after_a_read_that_fails_the_file_is_read_whole(rt: HostRuntime) -> Result<(),
         }
     }
     Err("too many reads".into())
-}
-
-#[test]
-fn a_later_file_that_cannot_be_opened_is_refused_first(rt: HostRuntime) -> Result<(), Fail> {
-    let good = sample(rt.alloc())?;
-    let bad = zeros(rt.alloc())?;
-    let settings = settings(LIMIT, 4096)?;
-    let list = parts_alone(rt.alloc(), &[&bad, &good, &[]], usize::MAX, &settings);
-    assert_eq!(rt;
-        list.err(),
-        Some(MergeFault::Input {
-            file: 2,
-            fault: InputFault::Open
-        })
-    );
-    let list = parts_alone(rt.alloc(), &[&good, &bad, &good], usize::MAX, &settings);
-    assert!(rt;
-        matches!(
-            list.err(),
-            Some(MergeFault::Refused {
-                file: 1,
-                fault: PdbFault::Msf(_)
-            })
-        )
-    );
-    Ok(())
 }
 
 #[test]

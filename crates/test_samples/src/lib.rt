@@ -30,7 +30,6 @@ pub use images::{GUID, LIMIT, pdb, pdb_with, settings};
 pub use narrow::Narrow;
 pub use positions::Positions;
 pub use records::{
-    CONST, DECLARATION, DEFINITION, LIST, LIST_BEFORE_FIRST, LIST_BEFORE_SECOND, MEMBER_OF_FIRST,
-    MEMBER_OF_SECOND, MEMBERS, NO_MEMBER, TO_FIFTH, TO_FIRST, TO_FOURTH, TO_INT, TO_SECOND,
-    TO_THIRD, VOLATILE, bytes_of, pointer, stream_of, stream_with,
+    CONST, LIST, TO_FIRST, TO_INT, TO_SECOND, TO_THIRD, VOLATILE, bytes_of, pointer, stream_of,
+    stream_with,
 };

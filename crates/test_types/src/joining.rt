@@ -1,19 +1,17 @@
-//! Canonical lists that are joined, their limits, and tables and lists that run out of memory.
+//! Tables and lists that run out of memory.
 
 use super::calls::{
     add, add_as_it_stands, add_stream, copied, empty_table, join, list_of, types_of,
 };
 use checked_types::Types;
-use linked_list_allocator::LocalHeap;
 use std::alloc::{Allocator, Global};
 use std::hash::BuildHasher;
 use std::test::Fail;
 use test_samples::{
-    CONST, DECLARATION, DEFINITION, LIST, LIST_BEFORE_FIRST, LIST_BEFORE_SECOND, MEMBER_OF_FIRST,
-    MEMBER_OF_SECOND, Refusal, TO_FIRST, TO_INT, TO_SECOND, TestHeap, VOLATILE, bytes_of, folding,
+    CONST, Refusal, TO_FIRST, TO_INT, TO_SECOND, TestHeap, VOLATILE, bytes_of, folding,
     refusals_amid, stream_with,
 };
-use type_table::{Canon, CanonRecords, JoinFault, Table};
+use type_table::{Canon, JoinFault, Table};
 
 /// A limit that no test reaches.
 const LIMIT: u32 = 1000;
@@ -38,126 +36,6 @@ fn joined<A: Allocator + Copy>(alloc: A, streams: &[&[u8]]) -> Result<Canon<A>, 
         canon = with_stream(&canon, alloc, stream)?;
     }
     Ok(canon)
-}
-
-/// What is tested, the records of two files, and their canonical list.
-type Row = (
-    &'static str,
-    &'static [&'static [u8]],
-    &'static [&'static [u8]],
-    &'static [&'static [u8]],
-);
-
-const ROWS: [Row; 10] = [
-    ("no types", &[], &[], &[]),
-    (
-        "the same types in another order",
-        &[TO_INT, CONST],
-        &[CONST, TO_INT],
-        &[CONST, TO_INT],
-    ),
-    (
-        "types of two files, one of which both have",
-        &[VOLATILE, CONST, TO_FIRST, TO_SECOND],
-        &[TO_INT, CONST],
-        &[CONST, VOLATILE, TO_INT, TO_FIRST, TO_SECOND],
-    ),
-    (
-        "equal bytes that name different types",
-        &[CONST, TO_FIRST],
-        &[VOLATILE, TO_FIRST],
-        &[CONST, VOLATILE, TO_FIRST, TO_SECOND],
-    ),
-    (
-        "another order of arrival",
-        &[VOLATILE, CONST, TO_FIRST, TO_SECOND],
-        &[],
-        &[CONST, VOLATILE, TO_FIRST, TO_SECOND],
-    ),
-    (
-        "the same type twice",
-        &[CONST, CONST, TO_FIRST, TO_SECOND],
-        &[],
-        &[CONST, TO_FIRST],
-    ),
-    (
-        "the class of a member pointer",
-        &[TO_INT, CONST, MEMBER_OF_FIRST],
-        &[],
-        &[CONST, TO_INT, MEMBER_OF_SECOND],
-    ),
-    (
-        "a field list that goes on in another",
-        &[LIST, LIST_BEFORE_FIRST, CONST],
-        &[],
-        &[CONST, LIST, LIST_BEFORE_SECOND],
-    ),
-    (
-        "a forward declaration before the definition",
-        &[DECLARATION],
-        &[DEFINITION],
-        &[DEFINITION, DECLARATION],
-    ),
-    (
-        "a forward declaration after the definition",
-        &[DEFINITION, DECLARATION],
-        &[],
-        &[DEFINITION, DECLARATION],
-    ),
-];
-
-/// Whether the record at this position of a list is this one.
-fn is_at(canon: &Canon, position: usize, want: Option<&[u8]>) -> bool {
-    canon.get(position) == want
-}
-
-/// Whether the next record is this one.
-fn is_next(records: &mut CanonRecords<'_>, want: Option<&[u8]>) -> bool {
-    records.next() == want
-}
-
-/// Whether a list says that it has so many records.
-fn has_len(canon: &Canon, many: usize) -> bool {
-    canon.len() == many && canon.is_empty() == (many == 0)
-}
-
-/// Whether all methods of the list agree that it has these records.
-fn is_list(canon: &Canon, want: &[&[u8]]) -> bool {
-    let mut records = canon.records();
-    for (position, record) in want.iter().enumerate() {
-        if !is_at(canon, position, Some(*record)) || !is_next(&mut records, Some(*record)) {
-            return false;
-        }
-    }
-    is_at(canon, want.len(), None) && is_next(&mut records, None) && has_len(canon, want.len())
-}
-
-/// Whether the canonical list of two streams, by joining, has these bytes.
-fn joins(alloc: Global, first: &[u8], second: &[u8], want: &[u8]) -> Result<bool, Fail> {
-    let canon = joined(alloc, &[first, second])?;
-    Ok(copied(alloc, &canon)?.as_slice() == want && canon.bytes_len() as usize == want.len())
-}
-
-/// Whether the list of two streams has these bytes, whichever comes first.
-fn both_give(alloc: Global, first: &[u8], second: &[u8], want: &[u8]) -> Result<bool, Fail> {
-    let there = joins(alloc, first, second, want)?;
-    let back = joins(alloc, second, first, want)?;
-    Ok(there && back)
-}
-
-#[test]
-fn each_type_once_in_canonical_order(rt: HostRuntime) -> Result<(), Fail> {
-    for (what, first, second, want) in ROWS {
-        let first = stream_with(rt.alloc(), first)?;
-        let second = stream_with(rt.alloc(), second)?;
-        let bytes = bytes_of(rt.alloc(), want)?;
-        assert!(rt; both_give(rt.alloc(), &first, &second, &bytes)?, "{what}");
-        assert!(rt;
-            is_list(&joined(rt.alloc(), &[&first, &second])?, want),
-            "{what}"
-        );
-    }
-    Ok(())
 }
 
 /// How many bytes the heap has in a test that runs out of memory.
@@ -526,81 +404,5 @@ fn memory_is_refused_while_lists_are_made(rt: HostRuntime) -> Result<(), Fail> {
     for step in [SAMPLE, FIRST, SECOND, THIRD] {
         refuse_in_turn(rt.alloc(), Call::Finish, step)?;
     }
-    Ok(())
-}
-
-/// Adds a second stream to a table at limit 23, and then these types again at limit 12.
-fn add_again_to<S: BuildHasher>(
-    table: &mut Table<S>,
-    alloc: Global,
-    types: &Types<'_>,
-    second: &[u8],
-) -> Result<Answer, Fail> {
-    add(table, alloc, types, 12)?;
-    let larger = types_of(alloc, second)?;
-    let said = add(table, alloc, &larger, 23);
-    listed_twice(alloc, alloc, table, types, 12, said)
-}
-
-/// Adds a first stream at limit 12, a second one at limit 23, and then the first one again.
-fn add_again(alloc: Global, first: &[u8], second: &[u8]) -> Result<Answer, Fail> {
-    let types = types_of(alloc, first)?;
-    let mut table = empty_table(alloc, folding());
-    add_again_to(&mut table, alloc, &types, second)
-}
-
-/// Whether this is the answer, with these lists.
-fn is_answer(answer: &Answer, said: Result<(), JoinFault>, after: &[u8], end: &[u8]) -> bool {
-    answer.0 == said && answer.1.as_slice() == after && answer.2.as_slice() == end
-}
-
-/// What a call says at a limit, with ample memory, of these records after those of an earlier stream.
-fn said_at(
-    alloc: Global,
-    call: Call,
-    limit: u32,
-    earlier: &[&[u8]],
-    records: &[&[u8]],
-) -> Result<Answer, Fail> {
-    let before = stream_with(alloc, earlier)?;
-    let stream = stream_with(alloc, records)?;
-    let heap = TestHeap::new(LocalHeap::new(alloc, HEAP)?);
-    let trial = Trial {
-        alloc,
-        heap: &heap,
-        refusal: Refusal::Taken(0),
-        limit,
-        earlier: &[&before],
-        stream: &stream,
-    };
-    amid(call, trial)
-}
-
-#[test]
-fn a_union_at_the_limit(rt: HostRuntime) -> Result<(), Fail> {
-    let want = bytes_of(rt.alloc(), &[CONST, TO_INT])?;
-    let answer = said_at(rt.alloc(), Call::Join, 24, &[TO_INT], &[CONST])?;
-    assert!(rt; is_answer(&answer, Ok(()), &want, &want));
-    let answer = said_at(rt.alloc(), Call::Add, 24, &[CONST], &[TO_INT, CONST])?;
-    assert!(rt; is_answer(&answer, Ok(()), &want, &want));
-    Ok(())
-}
-
-#[test]
-fn a_union_past_the_limit(rt: HostRuntime) -> Result<(), Fail> {
-    let large = Err(JoinFault::TooLarge { bytes: 24 });
-    let want = bytes_of(rt.alloc(), &[CONST, TO_INT])?;
-    let answer = said_at(rt.alloc(), Call::Join, 23, &[TO_INT], &[CONST])?;
-    assert!(rt; is_answer(&answer, large, TO_INT, &want));
-    Ok(())
-}
-
-#[test]
-fn types_that_come_again_after_a_union_past_the_limit(rt: HostRuntime) -> Result<(), Fail> {
-    let large = Err(JoinFault::TooLarge { bytes: 24 });
-    let other = stream_with(rt.alloc(), &[CONST])?;
-    let both = stream_with(rt.alloc(), &[TO_INT, CONST])?;
-    let answer = add_again(rt.alloc(), &other, &both)?;
-    assert!(rt; is_answer(&answer, large, CONST, CONST));
     Ok(())
 }

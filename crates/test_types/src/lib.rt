@@ -1,4 +1,4 @@
-//! Tests of `type_table` and `type_texts`: tables, canonical lists that are joined, words of types.
+//! Tests of `type_table` and `type_texts`, while memory is refused.
 //!
 //! They say what no clause says, at public calls. What a run of the program shows is in `tests/rows`.
 #![tactic(auto)]
@@ -9,9 +9,5 @@ mod calls;
 mod joining;
 #[cfg(test)]
 mod members;
-#[cfg(test)]
-mod places;
-#[cfg(test)]
-mod prefixes;
 #[cfg(test)]
 mod words;

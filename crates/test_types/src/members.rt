@@ -1,4 +1,4 @@
-//! The texts of definitions: those of some records, typed by hand, and memory that is refused.
+//! The texts of definitions while memory is refused.
 
 use super::calls::types_of;
 use std::test::Fail;
@@ -17,77 +17,6 @@ const RECORDS: [&[u8]; 8] = [
     b"\x16\0\x07\x15\x0c\0\0\0u\0\0\0\x05\x10\0\0Value\0\xf2\xf1",
     b"\x16\0\x06\x15\x01\0\0\0\x02\x10\0\0,\0Either\0\xf3\xf2\xf1",
 ];
-
-/// Type indices, and the lines of each.
-const LINES: [(u32, &[&str]); 6] = [
-    (0x1000, &["structure \"Packet\" size 0 declared only"]),
-    (0x1001, &[]),
-    (0x1003, &[]),
-    (
-        0x1004,
-        &[
-            "class \"Every \\x22one\\x22\" size 44",
-            "  0 base \"Packet\"",
-            "  8 private virtual base 1 \"Packet\"",
-            "  16 protected indirect virtual base 2 \"Packet\"",
-            "  - virtual functions pointer to int",
-            "  65535 private member \"a\" unsigned int",
-            "  - protected static \"s\" int",
-            "  - 2 methods \"f\" void or int",
-            "  - nested \"N\" \"Packet\"",
-            "  - method \"g\" void",
-            "  - virtual method \"h\" void",
-            "  - static method \"i\" void",
-            "  - friend method \"j\" void",
-            "  24 new virtual method \"k\" void",
-            "  - pure virtual method \"l\" void",
-            "  32 private new pure virtual method \"m\" void",
-            "  4 base \"Packet\"",
-            "  40 member \"last\" int",
-        ],
-    ),
-    (
-        0x1006,
-        &[
-            "enumeration \"Value\" of unsigned int",
-            "  32767 value \"a\"",
-            "  -128 value \"b\"",
-            "  127 value \"c\"",
-            "  -32768 value \"d\"",
-            "  32767 value \"e\"",
-            "  65535 value \"f\"",
-            "  -2147483648 value \"g\"",
-            "  2147483647 value \"h\"",
-            "  4294967295 value \"i\"",
-            "  -9223372036854775808 value \"j\"",
-            "  9223372036854775807 value \"k\"",
-            "  18446744073709551615 value \"l\"",
-        ],
-    ),
-    (
-        0x1007,
-        &["union \"Either\" size 44", "  40 member \"last\" int"],
-    ),
-];
-
-#[test]
-fn definitions_in_lines(rt: HostRuntime) -> Result<(), Fail> {
-    let stream = stream_with(rt.alloc(), &RECORDS)?;
-    let types = types_of(rt.alloc(), &stream)?;
-    for (index, lines) in LINES {
-        let mut asked = [Asked::new(Query::Index(index))];
-        find_asked(&types, &mut asked);
-        let mut text = Vec::new(rt.alloc());
-        push_definitions(rt.alloc(), &mut text, &types, &asked)?;
-        let mut wanted = String::new(rt.alloc());
-        for line in lines {
-            wanted.push_str(line)?;
-            wanted.push_str("\n")?;
-        }
-        assert_eq!(rt; text.as_slice(), wanted.as_bytes(), "{index:#x}");
-    }
-    Ok(())
-}
 
 #[test]
 fn growth_for_lines_is_refused(rt: HostRuntime) -> Result<(), Fail> {
