@@ -4,7 +4,7 @@ PREFIX ?= /usr/local
 PROGRAM := build/pdbmerge
 SOURCES := $(shell find crates -name '*.rt' -o -name '*.antt') crates.txt
 
-.PHONY: all try announce demo test bench install uninstall library dist static arm64 windows web ports clean distclean
+.PHONY: all try announce demo test wrong-bodies bench install uninstall library dist static arm64 windows web ports clean distclean
 
 all: $(PROGRAM)
 
@@ -43,9 +43,12 @@ demo: announce $(PROGRAM)
 	cmp build/one.pdb build/other.pdb
 	@echo 'The order of the files makes no difference: the same bytes.'
 
-# The gate: every proof from nothing, every must-fail edit, every test; then the scripts. tests/tools
-# installs the tools that they need, and `rt ci` leaves the programs that it proved and linked.
-# Every script takes the program that this variable names.
+# The gate: every proof from nothing, with the edits of must-fail/, and every test; then the scripts; then the wrong
+# bodies, as many as there is time for until the gate has taken so many minutes. tests/tools installs the tools that the
+# scripts need, and `rt ci` leaves the programs that it proved and linked. Every script takes the program that this
+# variable names.
+GATE_MINUTES ?= 150
+BEGAN := $(shell date +%s)
 test: export PDBMERGE := $(CURDIR)/$(PROGRAM)
 test:
 	tests/tools
@@ -55,6 +58,11 @@ test:
 	$(MAKE) --jobs=$$(nproc) --output-sync --keep-going scripts
 	tests/inputs
 	tests/spread
+	tools/wrong_bodies --minutes $$(( $(GATE_MINUTES) - ($$(date +%s) - $(BEGAN)) / 60 ))
+
+# All wrong bodies, over what `rt ci` or `make` left. Before a release; with CRATE, after a change of that crate.
+wrong-bodies:
+	tools/wrong_bodies $(CRATE:%=--only %)
 
 # The scripts that share nothing, so that they run side by side, the longest first: the packages, the program
 # as a process, with each call to the system failing in turn, a minute of damaged files, and half a minute of
@@ -63,7 +71,7 @@ test:
 SCRIPTS := tools/archive tests/dist tests/library tests/failures tests/campaign crates/campaign_driver tests/driver \
 	tests/surroundings tests/answers tests/outputs tests/program tests/examples examples/differences tests/rows \
 	tests/explain tests/guid tests/maps tests/difference tests/members tests/changes tests/position \
-	tests/streams tests/faults tests/cookbook tests/manual tests/help \
+	tests/streams tests/faults tests/cookbook tests/manual tests/help tests/wrong_bodies \
 	tools/figures tools/readmes tools/faults tools/stale tools/lint
 .PHONY: scripts tools/compile $(SCRIPTS)
 scripts: $(SCRIPTS)
