@@ -35,11 +35,11 @@ class Function(NamedTuple):
 
 def word_of(type_text):
     """A type as the names of a check have it: `&'a [u8]` is RefSliceU8, `Canon<A>` is Canon."""
-    text = re.sub(r"'\w+ ?|\bmut ", '', type_text)
+    text = re.sub(r"'\w+ ?|\bmut |\b\w+::", '', type_text)
     while (shorter := re.sub(r'<[^<>]*>', '', text)) != text:
         text = shorter
     signs = {'&': 'Ref', '[': 'Slice'}
-    parts = re.findall(r'[&[]|\w+(?=::)|\w+', text)
+    parts = re.findall(r'[&[]|\w+', text)
     return ''.join(signs.get(part) or part[:1].upper() + part[1:] for part in parts)
 
 
@@ -67,7 +67,7 @@ def module_of(file):
 def functions_of(crate, file, lines):
     """The functions of a file, in the layout of `rt fmt`: a function ends at the first line that is a brace under its
     head, and its body begins at the last line so far indented that ends with a brace."""
-    found, container, number = [], None, 0
+    found, container = [], None
     for at, line in enumerate(lines):
         if CONTAINER.match(line):
             container = container_of(' '.join(lines[at:next_brace(lines, at) + 1]))
@@ -132,8 +132,9 @@ class Sources:
     @functools.cache
     def answers(self, function):
         """Whether a return of a function is proved by hand."""
-        folder = self.folder.joinpath('proofs', *function.name.split('::')[1:])
-        path = folder / 'Answers.antt'
+        *above, name = function.name.split('::')[1:]
+        name = name if function.proof == function.name else f'+{function.proof}'
+        path = self.folder.joinpath('proofs', *above, name, 'Answers.antt')
         return path.is_file() and re.search(r'^pub returns', path.read_text(), re.MULTILINE) is not None
 
 
