@@ -7,8 +7,8 @@ use crate::index::read_index;
 use crate::words::{Kind, ShownCommand, What, command_named, program};
 use clap::ArgMatches;
 use fault_pages::{Page, last, page_of};
-use pdb_commands::{GuidChoice, Making, Scope, Shown};
 use pdb_info::Settings;
+use run_options::{GuidChoice, Making, Scope, Shown};
 use std::alloc::{AllocError, Global};
 use uuid::Uuid;
 

@@ -2,7 +2,7 @@
 
 use clap::{Arg, ArgAction, Command};
 use fault_pages::last;
-use pdb_commands::Shown;
+use run_options::Shown;
 use std::alloc::{AllocError, Global};
 
 /// The head of the help text.

@@ -11,8 +11,8 @@ use Rattle.type_difference.proofs.DifferenceLaws.{difference_begins, none_lacked
 use Rattle.tpi_records.specs.Header.{first_index}
 use Rattle.command_texts.specs.Types.{type_line}
 use Rattle.command_texts.specs.Difference.{IsSignedLine, AreLinesWhere, IsShown, ShowsStanding, ShowsDifference}
-use Rattle.command_texts.specs.declared.difference.Scope.{Scope}
-use Rattle.command_texts.specs.declared.difference.Scope.TheVariants.{All, Origins}
+use Rattle.run_options.specs.declared.scope.Scope.{Scope}
+use Rattle.run_options.specs.declared.scope.Scope.TheVariants.{All, Origins}
 
 -- ---- Line by line
 

@@ -6,8 +6,8 @@ use Rattle.type_difference.specs.Difference.{IsLacked, IsOrigin}
 use Rattle.type_difference.specs.declared.standing.Standing.{Standing}
 use Rattle.type_difference.specs.declared.standing.Standing.TheVariants.{Shared, Again, Follows, Origin}
 use Rattle.command_texts.specs.Types.{type_line}
-use Rattle.command_texts.specs.declared.difference.Scope.{Scope}
-use Rattle.command_texts.specs.declared.difference.Scope.TheVariants.{All, Origins}
+use Rattle.run_options.specs.declared.scope.Scope.{Scope}
+use Rattle.run_options.specs.declared.scope.Scope.TheVariants.{All, Origins}
 
 -- this is the line of a record: a sign, and the line that `types` prints for it
 abbrev pub IsSignedLine : List ℕ → ℕ → List ℕ → List ℕ → Type 0

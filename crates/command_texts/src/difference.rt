@@ -8,18 +8,10 @@ ghost use Rattle.command_texts.specs.Difference.{IsSignedLine, AreLinesWhere, Is
 
 use crate::types::push_type_line;
 use checked_types::Types;
+use run_options::Scope;
 use std::alloc::{AllocError, Allocator};
 use tpi_records::FIRST_INDEX;
 use type_difference::{Difference, Standing};
-
-/// Which of the types that only one of two lists has are shown.
-#[derive(Clone, Copy, Debug, PartialEq, Eq)]
-pub enum Scope {
-    /// All of them.
-    All,
-    /// Those that name no other of them: the types where the difference begins.
-    Origins,
-}
 
 /// Whether a record with this standing is shown.
 fn is_shown(scope: Scope, standing: Standing) -> bool

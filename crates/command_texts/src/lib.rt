@@ -38,7 +38,7 @@ mod streams;
 mod types;
 
 pub use check::push_checked;
-pub use difference::{Scope, push_difference};
+pub use difference::push_difference;
 pub use info::{push_features, push_info_header, push_names};
 pub use maps::push_map;
 pub use record::record_text;

@@ -18,7 +18,7 @@ use Rattle.file_types.proofs.ReadLaws.{one_list}
 use Rattle.pdb_merge.proofs.FileLaws.{one_merged_file, merged_files_differ}
 use Rattle.pdb_merge.proofs.UnionLaws.{types_of_first, accepted_more, none_accepted}
 use Rattle.command_texts.specs.Difference.{ShowsDifference}
-use Rattle.command_texts.specs.declared.difference.Scope.{Scope}
+use Rattle.run_options.specs.declared.scope.Scope.{Scope}
 use Rattle.command_texts.proofs.DifferenceLaws.{empty_same}
 use Rattle.pdb_commands.specs.Difference.{TellsApart, ShowsInputs}
 use Rattle.pdb_commands.specs.Fault.{run_from_merge}

@@ -11,7 +11,7 @@ use Rattle.pdb_merge.specs.Merged.{Merged}
 use Rattle.file_types.specs.Read.{IsAccepted}
 use Rattle.pdb_merge.specs.Union.{HasType, SameTypes, Within}
 use Rattle.command_texts.specs.Difference.{ShowsDifference}
-use Rattle.command_texts.specs.declared.difference.Scope.{Scope}
+use Rattle.run_options.specs.declared.scope.Scope.{Scope}
 
 -- what holds of the text for two files: it is empty exactly if they have the same types.
 -- If each file can be merged alone, it is empty exactly if both merges, with the same settings,

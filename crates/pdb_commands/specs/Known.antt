@@ -25,8 +25,8 @@ use Rattle.pdb_commands.specs.Shown.{HasLongStream, ListsTooLong, ReadsTooLong, 
 use Rattle.pdb_commands.specs.Streams.{RefusesStreams, RefusesStreamsRead, ShowsStreams, ShowsStreamsRead}
 use Rattle.pdb_commands.specs.Types.{RefusesTypes, RefusesTypesRead, ShowsTypes, ShowsTypesRead}
 use Rattle.pdb_commands.specs.declared.fault.RunFault.TheVariants.{Info, Leaf, NoRecord, Pdb, TooLong}
-use Rattle.pdb_commands.specs.declared.shown.Shown.{Shown}
-use Rattle.pdb_commands.specs.declared.shown.Shown.TheVariants as shown
+use Rattle.run_options.specs.declared.shown.Shown.{Shown}
+use Rattle.run_options.specs.declared.shown.Shown.TheVariants as shown
 
 -- records that reads gave are the type records of the file
 type_records : (file : List ℕ) (layout : LayoutView) (records : List (List ℕ))

@@ -11,8 +11,8 @@ use Rattle.pdb_commands.specs.Streams.{ShowsStreams, ShowsStreamsRead, RefusesSt
 use Rattle.pdb_commands.specs.Types.{ShowsTypes, ShowsTypesRead, RefusesTypes, RefusesTypesRead}
 use Rattle.pdb_commands.specs.declared.fault.RunFault.{RunFault}
 use Rattle.pdb_commands.specs.declared.fault.RunFault.TheVariants.{TooLong}
-use Rattle.pdb_commands.specs.declared.shown.Shown.{Shown}
-use Rattle.pdb_commands.specs.declared.shown.Shown.TheVariants as shown
+use Rattle.run_options.specs.declared.shown.Shown.{Shown}
+use Rattle.run_options.specs.declared.shown.Shown.TheVariants as shown
 
 -- the command prints this text for this file; the limit is on the names that `info` prints
 abbrev pub ShowsIt : Shown → ℕ → List ℕ → List ℕ → Type 0

@@ -9,8 +9,9 @@ ghost use Rattle.pdb_commands.specs.Merge.{AnswersReading, IsOfMerging};
 
 use crate::fault::RunFault;
 use byte_io::{Inputs, Sink, put_all};
-use command_texts::{Scope, push_difference};
+use command_texts::push_difference;
 use pdb_merge::{InputBuffer, read_input_types};
+use run_options::Scope;
 use std::alloc::Allocator;
 use std::hash::BuildHasher;
 use type_difference::compare;

@@ -19,36 +19,18 @@ use crate::types::ShowTypes;
 use byte_io::{ReadAt, ReadFault, Sink, Source};
 use msf_blocks::Layout;
 use pdb_info::INFO_STREAM;
+use run_options::Shown;
 use std::alloc::Allocator;
 use tpi_records::TPI_STREAM;
 
-/// A command that shows a file.
-#[derive(Clone, Copy, Debug, PartialEq, Eq)]
-pub enum Shown {
-    /// [`run_records`](crate::run_records)
-    Records,
-    /// [`run_record`](crate::run_record), of the record with this type index.
-    Record(u32),
-    /// [`run_types`](crate::run_types)
-    Types,
-    /// [`run_check`](crate::run_check)
-    Check,
-    /// [`run_info`](crate::run_info)
-    Info,
-    /// [`run_streams`](crate::run_streams)
-    Streams,
-}
-
-impl Shown {
-    /// The stream that the command reads whole.
-    fn stream(self) -> Option<u32>
-        ensures { result ≡ stream_of self }
-    {
-        match self {
-            Shown::Records | Shown::Record(_) | Shown::Types | Shown::Check => Some(TPI_STREAM),
-            Shown::Info => Some(INFO_STREAM),
-            Shown::Streams => None,
-        }
+/// The stream that a command reads whole.
+fn stream_of(command: Shown) -> Option<u32>
+    ensures { result ≡ stream_of command }
+{
+    match command {
+        Shown::Records | Shown::Record(_) | Shown::Types | Shown::Check => Some(TPI_STREAM),
+        Shown::Info => Some(INFO_STREAM),
+        Shown::Streams => None,
     }
 }
 
@@ -70,7 +52,7 @@ impl Within {
         ensures long { IfErr result (λ _. ListsTooLong self.now.command self.now.limit layout.now) }
         ensures own { IfErr result (λ fault. fault ≡ RunFault.TooLong) }
     {
-        match self.command.stream() {
+        match stream_of(self.command) {
             Some(stream) if layout.is_longer(stream, self.limit) => Err(RunFault::TooLong),
             _ => Ok(()),
         }

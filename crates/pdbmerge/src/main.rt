@@ -32,11 +32,12 @@ use hold::hold;
 use lists::read_list;
 use merge::merge;
 use pdb_commands::{
-    Asked, Found, Shown, run_diff, run_diff_members, run_members, run_shown, run_shown_file,
+    Asked, Found, run_diff, run_diff_members, run_members, run_shown, run_shown_file,
 };
 use program_files::{InputFiles, ProgramFault, Reading, Said, WholeFile, open_within};
 use refusal::{Refusal, quoted, refuse, refuse_line};
 use report::standard_output;
+use run_options::Shown;
 use std::process::ExitCode;
 
 /// The exit status of `diff` where the files differ in their types.

@@ -2,9 +2,10 @@
 
 use crate::same::{FileId, is_one_of};
 use command_line::Merging;
-use pdb_commands::{Making, RunFault, write_maps};
+use pdb_commands::{RunFault, write_maps};
 use pdb_merge::TypeMaps;
 use program_files::{MapFault, NewFile, Place, ProgramFault, Said};
+use run_options::Making;
 use std::fs;
 use std::io::{Error, ErrorKind};
 use std::rt::HostRuntime;

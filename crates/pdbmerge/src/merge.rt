@@ -7,11 +7,11 @@ use crate::report::{REPORT_LENGTH, TakenStreams, print};
 use byte_io::Out;
 use command_line::Merging;
 use pdb_commands::{
-    GuidChoice, Making, RunFault, SiftedFile, merge_accepted, report_accepted, run_merge_by_types,
-    run_merge_with,
+    RunFault, SiftedFile, merge_accepted, report_accepted, run_merge_by_types, run_merge_with,
 };
 use pdb_merge::{KeepMaps, LeftOut, NoMaps, TypeMaps};
 use program_files::{InputFiles, NewFile, Place, ProgramFault, Progress, Said};
+use run_options::{GuidChoice, Making};
 use std::io::{Error, ErrorKind};
 use std::process::ExitCode;
 use std::rt::HostRuntime;

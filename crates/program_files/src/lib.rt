@@ -4,7 +4,7 @@
 //!   at its first read.
 //! - [`InputFiles`] are the inputs of a merge, one of which is open at a time. [`Progress`] tells how
 //!   many of them were read.
-//! - [`NewFile`] is a file that is created at its first write, in the way that `Making` of `pdb_commands` says.
+//! - [`NewFile`] is a file that is created at its first write, in the way that `Making` of `run_options` says.
 //! - [`Said`] keeps what the system said when it refused a call, and [`Telling`] is a file that tells it.
 //! - [`ProgramFault`] says why the program did not do what it was asked for, and [`MapFault`] why it
 //!   did not write the maps of a merge.

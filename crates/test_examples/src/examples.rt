@@ -19,11 +19,12 @@ use msf_streams::{gather, pieces};
 use msf_superblock::{Superblock, blocks_for};
 use output_words::{push_named, push_quoted};
 use packed_texts::PackedTexts;
-use pdb_commands::run_check;
+use pdb_commands::{run_check, run_shown};
 use pdb_info::{Info, Settings, guid_of};
 use pdb_merge::merge_to;
 use program_files::{Said, open_within};
 use record_set::RecordSet;
+use run_options::Shown;
 use std::alloc::{AllocError, Allocator, Global};
 use std::hash::BuildHasher;
 use std::test::Fail;
@@ -363,6 +364,17 @@ fn the_words_of_a_type(rt: HostRuntime) -> Result<(), Fail> {
     let mut text = Vec::new(rt.alloc());
     push_type(&mut text, &types, 0x1000)?;
     assert_eq!(rt; text.as_slice(), b"pointer to int".as_slice());
+    Ok(())
+}
+
+/// `run_options` says what is asked for.
+#[test]
+fn types_that_are_asked_for(rt: HostRuntime) -> Result<(), Fail> {
+    let file = sample(rt.alloc())?;
+    let mut text = Vec::new(rt.alloc());
+    let (input, out) = (&mut In::new(file.as_slice()), &mut Out::new(&mut text));
+    run_shown(rt.alloc(), Shown::Types, input, u32::MAX, out)?;
+    assert!(rt; text.starts_with(b"0x1000 "));
     Ok(())
 }
 

@@ -1,7 +1,8 @@
 //! Commands on a file that is read by position, and whole where a read by position fails.
 
 use byte_io::{In, Out};
-use pdb_commands::{RunFault, Shown, run_shown, run_shown_at, run_shown_file};
+use pdb_commands::{RunFault, run_shown, run_shown_at, run_shown_file};
+use run_options::Shown;
 use std::alloc::Global;
 use std::test::Fail;
 use test_samples::{Positions, sample};

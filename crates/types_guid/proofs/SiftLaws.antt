@@ -11,8 +11,8 @@ use Rattle.pdb_merge.specs.declared.summary.Summary.{Summary}
 use Rattle.pdb_merge.proofs.FileLaws.{is_file, wrote_as}
 use Rattle.types_guid.specs.Guid.{chosen}
 use Rattle.types_guid.specs.Sift.{IsFileFor}
-use Rattle.types_guid.specs.declared.merge.GuidChoice.{GuidChoice}
-use Rattle.types_guid.specs.declared.merge.GuidChoice.TheVariants.{Given, ByTypes}
+use Rattle.run_options.specs.declared.guid_choice.GuidChoice.{GuidChoice}
+use Rattle.run_options.specs.declared.guid_choice.GuidChoice.TheVariants.{Given, ByTypes}
 use Rattle.types_guid.proofs.NamedLaws.{is_file_by_types}
 
 -- the file of a canonical list of the types of files has all that `IsFileFor` says

@@ -6,8 +6,8 @@ use Rattle.uuid.specs.Parts.{with_version, with_variant}
 use Rattle.uuid.specs.declared.Variant.TheVariants as variant
 use Rattle.uuid.specs.declared.Version.TheVariants as version
 use Rattle.pdb_info.specs.Settings.{SettingsView}
-use Rattle.types_guid.specs.declared.merge.GuidChoice.{GuidChoice}
-use Rattle.types_guid.specs.declared.merge.GuidChoice.TheVariants.{Given, ByTypes}
+use Rattle.run_options.specs.declared.guid_choice.GuidChoice.{GuidChoice}
+use Rattle.run_options.specs.declared.guid_choice.GuidChoice.TheVariants.{Given, ByTypes}
 
 -- the GUID of the types of a canonical list of these records
 abbrev pub types_guid : List (List ℕ) → List ℕ

@@ -10,8 +10,8 @@ use Rattle.pdb_merge.specs.declared.fault.MergeFault.{MergeFault}
 use Rattle.pdb_merge.specs.declared.fault.OutFault.{OutFault}
 use Rattle.pdb_merge.specs.declared.fault.OutFault.TheVariants as out
 use Rattle.types_guid.specs.Merge.{IsFileByTypes}
-use Rattle.types_guid.specs.declared.merge.GuidChoice.{GuidChoice}
-use Rattle.types_guid.specs.declared.merge.GuidChoice.TheVariants.{Given, ByTypes}
+use Rattle.run_options.specs.declared.guid_choice.GuidChoice.{GuidChoice}
+use Rattle.run_options.specs.declared.guid_choice.GuidChoice.TheVariants.{Given, ByTypes}
 use Rattle.types_guid.specs.declared.merge.SiftedFile.{SiftedFile}
 
 -- this is the file of the types of those files that are accepted, with the GUID that is chosen

@@ -29,4 +29,4 @@ mod guid;
 mod merge;
 
 pub use guid::guid_of_types;
-pub use merge::{GuidChoice, SiftedFile, merge_accepted, merge_by_types};
+pub use merge::{SiftedFile, merge_accepted, merge_by_types};

@@ -15,18 +15,10 @@ use pdb_info::Settings;
 use pdb_merge::{
     KeepMaps, LeftOut, OutFault, Sifted, Summary, merge_files_with, sift_files, write_canon,
 };
+use run_options::GuidChoice;
 use std::alloc::Allocator;
 use std::hash::BuildHasher;
 use type_table::Canon;
-
-/// The GUID of a file that is written.
-#[derive(Clone, Copy, Debug, PartialEq, Eq)]
-pub enum GuidChoice {
-    /// The GUID of the settings.
-    Given,
-    /// The GUID of the types of the file. That of the settings is not used.
-    ByTypes,
-}
 
 /// What was written for those of several files that are accepted.
 #[derive(Debug, Drop)]
