@@ -1,6 +1,6 @@
 //! Several inputs, which are read one after the other.
 
-ghost use Rattle.std.specs.Prelude.{◌≡◌, ◌⊎◌, ◌<◌, ◌-◌, ◌^◌, ℕ, List, Option, Some, Result, Ok, Err, length, map, slice_get, IfOk, IfErr, IfSome};
+ghost use Rattle.std.specs.Prelude.{◌≡◌, ◌⊎◌, ◌<◌, ℕ, List, Option, Some, Result, Ok, Err, length, map, slice_get, IfOk, IfErr, IfSome};
 ghost use Rattle.byte_io.specs.Inputs.{HasBytes, is_opened_broken, opened_bytes};
 ghost use Rattle.byte_io.specs.declared.input.ReadFault.TheVariants as reads;
 ghost use Rattle.byte_io.specs.Fault.{input_number};
@@ -87,14 +87,6 @@ pub trait Inputs {
     /// How many inputs there are.
     fn count(&self) -> usize
         ensures { IfSome (known self.now) (λ each. result ≡ length each) };
-
-    /// How many bytes the directory of an input may have, and each stream that is read of it.
-    /// `u32::MAX` is no limit. Inputs whose bytes are known have none.
-    fn limit(&self) -> u32
-        ensures { IfSome (known self.now) (λ _. result ≡ 2 ^ 32 - 1) }
-    {
-        u32::MAX
-    }
 
     /// Reads the input at a position, from 0, to its end. Its bytes are lent, and may be in the
     /// buffer, whose old bytes are dropped then.

@@ -3,6 +3,7 @@
 ghost use Rattle.std.specs.Prelude.{None};
 
 use byte_io::{InputFault, Inputs, Opened};
+use pdb_merge::BoundedInputs;
 use std::alloc::Allocator;
 
 /// Files in memory that are opened to be read by position, as the program opens its files.
@@ -56,3 +57,5 @@ impl<'f> Inputs for Positioned<'f> {
         Ok(())
     }
 }
+
+impl<'f> BoundedInputs for Positioned<'f> {}

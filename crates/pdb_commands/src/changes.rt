@@ -8,14 +8,14 @@ ghost use Rattle.pdb_commands.specs.Changes.{ShowsChanges, ShowedChanges, Showed
 ghost use Rattle.pdb_commands.specs.Merge.{AnswersReading, IsOfMerging};
 
 use crate::fault::RunFault;
-use byte_io::{Inputs, Sink, put_all};
-use pdb_merge::{InputBuffer, read_input_types};
+use byte_io::{Sink, put_all};
+use pdb_merge::{BoundedInputs, InputBuffer, read_input_types};
 use std::alloc::Allocator;
 use std::hash::BuildHasher;
 use type_changes::push_changes;
 
 /// Reads the types of two inputs, and makes the text of what changed between them.
-fn changes_text<I: Inputs, S: BuildHasher + Drop + Copy, A: Allocator + Copy>(
+fn changes_text<I: BoundedInputs, S: BuildHasher + Drop + Copy, A: Allocator + Copy>(
     alloc: A,
     inputs: &I,
     hasher: S,
@@ -51,12 +51,12 @@ fn changes_text<I: Inputs, S: BuildHasher + Drop + Copy, A: Allocator + Copy>(
 /// the same faults, in the same order. The whole text is made before any of it is written. After
 /// `Write` the sink is broken and took the first bytes of the text. After any other fault it took
 /// nothing.
-pub fn run_diff_members<I: Inputs, W: Sink, S: BuildHasher + Drop + Copy, A: Allocator + Copy>(
-    alloc: A,
-    inputs: &I,
-    out: &mut W,
-    hasher: S,
-) -> Result<bool, RunFault<A>>
+pub fn run_diff_members<
+    I: BoundedInputs,
+    W: Sink,
+    S: BuildHasher + Drop + Copy,
+    A: Allocator + Copy,
+>(alloc: A, inputs: &I, out: &mut W, hasher: S) -> Result<bool, RunFault<A>>
     requires two { IfSome (I.known inputs.now) (λ each. length each ≡ 2) }
     ensures answers { AnswersReading (I.known inputs.now) out.old out.new result }
     ensures value { IfOk result

@@ -8,16 +8,16 @@ ghost use Rattle.pdb_commands.specs.Difference.{ShowsInputs, Compared, ComparedP
 ghost use Rattle.pdb_commands.specs.Merge.{AnswersReading, IsOfMerging};
 
 use crate::fault::RunFault;
-use byte_io::{Inputs, Sink, put_all};
+use byte_io::{Sink, put_all};
 use command_texts::push_difference;
-use pdb_merge::{InputBuffer, read_input_types};
+use pdb_merge::{BoundedInputs, InputBuffer, read_input_types};
 use run_options::Scope;
 use std::alloc::Allocator;
 use std::hash::BuildHasher;
 use type_difference::compare;
 
 /// Reads the types of two inputs, and makes the text of their difference.
-fn difference_text<I: Inputs, S: BuildHasher + Drop, A: Allocator + Copy>(
+fn difference_text<I: BoundedInputs, S: BuildHasher + Drop, A: Allocator + Copy>(
     alloc: A,
     inputs: &I,
     scope: Scope,
@@ -55,7 +55,7 @@ fn difference_text<I: Inputs, S: BuildHasher + Drop, A: Allocator + Copy>(
 /// the same faults, in the same order. The types of two inputs are never too large. The whole text
 /// is made before any of it is written. After `Write` the sink is broken and took the first bytes
 /// of the text. After any other fault it took nothing.
-pub fn run_diff<I: Inputs, W: Sink, S: BuildHasher + Drop, A: Allocator + Copy>(
+pub fn run_diff<I: BoundedInputs, W: Sink, S: BuildHasher + Drop, A: Allocator + Copy>(
     alloc: A,
     inputs: &I,
     scope: Scope,

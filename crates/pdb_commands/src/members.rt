@@ -8,13 +8,13 @@ ghost use Rattle.pdb_commands.specs.Members.{ShowsMembers, ShowedMembers, Showed
 ghost use Rattle.pdb_commands.specs.Merge.{AnswersReading, IsOfMerging};
 
 use crate::fault::RunFault;
-use byte_io::{Inputs, Sink, put_all};
-use pdb_merge::{InputBuffer, read_input_types};
+use byte_io::{Sink, put_all};
+use pdb_merge::{BoundedInputs, InputBuffer, read_input_types};
 use std::alloc::Allocator;
 use type_texts::{Asked, find_asked, push_definitions};
 
 /// Reads the types of an input, and makes the text of the definitions that are asked for.
-fn members_text<I: Inputs, A: Allocator + Copy>(
+fn members_text<I: BoundedInputs, A: Allocator + Copy>(
     alloc: A,
     inputs: &I,
     asked: &mut [Asked<'_>],
@@ -47,7 +47,7 @@ fn members_text<I: Inputs, A: Allocator + Copy>(
 /// same faults, in the same order. The whole text is made before any of it is written. After
 /// `Write` the sink is broken and took the first bytes of the text. After any other fault it took
 /// nothing.
-pub fn run_members<I: Inputs, W: Sink, A: Allocator + Copy>(
+pub fn run_members<I: BoundedInputs, W: Sink, A: Allocator + Copy>(
     alloc: A,
     inputs: &I,
     asked: &mut [Asked<'_>],

@@ -10,10 +10,10 @@ ghost use Rattle.byte_io.specs.Inputs.{Give};
 ghost use Rattle.pdb_commands.specs.Merge.{accepted_lines, summary_lines, AreMapsInto, MergesInto};
 
 use crate::fault::RunFault;
-use byte_io::{Inputs, Sink, put_all};
+use byte_io::{Sink, put_all};
 use output_words::push_named;
 use pdb_info::Settings;
-use pdb_merge::{KeepMaps, Summary, merge_to, merge_to_with};
+use pdb_merge::{BoundedInputs, KeepMaps, Summary, merge_to, merge_to_with};
 use std::alloc::{AllocError, Allocator};
 use std::hash::BuildHasher;
 use types_guid::merge_by_types;
@@ -102,7 +102,13 @@ fn report_on<V: Sink, A: Allocator>(
 /// is broken. If it is `out`, it took the first bytes of the file, and nothing was written into
 /// `report`. If it is `report`, it took the first bytes of the report, and `out` holds the whole
 /// file.
-pub fn run_merge<I: Inputs + Drop, W: Sink, V: Sink, S: BuildHasher + Drop, A: Allocator + Copy>(
+pub fn run_merge<
+    I: BoundedInputs + Drop,
+    W: Sink,
+    V: Sink,
+    S: BuildHasher + Drop,
+    A: Allocator + Copy,
+>(
     alloc: A,
     files: I,
     settings: &Settings,
@@ -123,7 +129,7 @@ pub fn run_merge<I: Inputs + Drop, W: Sink, V: Sink, S: BuildHasher + Drop, A: A
 ///
 /// [`TypeMaps`](pdb_merge::TypeMaps) keeps the maps, and [`NoMaps`](pdb_merge::NoMaps) keeps none.
 pub fn run_merge_with<
-    I: Inputs + Drop,
+    I: BoundedInputs + Drop,
     W: Sink,
     V: Sink,
     S: BuildHasher + Drop,
@@ -154,7 +160,7 @@ pub fn run_merge_with<
 ///
 /// Everything else is as in [`run_merge_with`].
 pub fn run_merge_by_types<
-    I: Inputs + Drop,
+    I: BoundedInputs + Drop,
     W: Sink,
     V: Sink,
     S: BuildHasher + Drop,

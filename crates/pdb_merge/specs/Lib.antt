@@ -5,4 +5,5 @@ pub mod Merged
 pub mod Merging
 pub mod Answer
 pub mod Own
+pub mod Parts
 pub mod Sift

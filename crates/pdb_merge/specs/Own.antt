@@ -1,5 +1,6 @@
 -- The fault of one input of a merge, as far as this input goes.
-use Rattle.std.specs.Prelude.{ℕ, ◌≡◌, ◌≢◌, ◌⊎◌, ◌+◌, List, Some, Result, Err, slice_get}
+use Rattle.std.specs.Prelude.{ℕ, ◌≡◌, ◌≢◌, ◌⊎◌, ◌+◌, List, Some, Result, Ok, Err, slice_get}
+use Rattle.byte_io.specs.At.{Bytes, stable}
 use Rattle.byte_io.specs.Inputs.{CanRead}
 use Rattle.byte_io.specs.declared.input.ReadFault.TheVariants as reads
 use Rattle.byte_io.specs.declared.inputs.InputFault.{InputFault}
@@ -34,6 +35,12 @@ IsOfReading _ = ⊥
 abbrev pub OwnNamesFault : {A : Type 0} → OwnFault A → Type 0
 OwnNamesFault (Unread fault) = Unit {0}
 OwnNamesFault (Of fault) = AddNamesFault fault
+
+-- the inputs before this one can be read, and these are the bytes of this one
+abbrev pub ReadsInput : List (Result (List ℕ) InputFault) → ℕ → Bytes → Type 0
+ReadsInput each input bytes =
+    CanRead each input
+    × ((file : List ℕ) × (slice_get each input ≡ Some (Ok file)) × (bytes ≡ stable file))
 
 -- the input at this position was not read, because of this fault; or it was read
 abbrev pub ReadsTo : {A : Type 0} → List (Result (List ℕ) InputFault) → ℕ → OwnFault A → Type 0

@@ -5,12 +5,13 @@ ghost use Rattle.byte_io.specs.At.{IfOf, Reads, stable};
 ghost use Rattle.byte_io.specs.Inputs.{CanRead, Give};
 ghost use Rattle.pdb_merge.specs.Answer.{RefusesFiles, RefusesReading};
 ghost use Rattle.pdb_merge.specs.Fault.{merge_from_add, merge_from_input, NamesFault};
-ghost use Rattle.pdb_merge.specs.Own.{merge_from_own, IsNotRefused, IsOfReading, IsOwnReadFault, OwnNamesFault, ReadsTo};
+ghost use Rattle.pdb_merge.specs.Own.{merge_from_own, IsNotRefused, IsOfReading, IsOwnReadFault, OwnNamesFault, ReadsInput, ReadsTo};
 ghost use Rattle.pdb_merge.specs.declared.fault.AddFault.TheVariants as add;
 ghost use Rattle.pdb_merge.specs.declared.input.OwnFault.TheVariants as own;
 ghost use Rattle.file_types.specs.Read.{ListsStream, IsAccepted};
 ghost use Rattle.pdb_merge.specs.Union.{AcceptedBelow, IsReadingFaultAt, ReadsFirst};
 
+use crate::bounded::BoundedInputs;
 use crate::fault::{AddFault, MergeFault};
 use byte_io::{AtFault, InputFault, Inputs, Lend, ReadFault};
 use checked_types::Types;
@@ -147,14 +148,14 @@ pub(crate) fn refuse<I: Inputs, A: Allocator>(
 
 /// Reads stream 2 of an input by a reader of its bytes, whose parts are held against the limit of the
 /// inputs. `AtFault::Read` is a read that failed.
-fn read_with<'a, 'b: 'a, I: Inputs, R: Lend<'b>, A: Allocator + Copy>(
+fn read_with<'a, 'b: 'a, I: BoundedInputs, R: Lend<'b>, A: Allocator + Copy>(
     alloc: A,
     inputs: &I,
     input: usize,
     reader: &mut R,
     buffer: &'a mut Buffer<A>,
 ) -> Result<&'a [u8], AtFault<OwnFault<A>>>
-    requires read { IfSome (I.known inputs.now) (λ each. CanRead each (input + 1)) }
+    requires { IfSome (I.known inputs.now) (λ each. ReadsInput each input (R.bytes reader.old)) }
     ensures reads { Reads R.bytes R.is_broken reader.old reader.new result }
     ensures value { (file : List ℕ) → R.bytes reader.old ≡ stable file →
         IfOk result (λ stream. ListsStream file stream.now) }
@@ -179,7 +180,7 @@ fn read_with<'a, 'b: 'a, I: Inputs, R: Lend<'b>, A: Allocator + Copy>(
 }
 
 /// Reads the input at a position to its end, and lends its stream 2.
-fn read_whole<'a, I: Inputs, A: Allocator + Copy>(
+fn read_whole<'a, I: BoundedInputs, A: Allocator + Copy>(
     alloc: A,
     inputs: &'a I,
     input: usize,
@@ -212,7 +213,7 @@ fn read_whole<'a, I: Inputs, A: Allocator + Copy>(
 ///
 /// The fault is that of this input alone: later inputs are not looked at. Merges and comparisons read
 /// each input by this function.
-pub(crate) fn read_input<'a, I: Inputs, A: Allocator + Copy>(
+pub(crate) fn read_input<'a, I: BoundedInputs, A: Allocator + Copy>(
     alloc: A,
     inputs: &'a I,
     input: usize,
@@ -251,7 +252,7 @@ pub(crate) fn read_input<'a, I: Inputs, A: Allocator + Copy>(
 /// its own. If a part of this input is longer than the limit of the inputs, this input cannot be
 /// read; parts of later inputs are not looked at. Then comes the fault of this input, `Refused`.
 /// Both name the input by its position. `Memory` is out of memory.
-pub fn read_input_types<'a, I: Inputs, A: Allocator + Copy>(
+pub fn read_input_types<'a, I: BoundedInputs, A: Allocator + Copy>(
     alloc: A,
     inputs: &'a I,
     input: usize,

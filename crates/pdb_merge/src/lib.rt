@@ -9,6 +9,7 @@
 //!   a sink. [`merge_files`] returns their canonical list, and [`write_merged`] writes the file of
 //!   such a list. [`Merge`] takes files one after the other, whole or by position.
 //! - [`sift_files`] leaves out the files that are not accepted, and tells which ([`LeftOut`]).
+//! - [`BoundedInputs`] are several inputs, whose parts may be held against a limit.
 //! - [`MergeFault`] names the first file that is at fault, by its position, from 0.
 //!
 //! What is proved: files are merged exactly if each is accepted and their types are within the
@@ -43,6 +44,7 @@
 //! ```
 #![tactic(auto)]
 
+mod bounded;
 mod fault;
 mod input;
 pub mod laws;
@@ -50,6 +52,7 @@ mod merge;
 mod merging;
 mod summary;
 
+pub use bounded::BoundedInputs;
 pub use fault::{AddFault, MergeFault, OutFault};
 pub use file_types::{Buffer, PdbFault, read_types};
 pub use input::{InputBuffer, read_input_types};

@@ -6,6 +6,7 @@ use crate::files::{Reading, open_told, open_within};
 use crate::progress::Progress;
 use crate::said::{Said, Telling};
 use byte_io::{In, InputFault, Inputs, Opened, ReadFault, Seeking, read_into, skip_all};
+use pdb_merge::BoundedInputs;
 use std::alloc::Allocator;
 use std::fmt;
 use std::io::Eprint;
@@ -101,12 +102,6 @@ impl<'f, R: Files + AllocGlobal + Clock + Eprint> Inputs for InputFiles<'f, R> {
         self.names.len()
     }
 
-    fn limit(&self) -> u32
-        ensures { result ≡ self.now.max_bytes }
-    {
-        self.max_bytes
-    }
-
     fn read<'b, A: Allocator>(
         &'b self,
         input: usize,
@@ -138,5 +133,13 @@ impl<'f, R: Files + AllocGlobal + Clock + Eprint> Inputs for InputFiles<'f, R> {
                 skip_all(&mut In::new(file), self.max_bytes).map_err(InputFault::Read)
             }
         }
+    }
+}
+
+impl<'f, R: Files + AllocGlobal + Clock + Eprint> BoundedInputs for InputFiles<'f, R> {
+    fn limit(&self) -> u32
+        ensures { result ≡ self.now.max_bytes }
+    {
+        self.max_bytes
     }
 }

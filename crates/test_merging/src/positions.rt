@@ -5,7 +5,7 @@ ghost use Rattle.std.specs.Prelude.{None};
 use super::calls::copied;
 use byte_io::{InputFault, Inputs, Opened};
 use pdb_info::Settings;
-use pdb_merge::{MergeFault, PdbFault, merge_files};
+use pdb_merge::{BoundedInputs, MergeFault, PdbFault, merge_files};
 use std::alloc::Allocator;
 use std::test::Fail;
 use test_samples::{LIMIT, Positions, folding, pdb_with, refusals, sample, settings};
@@ -65,6 +65,8 @@ impl<'p> Inputs for Parts<'p> {
         Ok(())
     }
 }
+
+impl<'p> BoundedInputs for Parts<'p> {}
 
 /// The list of the types of files that are read by position.
 fn list_at<A: Allocator + Copy>(

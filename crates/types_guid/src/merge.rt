@@ -10,10 +10,11 @@ ghost use Rattle.types_guid.specs.Merge.{IsFileByTypes, WrotePartByTypes};
 ghost use Rattle.types_guid.specs.Sift.{SiftsTo};
 
 use crate::guid::guid_of_types;
-use byte_io::{Inputs, Sink};
+use byte_io::Sink;
 use pdb_info::Settings;
 use pdb_merge::{
-    KeepMaps, LeftOut, OutFault, Sifted, Summary, merge_files_with, sift_files, write_canon,
+    BoundedInputs, KeepMaps, LeftOut, OutFault, Sifted, Summary, merge_files_with, sift_files,
+    write_canon,
 };
 use run_options::GuidChoice;
 use std::alloc::Allocator;
@@ -59,7 +60,7 @@ fn chosen<A: Allocator>(choice: GuidChoice, settings: &Settings, canon: &Canon<A
 /// The GUID is that of [`guid_of_types`]. Everything else is as in [`pdb_merge::merge_to_with`]: what
 /// is written, the maps of the files, the faults and their order, and what stays.
 pub fn merge_by_types<
-    I: Inputs + Drop,
+    I: BoundedInputs + Drop,
     W: Sink,
     S: BuildHasher + Drop,
     A: Allocator + Copy,
@@ -92,7 +93,7 @@ pub fn merge_by_types<
 /// together than the limit. `choice` says which GUID the file has. Everything else is as in
 /// [`pdb_merge::merge_to_with`]: what is written, the maps, the order of the faults, and what stays.
 pub fn merge_accepted<
-    I: Inputs + Drop,
+    I: BoundedInputs + Drop,
     W: Sink,
     S: BuildHasher + Drop,
     A: Allocator + Copy,

@@ -11,10 +11,10 @@ ghost use Rattle.pdb_merge.specs.Union.{HasType, Within};
 ghost use Rattle.pdb_merge.specs.Merging.{AddsFile, HasTaken, AreMapsOf};
 ghost use Rattle.pdb_merge.specs.Own.{IsOwnFault, OwnNamesFault, ReadsTo};
 
+use crate::bounded::BoundedInputs;
 use crate::fault::MergeFault;
 use crate::input::{InputBuffer, OwnFault, read_input, refuse};
 use crate::merge::Merge;
-use byte_io::Inputs;
 use pdb_info::Settings;
 use std::alloc::Allocator;
 use std::hash::BuildHasher;
@@ -22,7 +22,7 @@ use type_table::{Canon, KeepMaps, NoMaps};
 
 /// Adds the types of the file at a position. The fault is that of this file alone: later files are not
 /// looked at.
-pub(crate) fn add_own<I: Inputs, S: BuildHasher, A: Allocator + Copy, K: KeepMaps>(
+pub(crate) fn add_own<I: BoundedInputs, S: BuildHasher, A: Allocator + Copy, K: KeepMaps>(
     alloc: A,
     inputs: &I,
     input: usize,
@@ -52,7 +52,7 @@ pub(crate) fn add_own<I: Inputs, S: BuildHasher, A: Allocator + Copy, K: KeepMap
 
 /// Adds the types of the file at a position. If the file has a fault of its own, the files after it
 /// are checked too, because a file that cannot be read is refused first.
-fn add_input<I: Inputs, S: BuildHasher, A: Allocator + Copy, K: KeepMaps>(
+fn add_input<I: BoundedInputs, S: BuildHasher, A: Allocator + Copy, K: KeepMaps>(
     alloc: A,
     inputs: &I,
     input: usize,
@@ -89,7 +89,7 @@ fn add_input<I: Inputs, S: BuildHasher, A: Allocator + Copy, K: KeepMaps>(
 /// Apart from the types of all files so far, at most one file is in memory. A file that the inputs
 /// open by position is read only as far as its types need it. A read by position that fails is no
 /// fault: the file is then read whole, from its start.
-pub fn merge_files<I: Inputs + Drop, S: BuildHasher + Drop, A: Allocator + Copy>(
+pub fn merge_files<I: BoundedInputs + Drop, S: BuildHasher + Drop, A: Allocator + Copy>(
     alloc: A,
     files: I,
     settings: &Settings,
@@ -111,7 +111,7 @@ pub fn merge_files<I: Inputs + Drop, S: BuildHasher + Drop, A: Allocator + Copy>
 /// bytes for each record of all files, and [`NoMaps`] keeps none. Everything else is as in
 /// [`merge_files`].
 pub fn merge_files_with<
-    I: Inputs + Drop,
+    I: BoundedInputs + Drop,
     S: BuildHasher + Drop,
     A: Allocator + Copy,
     K: KeepMaps + Drop,

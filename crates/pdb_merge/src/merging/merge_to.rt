@@ -7,11 +7,12 @@ ghost use Rattle.pdb_info.specs.Settings.{AreSettings, record_limit};
 ghost use Rattle.pdb_merge.specs.Answer.{MergesTo};
 ghost use Rattle.pdb_merge.specs.Merged.{merged_file, IsFileOf, WroteFile, Wrote, WroteWithMaps, WrotePart};
 
+use crate::bounded::BoundedInputs;
 use crate::fault::OutFault;
 use crate::merging::merge_files::merge_files_with;
 use crate::merging::write_merged::write_merged_len;
 use crate::summary::Summary;
-use byte_io::{Inputs, Sink};
+use byte_io::Sink;
 use msf_streams::WriteFault;
 use pdb_info::Settings;
 use std::alloc::Allocator;
@@ -74,7 +75,7 @@ pub fn write_canon<W: Sink, A: Allocator + Copy>(
 /// The faults, in order: `Merge`, with the fault of [`merge_files`]; `Memory`, when out of memory
 /// for writing; and `Write`, where the sink did not take the whole file. After `Write` the sink is
 /// broken and took the first bytes of the file. After any other fault it is unchanged.
-pub fn merge_to<I: Inputs + Drop, W: Sink, S: BuildHasher + Drop, A: Allocator + Copy>(
+pub fn merge_to<I: BoundedInputs + Drop, W: Sink, S: BuildHasher + Drop, A: Allocator + Copy>(
     alloc: A,
     files: I,
     settings: &Settings,
@@ -96,7 +97,7 @@ pub fn merge_to<I: Inputs + Drop, W: Sink, S: BuildHasher + Drop, A: Allocator +
 /// The maps begin with that of the first file. [`TypeMaps`](crate::TypeMaps) keeps them, in four
 /// bytes for each record of all files, and [`NoMaps`] keeps none.
 pub fn merge_to_with<
-    I: Inputs + Drop,
+    I: BoundedInputs + Drop,
     W: Sink,
     S: BuildHasher + Drop,
     A: Allocator + Copy,

@@ -11,11 +11,11 @@ ghost use Rattle.pdb_merge.specs.Sift.{AreListed, AreMapsBut, HasSifted, LeavesO
 ghost use Rattle.pdb_merge.specs.Union.{HasType, Within};
 ghost use Rattle.type_table.specs.Maps.{with_map};
 
+use crate::bounded::BoundedInputs;
 use crate::fault::MergeFault;
 use crate::input::{InputBuffer, refuse};
 use crate::merge::Merge;
 use crate::merging::merge_files::add_own;
-use byte_io::Inputs;
 use file_types::PdbFault;
 use pdb_info::Settings;
 use std::alloc::{AllocError, Allocator, Global};
@@ -62,7 +62,7 @@ fn leave_out<S: BuildHasher, A: Allocator + Copy, K: KeepMaps>(
 }
 
 /// Adds the types of the file at a position, or leaves the file out if it has a fault of its own.
-fn sift_input<I: Inputs, S: BuildHasher, A: Allocator + Copy, K: KeepMaps>(
+fn sift_input<I: BoundedInputs, S: BuildHasher, A: Allocator + Copy, K: KeepMaps>(
     alloc: A,
     inputs: &I,
     input: usize,
@@ -111,7 +111,12 @@ fn sift_input<I: Inputs, S: BuildHasher, A: Allocator + Copy, K: KeepMaps>(
 /// [`TypeMaps`](crate::TypeMaps) keeps the maps, in four bytes for each record of all files, and
 /// [`NoMaps`](crate::NoMaps) keeps none. Everything else is as in
 /// [`merge_files`](crate::merge_files).
-pub fn sift_files<I: Inputs + Drop, S: BuildHasher + Drop, A: Allocator + Copy, K: KeepMaps + Drop>(
+pub fn sift_files<
+    I: BoundedInputs + Drop,
+    S: BuildHasher + Drop,
+    A: Allocator + Copy,
+    K: KeepMaps + Drop,
+>(
     alloc: A,
     files: I,
     settings: &Settings,

@@ -1,13 +1,13 @@
 use Rattle.std.proofs.Common.{refl}
 use Rattle.pdb_merge.proofs.InputLaws.{opened_file, opened_read, more_read}
-use Rattle.pdb_merge.proofs.OwnLaws.{given_memory}
+use Rattle.pdb_merge.proofs.OwnLaws.{given_memory, opened_reads}
 use Rattle.pdb_merge.proofs.input.read_input.Goals as goal
 
 pub read_with-requires : goal.read_with-requires
 read_with-requires g c κs =
     let known = g.I.Inputs.known c.args.inputs.now in (
       (refl, (refl, tt)),
-      more_read known c.args.input c.requires.before (opened_read known c.args.input g.I.File.ReadAt.bytes c.in-Ok.opened c.in-Ok.ensures.value),
+      opened_reads known c.args.input g.I.File.ReadAt.bytes c.in-Ok.opened c.requires.before c.in-Ok.ensures.value,
     )
 
 pub returns-in-Err-clause-own : goal.returns-in-Err-clause-own

@@ -1,14 +1,14 @@
 use Rattle.std.proofs.Common.{ap, refl, sym}
 use Rattle.byte_io.specs.At.{stable}
 use Rattle.pdb_merge.proofs.InputLaws.{given_file, some_bytes, more_read}
-use Rattle.pdb_merge.proofs.OwnLaws.{given_memory}
+use Rattle.pdb_merge.proofs.OwnLaws.{given_memory, whole_reads}
 use Rattle.pdb_merge.proofs.input.read_whole.Goals as goal
 
 pub read_with-requires : goal.read_with-requires
 read_with-requires g c κs =
     let known = g.I.Inputs.known c.args.inputs.now in (
       (refl, (refl, tt)),
-      more_read known c.args.input c.requires.before (some_bytes known c.args.input c.in-Ok.file.now c.in-Ok.ensures.value),
+      whole_reads known c.args.input c.in-Ok.file.now c.requires.before c.in-Ok.ensures.value,
     )
 
 pub returns-in-Err-clause-own : goal.returns-in-Err-clause-own
