@@ -8,10 +8,10 @@ use Rattle.std.proofs.lemmas.Option.{slice_get_within, slice_get-get_or}
 use Rattle.byte_io.specs.At.{AreGiven, Bytes, stable}
 use Rattle.msf_superblock.specs.BlockNumber.{IsOrdinary, blocks_for}
 use Rattle.msf_blocks.specs.Blocks.{AreGivenIn, AreInside, in_blocks}
-use Rattle.msf_blocks.specs.Layout.{LayoutView, HasLayout, IsLayout, block_of}
+use Rattle.msf_blocks.specs.Layout.{LayoutView, HasLayout}
 use Rattle.msf_blocks.specs.Directory.{Listed, IsListed, bytes_of}
 use Rattle.msf_superblock.specs.Superblock.{HoldsBlocks}
-use Rattle.msf_streams.specs.Streams.{AreConsecutive, WasRead, blocks_in, listed_contents, stream_contents}
+use Rattle.msf_streams.specs.Streams.{AreConsecutive, IsRun, WasRead, listed_contents, stream_contents}
 use Rattle.msf_blocks.proofs.KnownLaws.{blocks_given, blocks_known}
 use Rattle.msf_superblock.proofs.SizeLaws.{ceil_ge, place_below, some_bytes}
 use Rattle.msf_streams.proofs.LentLaws.{IsSized, is_sized}
@@ -51,18 +51,15 @@ was_read bytes layout s size blocks text sized is long given =
     }
 
 -- bytes that are given from the first of consecutive blocks on are a text of the stream
-pub lent_given : (bytes : Bytes) (layout : LayoutView) (s size first : ℕ) (text : List ℕ) → IsLayout layout → option_map (λ l. bytes_of l.size) (slice_get layout.streams s) ≡ Some size
-    → block_of layout.streams s 0 ≡ Some first → AreConsecutive (blocks_in (slice_get layout.streams s)) → length text ≡ size → AreGiven bytes (first * layout.superblock.block_size) text → WasRead bytes layout s text
-lent_given bytes layout s size first text holds e there each long given =
-    let sized = is_sized layout s size holds e in
+pub lent_given : (bytes : Bytes) (layout : LayoutView) (s first size : ℕ) (text : List ℕ) → IsRun layout s first size → length text ≡ size
+    → AreGiven bytes (first * layout.superblock.block_size) text → WasRead bytes layout s text
+lent_given bytes layout s first size text run long given =
+    let sized = is_sized layout s size run.fits run.size in
     let b = layout.superblock.block_size in
     let blocks = sized.stream.blocks in
-    let some = some_bytes b holds.size in
-    let listed : slice_get blocks 0 ≡ Some first = rw sized.here at there in
-    let many : 0 < length blocks = slice_get_within blocks 0 first listed in
-    let both : Some (get_or blocks 0 0) ≡ Some first = sym (slice_get-get_or blocks 0 0 many) ∙ listed in
-    let is : first ≡ get_or blocks 0 0 = cc in
-    let consecutive : AreConsecutive blocks = rw sized.here at each in
+    let some = some_bytes b run.fits.size in
+    let is : first ≡ get_or blocks 0 0 = sym (rw sized.here at run.first) in
+    let consecutive : AreConsecutive blocks = rw sized.here at run.part.1 in
     let count : length blocks ≡ blocks_for b size = sized.fits.count ∙ ap (blocks_for b) sized.is in
     record {
       stream = sized.stream;

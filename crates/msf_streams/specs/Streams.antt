@@ -5,7 +5,7 @@ use Rattle.std.specs.List.{concat}
 use Rattle.byte_io.specs.At.{Bytes}
 use Rattle.msf_blocks.specs.Blocks.{AreGivenIn, in_blocks}
 use Rattle.msf_blocks.specs.Directory.{Listed, bytes_of}
-use Rattle.msf_blocks.specs.Layout.{LayoutView}
+use Rattle.msf_blocks.specs.Layout.{LayoutView, IsLayout}
 
 -- the contents of a stream
 abbrev pub listed_contents : List ℕ → ℕ → Listed → List ℕ
@@ -54,6 +54,20 @@ FirstIsLong pieces =
 -- each block is the one after the block before it in the list
 abbrev pub AreConsecutive : List ℕ → Type 0
 AreConsecutive blocks = (k : ℕ) → k < length blocks → get_or blocks k 0 ≡ get_or blocks 0 0 + k
+
+-- s is the number of a stream, and its blocks are consecutive:
+-- its contents are one part of the file
+abbrev pub IsOnePart : LayoutView → ℕ → Type 0
+IsOnePart layout s =
+    (s < length layout.streams) × AreConsecutive (blocks_in (slice_get layout.streams s))
+
+-- the s-th stream is one part of the file: so many bytes, from this block on.
+-- Where it has no block, this is 0
+pub record IsRun (layout : LayoutView) (s block many : ℕ) : Type 0 where
+  pub fits : IsLayout layout
+  pub size : option_map (λ l. bytes_of l.size) (slice_get layout.streams s) ≡ Some many
+  pub first : get_or (blocks_in (slice_get layout.streams s)) 0 0 ≡ block
+  pub part : IsOnePart layout s
 
 -- ---- the pieces during iteration
 

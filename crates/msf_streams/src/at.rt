@@ -1,15 +1,15 @@
 //! The bytes of one stream, read by position.
 
-ghost use Rattle.std.specs.Prelude.{IsTrue, ◌≡◌, ◌↔◌, ◌⊎◌, ◌≤◌, ◌<◌, length, max, take, slice_get, option_map, Some, IfOk, IfErr, IfSome};
+ghost use Rattle.std.specs.Prelude.{◌≡◌, ◌⊎◌, ◌≤◌, ◌<◌, length, max, take, Some, IfOk, IfErr};
 ghost use Rattle.byte_io.specs.At.{IfKnown, IfOf, Reads};
-ghost use Rattle.msf_blocks.specs.Directory.{bytes_of};
-ghost use Rattle.msf_blocks.specs.Layout.{HasLayout, IsLayout, block_of};
+ghost use Rattle.msf_blocks.specs.Layout.{HasLayout};
 ghost use Rattle.msf_superblock.specs.Superblock.{HoldsBlocks};
-ghost use Rattle.msf_streams.specs.Streams.{AreConsecutive, WasRead, blocks_in, stream_contents};
+ghost use Rattle.msf_streams.specs.Streams.{WasRead, stream_contents};
 
 use crate::fault::StreamFault;
+use crate::part::part_of;
 use byte_io::{AtFault, Lend, ReadAt, ReadFault};
-use msf_blocks::{Layout, blocks_for, read_blocks};
+use msf_blocks::{Layout, read_blocks};
 use std::alloc::Allocator;
 
 /// Reads all the bytes of the `s`-th stream, from 0, over the first bytes of a buffer, which grows
@@ -83,49 +83,6 @@ pub fn gather_at<'a, R: ReadAt, A: Allocator, L: Allocator>(
     Ok(&buffer[..len])
 }
 
-/// Whether the `count` blocks of the `s`-th stream are consecutive in the file. The first of them is
-/// `first`.
-fn are_consecutive<A: Allocator>(layout: &Layout<A>, s: u32, first: u32, count: u32) -> bool
-    requires first { block_of layout.now.streams s 0 ≡ Some first }
-    requires count { count ≡ length (blocks_in (slice_get layout.now.streams s)) }
-    ensures { IsTrue result ↔ AreConsecutive (blocks_in (slice_get layout.now.streams s)) }
-{
-    for k in 1..count {
-        if layout.block(s, k) != first.checked_add(k) {
-            return false;
-        }
-    }
-    true
-}
-
-/// The first block of the `s`-th stream, and how many bytes the stream has, where its blocks are
-/// consecutive. `None` where they are not, where there are none, and where `s` is not a stream.
-fn run_of<L: Allocator>(layout: &Layout<L>, s: u32) -> Option<(u32, u32)>
-    ensures size { IfSome result (λ run.
-        option_map (λ l. bytes_of l.size) (slice_get layout.now.streams s) ≡ Some run.1) }
-    ensures first { IfSome result (λ run. block_of layout.now.streams s 0 ≡ Some run.0) }
-    ensures run { IfSome result (λ _.
-        AreConsecutive (blocks_in (slice_get layout.now.streams s))) }
-    ensures fits { IfSome result (λ _. IsLayout layout.now) }
-{
-    let size = layout.size(s)?;
-    let first = layout.block(s, 0)?;
-    let block_size = layout.superblock().block_size();
-    if !are_consecutive(layout, s, first, blocks_for(block_size, size)) {
-        return None;
-    }
-    Some((first, size))
-}
-
-/// All the bytes of the `s`-th stream, from 0, lent where its blocks are consecutive and in memory.
-fn lent<'a, R: Lend<'a>, L: Allocator>(input: &R, layout: &Layout<L>, s: u32) -> Option<&'a [u8]>
-    ensures { IfSome result (λ part. WasRead (R.bytes input.now) layout.now s part.now) }
-{
-    let (first, size) = run_of(layout, s)?;
-    let block_size = layout.superblock().block_size();
-    input.part(u64::from(first) * u64::from(block_size), size)
-}
-
 /// All the bytes of the `s`-th stream, from 0: lent where its blocks are consecutive and in memory,
 /// and otherwise gathered over the first bytes of a buffer.
 ///
@@ -150,7 +107,7 @@ pub fn contents_at<'a, 'b: 'a, R: Lend<'b>, A: Allocator, L: Allocator>(
         ((fault ≡ StreamFault.NoStream s) × (length layout.now.streams ≤ s))
         ⊎ ((fault ≡ StreamFault.Memory) × (s < length layout.now.streams)))) }
 {
-    if let Some(part) = lent(input, layout, s) {
+    if let Some(part) = part_of(input, layout, s) {
         return Ok(part);
     }
     gather_at(input, layout, s, buffer)

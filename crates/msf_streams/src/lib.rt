@@ -6,6 +6,8 @@
 //!
 //! - [`pieces`] lends the contents from the file, in one piece for each block. It does not
 //!   allocate, so it reads streams of any size.
+//! - [`lent`] lends the contents as one part of the file, exactly where the blocks are consecutive. It
+//!   does not allocate.
 //! - [`gather`] copies the contents into one buffer, for a reader of fields that cross from one
 //!   block into the next. It allocates the whole buffer before it copies anything.
 //! - [`gather_at`] gathers the contents by position, and reads no other byte of the file.
@@ -64,6 +66,7 @@ mod front;
 mod image;
 mod image_writer;
 pub mod laws;
+mod part;
 mod streams;
 mod write;
 
@@ -71,5 +74,6 @@ pub use at::{contents_at, gather_at};
 pub use container::Container;
 pub use fault::{StreamFault, WriteFault};
 pub use image::image_len;
+pub use part::lent;
 pub use streams::{StreamPieces as Pieces, gather, pieces};
 pub use write::{write_image, write_parts, write_streams};

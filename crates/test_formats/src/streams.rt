@@ -5,9 +5,8 @@ ghost use Rattle.msf_blocks.specs.Layout.{HasLayout};
 
 use byte_io::AtFault;
 use msf_blocks::Layout;
-use msf_streams::{StreamFault, contents_at, gather};
-use std::alloc::{Allocator, Global};
-use std::ops::Range;
+use msf_streams::{StreamFault, contents_at, gather, lent};
+use std::alloc::Allocator;
 use std::test::Fail;
 use test_samples::{refusals, sample};
 
@@ -68,29 +67,26 @@ fn contents_of<'a, A: Allocator>(
     }
 }
 
-/// Whether a stream is lent as this part of the file, and nothing is gathered.
-fn is_lent(alloc: Global, file: &[u8], s: u32, place: Range<usize>) -> Result<bool, Fail> {
-    let layout = Layout::read(alloc, file)?;
-    let mut buffer = Vec::new(alloc);
-    let bytes = contents_of(file, &layout, s, &mut buffer)?;
-    let is_there = Some(bytes) == file.get(place);
-    Ok(is_there && buffer.is_empty())
-}
-
 #[test]
 fn consecutive_blocks_are_lent(rt: HostRuntime) -> Result<(), Fail> {
-    let file = container();
+    let mut file = container();
+    let layout = Layout::read(rt.alloc(), &file)?;
+    assert_eq!(rt; lent(&file, &layout, 0), None);
     for (s, size) in [(1, 0), (2, 0), (3, 10), (4, 4096)] {
         let place = 24576..24576 + size;
-        assert!(rt; is_lent(rt.alloc(), &file, s, place)?, "stream {s}");
+        assert!(rt; lent(&file, &layout, s) == file.get(place), "stream {s}");
     }
+    assert_eq!(rt; lent(&file, &layout, 5), None);
     // With the blocks 8 and 9 stream 0 is one part of the file, over the end of a block.
-    let mut file = file;
     put(&mut file, 4 * BLOCK + 24, 8);
     put(&mut file, 4 * BLOCK + 28, 9);
-    assert!(rt; is_lent(rt.alloc(), &file, 0, 32768..36865)?);
+    let layout = Layout::read(rt.alloc(), &file)?;
+    assert_eq!(rt; lent(&file, &layout, 0), file.get(32768..36865));
     let file = sample(rt.alloc())?;
-    assert!(rt; is_lent(rt.alloc(), &file, 2, 3072..3152)?);
+    let layout = Layout::read(rt.alloc(), &file)?;
+    assert_eq!(rt; lent(&file, &layout, 0), Some(&[][..]));
+    assert_eq!(rt; lent(&file, &layout, 2), file.get(3072..3152));
+    assert_eq!(rt; lent(&file, &layout, 5), None);
     Ok(())
 }
 
@@ -99,6 +95,8 @@ fn only_scattered_blocks_are_gathered(rt: HostRuntime) -> Result<(), Fail> {
     let file = container();
     let layout = Layout::read(rt.alloc(), &file)?;
     let mut buffer = Vec::new(rt.alloc());
+    contents_of(&file, &layout, 3, &mut buffer)?;
+    assert!(rt; buffer.is_empty());
     for s in [3, 0, 4, 0] {
         let want = gather(rt.alloc(), &file, &layout, s)?;
         let bytes = contents_of(&file, &layout, s, &mut buffer)?;
