@@ -206,7 +206,7 @@ uint32_t pdbmerge_records(const uint8_t *stream, size_t length,
 
 /* Finds where the record with this type index begins: its offset in the bytes of stream 2. All records are
  * framed, since a fault of any of them comes first, but none is listed: this allocates four bytes for every
- * 16 records. Faults, in order: 16 to 24; 33; 39, where no record has the index. */
+ * 64 records. Faults, in order: 16 to 24; 33; 39, where no record has the index. */
 uint32_t pdbmerge_record(const uint8_t *stream, size_t length, uint32_t index,
                          uint64_t *offset, pdbmerge_fault *fault);
 

@@ -18,24 +18,26 @@ use crate::fault::{RecordFault, TypeFault};
 use crate::measure::measure;
 use crate::order::{InOrder, Order, arrange};
 use closed_trees::levels_of;
-use std::alloc::{Allocator, Global};
+use std::alloc::{AllocError, Allocator, Global};
 use std::marker::Model;
-use tpi_records::{Iter, Records};
+use tpi_records::{Iter, RecordIndex, Records};
 
 /// The type records of a file. Each is whole and has places, and no record leads into a cycle of
 /// references.
 ///
 /// [`Types::check`] makes it. It keeps the records, and four bytes for each: its depth. Where a
-/// record names a later one, it keeps four more bytes for each: their order.
+/// record names a later one, it keeps four more bytes for each: their order. [`Types::index`] keeps
+/// four more for each, so that one is found without a step.
 #[derive(Debug, Drop)]
 pub struct Types<'a, A: Allocator = Global> {
     records: Records<'a, A>,
     order: Order<A>,
     depths: Vec<u32, A>,
+    index: Option<RecordIndex<'a, A>>,
 }
 
 impl<'a, A: Allocator> Model for Types<'a, A> {
-    ghost use Rattle.std.specs.Prelude.{List, ℕ, length};
+    ghost use Rattle.std.specs.Prelude.{◌≡◌, List, ℕ, IfSome, length};
     ghost use Rattle.checked_types.specs.Order.{order_list};
     ghost use Rattle.checked_types.specs.Measured.{AreMeasured};
 
@@ -43,8 +45,10 @@ impl<'a, A: Allocator> Model for Types<'a, A> {
 
     ghost view = { λ t. t.records };
 
-    ghost invariant = { λ t.
-        AreMeasured t.records (order_list (length t.records) t.order) t.depths.items };
+    ghost invariant = { λ t. record {
+      measured : AreMeasured t.records (order_list (length t.records) t.order) t.depths.items;
+      indexed : IfSome t.index (λ index. index ≡ t.records);
+    } };
 }
 
 /// Stores the depth of the record at a position. Returns whether it is known and has room.
@@ -123,6 +127,7 @@ impl<'a, A: Allocator + Copy> Types<'a, A> {
                 records,
                 order: Order::InFileOrder,
                 depths,
+                index: None,
             });
         }
         drop(depths);
@@ -132,7 +137,17 @@ impl<'a, A: Allocator + Copy> Types<'a, A> {
             records,
             order,
             depths,
+            index: None,
         })
+    }
+
+    /// Keeps where each record begins, so that [`Types::get`] finds it without a step: four bytes for
+    /// each, allocated at once. Who asks for types out of their order calls this first.
+    pub fn index(&mut self, alloc: A) -> Result<(), AllocError>
+        ensures { self.new ≡ self.old }
+    {
+        self.index = Some(self.records.index(alloc)?);
+        Ok(())
     }
 }
 
@@ -164,7 +179,10 @@ impl<'a, A: Allocator> Types<'a, A> {
         ensures framed { IfSome result (λ r. IsRecord r.now) }
         ensures checked { IfSome result (λ r. IsChecked r.now) }
     {
-        self.records.get(i)
+        match &self.index {
+            Some(index) => index.get(i),
+            None => self.records.get(i),
+        }
     }
 
     /// The records in the order of the file. Each one is lent whole, with its length field.

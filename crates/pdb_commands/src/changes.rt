@@ -29,9 +29,11 @@ fn changes_text<I: BoundedInputs, S: BuildHasher + Drop + Copy, A: Allocator + C
         RefusesReading (I.known inputs.now) inner) }
 {
     let mut buffer = InputBuffer::new(alloc);
-    let first = read_input_types(alloc, inputs, 0, &mut buffer)?;
+    let mut first = read_input_types(alloc, inputs, 0, &mut buffer)?;
     let mut second_buffer = InputBuffer::new(alloc);
-    let second = read_input_types(alloc, inputs, 1, &mut second_buffer)?;
+    let mut second = read_input_types(alloc, inputs, 1, &mut second_buffer)?;
+    first.index(alloc)?;
+    second.index(alloc)?;
     let mut text = Vec::new(alloc);
     push_changes(alloc, hasher, &mut text, &first, &second)?;
     Ok(text)

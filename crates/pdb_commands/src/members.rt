@@ -29,7 +29,8 @@ fn members_text<I: BoundedInputs, A: Allocator + Copy>(
         RefusesReading (I.known inputs.now) inner) }
 {
     let mut buffer = InputBuffer::new(alloc);
-    let types = read_input_types(alloc, inputs, 0, &mut buffer)?;
+    let mut types = read_input_types(alloc, inputs, 0, &mut buffer)?;
+    types.index(alloc)?;
     find_asked(&types, asked);
     let mut text = Vec::new(alloc);
     push_definitions(alloc, &mut text, &types, asked)?;

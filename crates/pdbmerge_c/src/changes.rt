@@ -15,28 +15,25 @@ use crate::fault::{Fault, refuse};
 use crate::give::give;
 use crate::pair::{Buffers, Pair};
 use crate::seed::Seed;
-use checked_types::Types;
 use pdb_merge::MergeFault;
 use std::alloc::{AllocError, Global};
 use std::hash::RandomState;
 use type_changes::push_changes;
 
-/// The text of what changed between the definitions of two lists of types.
-fn text_of(
-    alloc: Global,
-    first: &Types<'_>,
-    second: &Types<'_>,
-    seed: &Seed,
-) -> Result<Vec<u8>, AllocError>
-    ensures { (trees others : List Tree) → AreTrees first.now trees → AreTrees second.now others →
+/// The text of what changed between the definitions of the first file and those of the second.
+fn text_of(alloc: Global, pair: &mut Pair<'_>, seed: &Seed) -> Result<Vec<u8>, AllocError>
+    ensures { (trees others : List Tree) →
+        AreTrees pair.old.first trees → AreTrees pair.old.second others →
         IfOk result (λ text.
         text.items ≡ changes_text (definitions trees) (definitions others)) }
 {
     let Ok(hasher) = RandomState::new(seed) else {
         return Err(AllocError);
     };
+    pair.first.index(alloc)?;
+    pair.second.index(alloc)?;
     let mut text = Vec::new(alloc);
-    push_changes(alloc, hasher, &mut text, first, second)?;
+    push_changes(alloc, hasher, &mut text, &pair.first, &pair.second)?;
     Ok(text)
 }
 
@@ -54,8 +51,8 @@ fn tell_changes(
     ensures first { IfErr result (IsFaultOfPair first.now second.now) }
 {
     let mut buffers = Buffers::new(alloc);
-    let pair = Pair::read(alloc, first, second, &mut buffers)?;
-    match text_of(alloc, &pair.first, &pair.second, seed) {
+    let mut pair = Pair::read(alloc, first, second, &mut buffers)?;
+    match text_of(alloc, &mut pair, seed) {
         Ok(text) => Ok(text),
         Err(_) => Err(MergeFault::Memory),
     }

@@ -27,12 +27,13 @@ fn push_asked<'a>(asked: &mut Vec<Asked<'a>>, names: &[&'a [u8]]) -> Result<(), 
 }
 
 /// The text of the definitions among types that have one of these names; of all if there are none.
-fn text_of(alloc: Global, types: &Types<'_>, names: &[&[u8]]) -> Result<Vec<u8>, AllocError>
-    ensures { (trees : List Tree) → AreTrees types.now trees → IfOk result (λ text. text.items
+fn text_of(alloc: Global, types: &mut Types<'_>, names: &[&[u8]]) -> Result<Vec<u8>, AllocError>
+    ensures { (trees : List Tree) → AreTrees types.old trees → IfOk result (λ text. text.items
         ≡ concat (shown_texts (map (answered trees) (map asked_by names.now)) 0 trees)) }
 {
     let mut asked = Vec::new(alloc);
     push_asked(&mut asked, names)?;
+    types.index(alloc)?;
     find_asked(types, &mut asked);
     let mut text = Vec::new(alloc);
     push_definitions(alloc, &mut text, types, &asked)?;
@@ -47,8 +48,8 @@ fn tell_members(alloc: Global, file: &[u8], names: &[&[u8]]) -> Result<Vec<u8>, 
     ensures first { IfErr result (IsFaultOfFile file.now) }
 {
     let mut buffer = Buffer::new(alloc);
-    let types = read_types(alloc, file, &mut buffer)?;
-    match text_of(alloc, &types, names) {
+    let mut types = read_types(alloc, file, &mut buffer)?;
+    match text_of(alloc, &mut types, names) {
         Ok(text) => Ok(text),
         Err(_) => Err(PdbFault::Memory),
     }

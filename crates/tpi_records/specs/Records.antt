@@ -1,5 +1,5 @@
 -- The records of a TPI stream, one after the other ("The PDB TPI and IPI Streams", "Type Records").
-use Rattle.std.specs.Prelude.{map, ℕ, zero, suc, ◌≡◌, ◌≢◌, ◌+◌, ◌*◌, ◌/◌, ◌%◌, ◌^◌, ◌<◌, ◌≤◌, ◌⊎◌, Some, List, [], ◌∷◌, ◌++◌, length, take, drop}
+use Rattle.std.specs.Prelude.{map, ℕ, zero, suc, ◌≡◌, ◌≢◌, ◌+◌, ◌*◌, ◌/◌, ◌%◌, ◌^◌, ◌<◌, ◌≤◌, ◌⊎◌, Some, List, [], ◌∷◌, ◌++◌, length, take, drop, get_or}
 use Rattle.std.specs.List.{concat, range_with_len, AllByRecursion}
 use Rattle.byte_fields.specs.Number.{number_at}
 use Rattle.byte_fields.specs.Check.{first_failing}
@@ -109,13 +109,13 @@ pub record IsFramed (bytes : List ℕ) : Type 0 where
 abbrev pub start_of : List (List ℕ) → ℕ → ℕ
 start_of records position = length (concat (take position records))
 
--- the offsets at which the first `count` of the records 0, 16, 32 and so on begin
+-- the offsets at which the first `count` of the records 0, 64, 128 and so on begin
 abbrev pub starts_below : List (List ℕ) → ℕ → List ℕ
-starts_below records count = map (λ k. start_of records (16 * k)) (range_with_len 0 count)
+starts_below records count = map (λ k. start_of records (64 * k)) (range_with_len 0 count)
 
--- how many of the records 0, 16, 32 and so on there are among this many records
+-- how many of the records 0, 64, 128 and so on there are among this many records
 abbrev pub starts_for : ℕ → ℕ
-starts_for count = (count + 15) / 16
+starts_for count = (count + 63) / 64
 
 -- this is what is kept of records that fill these bytes
 pub record AreRecords (bytes : List ℕ) (count : ℕ) (starts : List ℕ) : Type 0 where
@@ -123,5 +123,14 @@ pub record AreRecords (bytes : List ℕ) (count : ℕ) (starts : List ℕ) : Typ
   pub framed : IsFramed bytes
   -- there are `count` of them
   pub counted : count ≡ length (records_in bytes)
-  -- these are the starts of records 0, 16, 32 and so on
+  -- these are the starts of records 0, 64, 128 and so on
   pub kept : starts ≡ starts_below (records_in bytes) (starts_for count)
+
+-- this is the start of each of the records that fill these bytes
+pub record AreIndexed (bytes : List ℕ) (starts : List ℕ) : Type 0 where
+  -- each of them is a record, and nothing follows them
+  pub framed : IsFramed bytes
+  -- one start for each
+  pub many : length starts ≡ length (records_in bytes)
+  -- the start at a position is that of the record there
+  pub each : (i : ℕ) → i < length starts → get_or starts i 0 ≡ start_of (records_in bytes) i

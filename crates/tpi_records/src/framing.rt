@@ -11,7 +11,7 @@ use byte_fields::u16_at;
 use std::alloc::Allocator;
 
 /// The start is kept of each record whose position is a multiple of this number.
-pub const STRIDE: usize = 16;
+pub const STRIDE: usize = 64;
 
 /// The length in bytes of the record that begins at `start`. Its type index is `index`, which a
 /// fault names.
@@ -75,7 +75,7 @@ fn keep_start<A: Allocator>(starts: &mut Vec<u32, A>, position: u32, start: usiz
     requires { start < 2 ^ 32 }
     ensures { IsTrue result →
         starts.new.items
-        ≡ (if position % 16 == 0 then starts.old.items ++ start ∷ [] else starts.old.items) }
+        ≡ (if position % 64 == 0 then starts.old.items ++ start ∷ [] else starts.old.items) }
 {
     if position as usize % STRIDE == 0 {
         starts.push(start as u32).is_ok()
@@ -84,7 +84,7 @@ fn keep_start<A: Allocator>(starts: &mut Vec<u32, A>, position: u32, start: usiz
     }
 }
 
-/// Checks that `bytes` are `said` records, and keeps the starts of records 0, 16, 32 and so on in
+/// Checks that `bytes` are `said` records, and keeps the starts of records 0, 64, 128 and so on in
 /// an empty list. Returns whether there was memory for the list.
 ///
 /// Where there is none, the rest of the records is checked all the same.

@@ -17,11 +17,12 @@
 //! so on. A *position* is a record's place in the list, from 0. A *start* is the offset at which a
 //! record begins, in bytes from the front of the first record.
 //!
-//! Records are read in one pass, which makes every check and keeps the start of every 16th record.
+//! Records are read in one pass, which makes every check and keeps the start of every 64th record.
 //! The list of starts grows as records are found, and never by what the header announces. Where
 //! there is no memory for it, the pass goes on without it, so that a fault of the stream still comes
-//! before `Memory`. The list takes four bytes for 16 records, and looking up one record steps over at
-//! most 15. [`Records::iter`] and [`Cursor`] go from record to record in one step.
+//! before `Memory`. The list takes four bytes for 64 records, and looking up one record steps over at
+//! most 63. [`Records::iter`] and [`Cursor`] go from record to record in one step. A [`RecordIndex`]
+//! keeps every start, for those who look records up out of order.
 //!
 //! What is proved: a stream that is read *has* these records (`HasRecords` of `specs/Records`), and
 //! it has no others (`one_records` of `proofs/StreamLaws`). A stream that has records is refused
@@ -52,6 +53,7 @@ mod cursor;
 mod fault;
 mod framing;
 mod header;
+mod index;
 mod iter;
 mod records;
 
@@ -59,5 +61,6 @@ pub use cursor::Cursor;
 pub use fault::TpiFault;
 pub use framing::{first_record, framed_bytes};
 pub use header::{FIRST_INDEX, TPI_STREAM, TpiHeader, tpi_header_bytes};
+pub use index::RecordIndex;
 pub use iter::Iter;
 pub use records::Records;

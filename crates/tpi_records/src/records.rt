@@ -8,23 +8,17 @@ use crate::cursor::Cursor;
 use crate::fault::TpiFault;
 use crate::framing::{STRIDE, check_records, framed_bytes};
 use crate::header::TpiHeader;
+use crate::index::{RecordIndex, start_at};
 use crate::iter::{Iter, skip, split_first};
-use std::alloc::{Allocator, Global};
+use std::alloc::{AllocError, Allocator, Global};
 use std::marker::Model;
-
-/// The last start that is kept at this position or before it: it is that of the record at this
-/// position, or of one at most 15 before it.
-fn start_below(starts: &[u32], position: usize) -> Option<usize>
-    ensures { result ≡ slice_get starts.now (position / 16) }
-{
-    starts.get(position / STRIDE).map(|start| *start as usize)
-}
 
 /// The type records of a TPI stream, lent from it.
 ///
 /// Made by [`Records::read`]. It keeps a reference to the bytes of the records, and the starts of
-/// records 0, 16, 32 and so on, each in four bytes. A record between two of them is found by
-/// stepping over those before it. ("The PDB TPI and IPI Streams", "Type Records".)
+/// records 0, 64, 128 and so on, each in four bytes. A record between two of them is found by
+/// stepping over those before it. Who looks records up out of order keeps a [`RecordIndex`] beside
+/// them. ("The PDB TPI and IPI Streams", "Type Records".)
 #[derive(Debug, Drop)]
 pub struct Records<'a, A: Allocator = Global> {
     bytes: &'a [u8],
@@ -56,7 +50,7 @@ impl<'a, A: Allocator + Copy> Records<'a, A> {
     /// 3. `RecordCount`: the header announces another number of records.
     /// 4. `Memory`: out of memory for the starts. All checks passed.
     ///
-    /// Bytes after the records are ignored. This allocates four bytes for every 16 records, as it
+    /// Bytes after the records are ignored. This allocates four bytes for every 64 records, as it
     /// finds them. ("The PDB TPI and IPI Streams", "Type Records".)
     pub fn read(alloc: A, stream: &'a [u8]) -> Result<Records<'a, A>, TpiFault>
         ensures value { IfOk result (HasRecords stream.now) }
@@ -105,10 +99,10 @@ impl<'a, A: Allocator> Records<'a, A> {
         self.bytes.len() as u32
     }
 
-    /// How many starts are kept, each in four bytes: those of records 0, 16, 32 and so on.
+    /// How many starts are kept, each in four bytes: those of records 0, 64, 128 and so on.
     pub fn starts_len(&self) -> usize
         ensures value { result ≡ starts_for (length self.now) }
-        ensures few { result ≤ length (concat self.now) / 64 + 1 }
+        ensures few { result ≤ length (concat self.now) / 256 + 1 }
     {
         self.starts.len()
     }
@@ -122,8 +116,10 @@ impl<'a, A: Allocator> Records<'a, A> {
 
     /// The record at this position, from 0: the whole record, with its length field.
     ///
-    /// `None` where there is no such record. This steps over at most 15 records and does not
-    /// allocate. A [`Cursor`] does not step where positions come one after the other.
+    /// `None` where there is no such record. This steps over at most 63 records and does not
+    /// allocate. A [`Cursor`] does not step where positions
+    /// come one after the other, and a [`RecordIndex`] never does.
+    #[tactic(auto, using(crate::proofs::TableLaws::next_there, crate::proofs::TableLaws::none_there))]
     pub fn get(&self, position: usize) -> Option<&'a [u8]>
         ensures value { option_map (λ r. r.now) result ≡ slice_get self.now position }
         ensures each { IfSome result (λ r. IsRecord r.now) }
@@ -148,11 +144,19 @@ impl<'a, A: Allocator> Records<'a, A> {
         ensures records { records_in result.now ≡ drop position self.now }
         ensures framed { IsFramed result.now }
     {
-        let Some(start) = start_below(&self.starts, position) else {
+        // That of the record at this position, or of one at most 63 before it.
+        let Some(start) = start_at(&self.starts, position / STRIDE) else {
             return &[];
         };
         let (_, bytes) = self.bytes.split_at(start);
         skip(bytes, position % STRIDE)
+    }
+
+    /// The start of each record, in four bytes, from which these records are looked up without steps.
+    pub fn index<B: Allocator>(&self, alloc: B) -> Result<RecordIndex<'a, B>, AllocError>
+        ensures { IfOk result (λ index. index ≡ self.now) }
+    {
+        RecordIndex::over(alloc, self.bytes, self.len())
     }
 
     /// A cursor, which looks up these records. This does not allocate.

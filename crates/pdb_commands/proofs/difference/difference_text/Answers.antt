@@ -22,8 +22,8 @@ returns-clause-value g c =
     let known = g.I.Inputs.known c.args.inputs.now in
     let (lines, shows, added) = c.in_ok-push_difference.ensures in
     let text : string_bytes c.push_difference.new.text ≡ lines = search rules in
-    let types = rw c.first.view_is at c.first.invariant.types in
-    let other_types = rw c.second.view_is at c.second.invariant.types in
+    let types = rw c.first.view_is at c.first.invariant.measured.types in
+    let other_types = rw c.second.view_is at c.second.invariant.measured.types in
     rw text (shows_inputs c.args.scope known c.in_ok-first.first c.in_ok-second.second lines types other_types c.in_ok-first.ensures.value c.in_ok-second.ensures.value shows)
 
 pub returns-clause-read : goal.returns-clause-read

@@ -32,11 +32,14 @@ measure-requires-clause-types g c =
 
 pub invariant_of-result-2 : goal.invariant_of-result-2
 invariant_of-result-2 g c = record {
-  types = ordered_types c.args.records (order_list (length c.args.records) c.in_ok-order.order) c.check_all-2.ensures.framed c.in_ok-check_all-2.ensures.first c.in_ok-order.ensures.value;
-  ordered = c.in_ok-order.ensures.value;
-  many = c.in_ok-depths.ensures.many;
-  measured = c.in_ok-depths.ensures.depths;
-  low = c.in_ok-depths.ensures.low;
+  measured = record {
+    types = ordered_types c.args.records (order_list (length c.args.records) c.in_ok-order.order) c.check_all-2.ensures.framed c.in_ok-check_all-2.ensures.first c.in_ok-order.ensures.value;
+    ordered = c.in_ok-order.ensures.value;
+    many = c.in_ok-depths.ensures.many;
+    measured = c.in_ok-depths.ensures.depths;
+    low = c.in_ok-depths.ensures.low;
+  };
+  indexed = tt;
 }
 
 pub returns-clause-value : goal.returns-clause-value
@@ -50,7 +53,7 @@ invariant_of-result g c =
     let all = c.in_ok-check_all-2.ensures.measured c.if-branch.true none in
     let many : length c.in-Ok.depths.items ≡ length records = ap length zeros ∙ length-replicate {A = ℕ} c.len.result 0 ∙ c.len.ensures.value in
     let long : c.in-Ok.depths.len ≡ length c.in-Ok.depths.items = search rules in
-    rw (written_back c.in-Ok.depths.items c.check_all-2.new.depths c.in-Ok.depths.len (omega (arith, all.many, many)) long) all
+    rw (written_back c.in-Ok.depths.items c.check_all-2.new.depths c.in-Ok.depths.len (omega (arith, all.many, many)) long) (record { measured = all; indexed = tt })
 
 pub returns-then-branch-clause-value : goal.returns-then-branch-clause-value
 returns-then-branch-clause-value g c = (
