@@ -14,7 +14,7 @@ use Rattle.byte_io.specs.Inputs.{Give}
 use Rattle.byte_io.specs.declared.inputs.InputFault.{InputFault}
 use Rattle.pdb_merge.specs.Answer.{RefusesFiles}
 use Rattle.pdb_merge.specs.Fault.{NamesFault, merge_from_add}
-use Rattle.pdb_merge.specs.Laws.{TypesOfFirst, TypesOfBoth, AnyOrder, RefusedInAnyOrder, OneWeight}
+use Rattle.pdb_merge.specs.Laws.{TypesOfFirst, TypesOfBoth, AnyOrder, RefusedInAnyOrder, RefusedAddNothing, OneWeight}
 use Rattle.pdb_merge.specs.Union.{FileHas, HasTypeBelow, HasType, AcceptedBelow, Weighs, Within, IsAddFault, CanMerge, CanMergeBelow, IsMergeFault, ReadsFirst, Unites}
 use Rattle.pdb_merge.specs.declared.fault.AddFault.{AddFault}
 use Rattle.pdb_merge.specs.declared.fault.AddFault.TheVariants as add
@@ -208,6 +208,21 @@ any_order files others limit same =
       (can_move files others limit there back, can_move others files limit back there),
       λ t. (types_move files others there t, types_move others files back t),
     )
+
+-- only accepted files have types
+accepted_types_move : (files others : List (List ℕ)) → ((file : List ℕ) (records : List (List ℕ)) → IsAccepted file records → Contains files file → Contains others file)
+    → (t : Tree) → HasType files t → HasType others t
+accepted_types_move files others within t has =
+    let file = get_or files has.0 [] in
+    let c = within file has.2.0 has.2.1 (Contains-get_or files has.0 [] has.1) in
+    let same : file ≡ get_or others c.0 [] = sym (get_or_default others c.0 [] file c.1 ∙ c.2) in
+    (c.0, c.1, subst (λ (x : List ℕ). FileHas x t) same has.2)
+
+pub refused_add_nothing : RefusedAddNothing
+refused_add_nothing files others same t = (
+  accepted_types_move files others (λ file records accepted. (same file records accepted).0) t,
+  accepted_types_move others files (λ file records accepted. (same file records accepted).1) t,
+)
 
 pub weight_of_files : OneWeight
 weight_of_files files end some other weighs_s weighs_o = one_weight (HasTypeBelow files end) some other weighs_s weighs_o

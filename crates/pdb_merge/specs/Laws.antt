@@ -1,7 +1,9 @@
 -- What holds of accepted files, and of the files that are written for their types.
 use Rattle.std.specs.Prelude.{ℕ, ◌≡◌, ◌≢◌, ◌<◌, ◌⊎◌, ◌↔◌, List, [], ◌∷◌, ◌++◌, length, map, drop, get_or}
+use Rattle.std.specs.List.{Contains}
 use Rattle.pdb_info.specs.Settings.{SettingsView, AreSettings, record_limit}
 use Rattle.closed_trees.specs.Tree.{Tree}
+use Rattle.file_types.specs.Read.{IsAccepted}
 use Rattle.pdb_merge.specs.Union.{FileHas, HasTypeBelow, HasType, SameFiles, SameTypes, Weighs, Within, CanMerge, IsMergeFault}
 use Rattle.canonical_list.specs.Finish.{IsCanonOf}
 use Rattle.type_table.specs.Maps.{followed_by}
@@ -112,6 +114,15 @@ abbrev pub RefusedInAnyOrder : Type 0 → Type 0
 RefusedInAnyOrder A =
     (files others : List (List ℕ)) (limit : ℕ) (fault : MergeFault A) → SameFiles files others
     → IsMergeFault files limit fault → fault ≢ merge.Memory → CanMerge others limit → ⊥
+
+-- files that are not accepted add no type: two lists with the same accepted files, in any order
+-- and each any number of times, have the same types
+abbrev pub RefusedAddNothing : Type 0
+RefusedAddNothing =
+    (files others : List (List ℕ))
+    → ((file : List ℕ) (records : List (List ℕ)) → IsAccepted file records →
+    Contains files file ↔ Contains others file)
+    → SameTypes files others
 
 -- the number of bytes that the types of files have together is unique
 abbrev pub OneWeight : Type 0

@@ -3,7 +3,7 @@
 //! Each function here does nothing: its contract is the law. A law on written files holds for all
 //! settings.
 
-ghost use Rattle.pdb_merge.specs.Laws.{MergedReadsBack, MergedHas, MergedFilesDiffer, MergedAgain, EarlierMerge, OneMergedFile, MapsFollow, MapOfMergedFile, TypesOfFirst, TypesOfBoth, AnyOrder, RefusedInAnyOrder, OneWeight};
+ghost use Rattle.pdb_merge.specs.Laws.{MergedReadsBack, MergedHas, MergedFilesDiffer, MergedAgain, EarlierMerge, OneMergedFile, MapsFollow, MapOfMergedFile, TypesOfFirst, TypesOfBoth, AnyOrder, RefusedInAnyOrder, RefusedAddNothing, OneWeight};
 
 use std::alloc::Allocator;
 
@@ -70,6 +70,13 @@ pub fn any_order()
 /// can be merged, in whatever order.
 pub fn refused_in_any_order<A: Allocator>()
     ensures { RefusedInAnyOrder A }
+{}
+
+/// Files that are not accepted add no type: two lists with the same accepted files have the same
+/// types. So a merge that leaves out the files that are refused writes what a merge of the others
+/// alone writes.
+pub fn refused_add_nothing()
+    ensures { RefusedAddNothing }
 {}
 
 /// The number of bytes that the types of files have together is unique.
