@@ -7,3 +7,4 @@ pub mod InfoLaws
 pub mod LayoutLaws
 pub mod MapLaws
 pub mod ReferenceLaws
+pub mod TextLaws

@@ -1,5 +1,5 @@
 -- What a call says of its fault.
-use Rattle.std.specs.Prelude.{ℕ, ◌≡◌, Option, Some, None, slice_get}
+use Rattle.std.specs.Prelude.{ℕ, ◌≡◌, ◌≢◌, ◌<◌, ◌≤◌, List, Option, Some, None, get_or, slice_get}
 use Rattle.pdbmerge_c.specs.declared.fault.Fault.{Fault}
 
 -- what stands for no input, and for the length of no name: the highest number of eight bytes
@@ -31,6 +31,12 @@ pub record Tells {Why : Type 0} (IsFault : Why → Type 0) (number_of : Why → 
   pub is_fault : IsFault why
   pub told : IsTold fault (number_of why) no_number
 
--- the last byte of the text is a NUL, so the text ends within its field
+-- these bytes are the first 235 of a text that has so many bytes and no NUL, and then NULs
+pub record AreFirst (kept : List ℕ) (many : ℕ) : Type 0 where
+  pub front : (i : ℕ) → i < many → i < 235 → get_or kept i 0 ≢ 0
+  pub back : (i : ℕ) → many ≤ i → get_or kept i 0 ≡ 0
+  pub last : slice_get kept 235 ≡ Some 0
+
+-- the text ends within its field, after as many bytes as it says that it has, or after 235 of them
 abbrev pub IsEnded : Fault → Type 0
-IsEnded fault = slice_get fault.text 235 ≡ Some 0
+IsEnded fault = AreFirst fault.text fault.length

@@ -22,20 +22,17 @@ pub(crate) const ROOM: u32 = 100;
 /// No file can have these settings.
 pub(crate) const SETTINGS: u32 = 101;
 
-/// How many bytes of a text are kept. A NUL follows them.
-const MOST_TEXT: usize = 235;
-
 /// What a call says of its fault.
 #[repr(C)]
 #[derive(Clone, Copy, Debug)]
 pub struct Fault {
     /// The position of the input at fault, from 0. 2^64 - 1 where the fault names none.
     pub input: u64,
-    /// How many bytes the whole text has, with those that are not kept.
+    /// How many bytes the whole text has, with those that are not kept. No byte is a NUL.
     pub length: u64,
     /// What the call returned: 0, or the number of the fault.
     pub number: u32,
-    /// The text of the fault, as the program prints it, and NULs.
+    /// The first 235 bytes of the text of the fault, as the program prints it, and NULs.
     pub text: [u8; 236],
 }
 
@@ -56,9 +53,8 @@ pub(crate) fn clear(fault: &mut Fault) -> u32
     ensures ended { IsEnded fault.new }
 {
     fault.input = input_code(None);
-    fault.length = 0;
     fault.number = DONE;
-    fault.text = [0; 236];
+    (fault.text, fault.length) = Text::new().finish();
     DONE
 }
 
@@ -68,10 +64,9 @@ pub(crate) fn tell<D: Display>(fault: &mut Fault, number: u32, input: Option<usi
     ensures told { IsTold fault.new number (input_code input) }
     ensures ended { IsEnded fault.new }
 {
-    fault.text = [0; 236];
-    let mut text = Text::new(&mut fault.text[..MOST_TEXT]);
+    let mut text = Text::new();
     let _ = write!(text, "{why}");
-    fault.length = text.finish() as u64;
+    (fault.text, fault.length) = text.finish();
     fault.number = number;
     fault.input = input_code(input);
     number

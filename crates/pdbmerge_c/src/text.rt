@@ -1,33 +1,63 @@
-//! Text in memory that the caller lends. It does not allocate.
+//! The text of a fault, as far as it is kept. It does not allocate.
+
+ghost use Rattle.pdbmerge_c.specs.Fault.{AreFirst};
 
 use std::fmt;
+use std::marker::Model;
 
-/// Takes text. What does not fit is counted, and not kept.
-pub(crate) struct Text<'a> {
-    room: &'a mut [u8],
-    length: usize,
+/// How many bytes of a text are kept. A NUL follows them.
+const MOST_TEXT: usize = 235;
+
+/// Takes text, and keeps its first bytes. A space stands for a NUL, so that the text ends at the
+/// first NUL.
+#[derive(Drop)]
+pub(crate) struct Text {
+    kept: [u8; 236],
+    many: usize,
 }
 
-impl<'a> Text<'a> {
+impl Model for Text {
+    ghost use Rattle.std.specs.Prelude.{ℕ};
+    ghost use Rattle.pdbmerge_c.specs.Fault.{AreFirst};
+
+    ghost Value = { ℕ };
+
+    ghost view = { λ t. t.many };
+
+    ghost invariant = { λ t. AreFirst t.kept t.many };
+}
+
+impl Text {
     /// A text of no bytes.
-    pub(crate) fn new(room: &'a mut [u8]) -> Text<'a> {
-        Text { room, length: 0 }
+    pub(crate) fn new() -> Text {
+        Text {
+            kept: [0; 236],
+            many: 0,
+        }
     }
 
-    /// How many bytes the whole text has, with those that did not fit.
-    pub(crate) fn finish(self) -> usize {
-        let Text { room: _, length } = self;
-        length
+    /// Takes one byte more. A byte that does not fit is counted, and not kept.
+    fn push(&mut self, byte: u8) {
+        if self.many < MOST_TEXT {
+            self.kept[self.many] = if byte == 0 { b' ' } else { byte };
+        }
+        self.many = self.many.saturating_add(1);
+    }
+
+    /// What is kept, and NULs, and how many bytes the whole text has.
+    pub(crate) fn finish(self) -> ([u8; 236], u64)
+        ensures { AreFirst result.0 result.1 }
+    {
+        let Text { kept, many } = self;
+        (kept, many as u64)
     }
 }
 
-impl fmt::Write for Text<'_> {
+impl fmt::Write for Text {
     fn write_str(&mut self, text: &str) -> fmt::Result {
-        let bytes = text.as_bytes();
-        let at = self.length.min(self.room.len());
-        let count = bytes.len().min(self.room.len() - at);
-        self.room[at..at + count].copy_from_slice(&bytes[..count]);
-        self.length = self.length.saturating_add(bytes.len());
+        for byte in text.bytes() {
+            self.push(byte);
+        }
         Ok(())
     }
 }
