@@ -1,5 +1,5 @@
 -- A command whose read by position failed.
-use Rattle.std.proofs.Common.{true, ◌≡◌, ◌⊎◌, ℕ, ◌-◌, ◌^◌, ◌≤◌, Bool, List, Option, arith, refl, ap, ◌∙◌, inl, inr}
+use Rattle.std.proofs.Common.{true, false, ◌≡◌, ◌⊎◌, ℕ, ◌-◌, ◌^◌, ◌≤◌, Bool, List, Option, arith, refl, ap, ◌∙◌, inl, inr}
 use Rattle.std.specs.Prelude.{Result, Ok, Err, IfOk, IfErr}
 use Rattle.std.proofs.lemmas.Bool.{cases_lt}
 use Rattle.byte_fields.specs.Bytes.{AreBytes}
@@ -17,7 +17,7 @@ use Rattle.msf_blocks.proofs.AtLayoutLaws.{short_directory}
 use Rattle.file_types.specs.Fault.{pdb_from_msf}
 use Rattle.file_types.specs.declared.fault.PdbFault.{PdbFault}
 use Rattle.pdb_commands.specs.Fault.{run_from_pdb}
-use Rattle.pdb_commands.specs.Show.{Answers, AnswersAt, GivesRefused, IfOfFile, IsOfText, PrintsPart, RefusesBounded, RefusesKnown, RefusesUnlaid, ShowsBounded, ShowsKnown}
+use Rattle.pdb_commands.specs.Show.{Answers, AnswersAt, GivesRefused, IfOfFile, IsByPosition, IsByWhole, IsOfText, PrintsPart, RefusesBounded, RefusesKnown, RefusesUnlaid, ShowsBounded, ShowsKnown}
 use Rattle.pdb_commands.specs.Streams.{RefusesLayout}
 use Rattle.pdb_commands.specs.declared.fault.RunFault.{RunFault}
 use Rattle.pdb_commands.specs.declared.fault.RunFault.TheVariants.{Read, Memory, Write}
@@ -45,6 +45,14 @@ failed {T = T} Shows Refuses ShowsRead RefusesRead limit bytes broken taken is_b
 pub not_read : {A T : Type 0} (answer : Result T (RunFault A)) → (answer ≡ Err (Read reads.Read) → ⊥) → IfErr answer (λ fault. fault ≡ Read reads.Read → ⊥)
 not_read (Ok done) never = tt
 not_read (Err fault) never = λ is. never (ap (λ f. Err f) is)
+
+-- where no read by position failed, the answer is the one by position
+pub by_position : {A W S T : Type 0} (Shows : List ℕ → List ℕ → Type 0) (Refuses : List ℕ → RunFault A → Type 0) (ShowsRead : Bytes → LayoutView → List ℕ → Type 0) (RefusesRead : Bytes → LayoutView → RunFault A → Type 0) (limit : ℕ) (bytes : Bytes) (broken : Bool)
+    (left : S → Option (List ℕ)) (whole_broken : S → Bool) (whole : S) (taken : W → Option (List ℕ)) (is_broken : W → Bool) (before after : W) (answer : Result T (RunFault A)) (unread : Bool) → unread ≡ false → (unread ≡ false → answer ≡ Err (Read reads.Read) → ⊥)
+    → AnswersAt Shows Refuses ShowsRead RefusesRead limit bytes broken taken is_broken before after answer
+    → IsByPosition Shows Refuses ShowsRead RefusesRead limit bytes broken whole whole taken is_broken before after answer ⊎ IsByWhole Shows Refuses limit bytes broken left whole_broken whole whole taken is_broken before after answer
+by_position Shows Refuses ShowsRead RefusesRead limit bytes broken left whole_broken whole taken is_broken before after answer unread is never answers =
+    inl (record { answers = answers; reads = not_read answer (never is); unread = refl })
 
 -- ---- a limit on the directory
 

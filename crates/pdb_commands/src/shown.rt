@@ -164,6 +164,7 @@ fn is_unread<A: Allocator>(answer: &Result<(), RunFault<A>>) -> bool
 ///
 /// `input` and `whole` are the same file. If no read by position fails, the answer is that of
 /// [`run_shown_at`]. Otherwise it is that of [`run_shown`].
+#[tactic(auto, using(crate::proofs::ShowLaws::by_position))]
 pub fn run_shown_file<R: ReadAt, S: Source, W: Sink, A: Allocator + Copy>(
     alloc: A,
     command: Shown,
