@@ -1,29 +1,26 @@
 //! The commands of `pdbmerge`, each as a function from bytes to bytes.
 //!
-//! Most commands show a file: [`run_records`], [`run_record`], [`run_types`], [`run_check`],
-//! [`run_info`] and [`run_streams`]. Such a command reads a [`Source`](msf_blocks::Source) to its
-//! end, makes its whole text, and then writes it into a [`Sink`](msf_blocks::Sink). [`run_merge`]
-//! writes one file with the types of several files, and a report on it. [`merge_accepted`] leaves out the
-//! files that are not accepted, and [`report_accepted`] says how many they were. [`run_diff`] shows the
-//! types that only one of two files has. [`run_members`] shows the definitions of the types of a
-//! file, with their members, and [`run_diff_members`] which of them came, went or changed between
-//! two files. Each refusal is a [`RunFault`]. [`run_shown`] runs any
-//! command that shows a file, with a limit on what it reads: the directory, the stream and the names
-//! of streams.
+//! Most commands show a file: [`run_shown_file`] runs each of them. It reads by position, and only
+//! what the command needs; where a read by position fails, it reads the whole file. It makes the
+//! whole text, and then writes it into a [`Sink`](byte_io::Sink). [`run_shown_at`] reads by position
+//! alone, and [`run_shown`] reads a [`Source`](byte_io::Source) to its end, as do [`run_records`],
+//! [`run_record`], [`run_types`], [`run_check`], [`run_info`] and [`run_streams`].
 //!
-//! [`run_shown_at`] reads by position, and only what the command needs. [`run_shown_file`] does so
-//! too, and reads the whole file where a read by position fails.
+//! [`run_merge`] writes one file with the types of several files, and a report on it.
+//! [`merge_accepted`] leaves out the files that are not accepted, and [`report_accepted`] says how
+//! many they were. [`run_diff`] shows the types that only one of two files has. [`run_members`] shows
+//! the definitions of the types of a file, with their members, and [`run_diff_members`] which of them
+//! came, went or changed between two files. Each refusal is a [`RunFault`].
 //!
-//! All commands that show a file have this in common. The input may have at most `limit` bytes. It
-//! is read to its end, and the whole text is made, before any of the text is written. The faults of
-//! reading come first, then the command's own faults, and last `36 Write`: the sink did not take
-//! the whole text. After `36 Write` the sink is broken and took the first bytes of the text. After
-//! any other refusal nothing was written.
+//! All commands that show a file have this in common. The input may have at most `limit` bytes, and so
+//! may its directory, the stream that is read, and the names of streams. The whole text is made before
+//! any of it is written. The faults of reading come first, then the command's own faults, and last
+//! `36 Write`: the sink did not take the whole text. After `36 Write` the sink is broken and took the
+//! first bytes of the text. After any other refusal nothing was written. By position `38 TooLong` comes
+//! first where the input says that it has more than `limit` bytes, and `37 Read` where a read that is
+//! needed fails.
 //!
-//! By position the faults of reading differ. `38 TooLong` comes first: the input says that it has
-//! more than `limit` bytes. `37 Read` comes where a read that is needed fails.
-//!
-//! What is proved of these commands: the text that is written is the text of the file (`Shows..` of
+//! What is proved: the text that is written is the text of the file (`Shows..` of
 //! `specs/`), byte for byte. A refusal is the first fault of reading or of the file. What the sink
 //! took after a refusal is proved too. By position this is proved for files whose bytes are known,
 //! such as slices. For every file it is proved that a length above the limit is refused first, and

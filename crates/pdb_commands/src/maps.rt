@@ -41,8 +41,8 @@ fn write_map<W: Sink, A: Allocator>(
 /// position of the input, from 0, the type index of the record, and the type index of its type in
 /// the file that was written.
 ///
-/// The lines of one input are made at a time. After `Memory`, `out` took whole lines of the first
-/// inputs. After `Write` it is broken, and took the first bytes of the lines.
+/// The lines of one input are made at a time. After `Memory`, `out` took the first bytes of the
+/// lines. After `Write` it took the first bytes of them too, and is broken.
 pub fn write_maps<W: Sink, A: Allocator + Copy>(
     alloc: A,
     maps: &TypeMaps<A>,

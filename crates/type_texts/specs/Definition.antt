@@ -9,7 +9,7 @@ use Rattle.type_texts.specs.Field.{number_in, numeric_text, own_name}
 use Rattle.type_texts.specs.Lines.{shown_type, lines_at, lines_text}
 use Rattle.type_texts.specs.declared.definition.Parts.{Parts}
 
--- what a record is_definition, by its kind
+-- what a record defines, by its kind
 unfoldable pub defined_words : ℕ → Option (List ℕ)
 defined_words kind =
     if kind == 0x1504 then Some (codes "class")
@@ -23,7 +23,7 @@ defined_words kind =
 unfoldable pub only_declares : List ℕ → Bool
 only_declares r = number_in 2 (body_of r) 2 / 128 % 2 == 1
 
--- what stands before the size of a definition, where `words` say what it is_definition: its name
+-- what stands before the size of a definition, where `words` say what it defines: its name
 unfoldable pub title : List ℕ → List ℕ → List ℕ
 title words r =
     words ++ 32 ∷ own_name r ++ (if kind_of r == 0x1507 then codes " of " else codes " size ")
