@@ -5,8 +5,9 @@
 //! - [`push_paths`] reads a list of paths, which stand for arguments.
 //! - [`LineFault`] says why arguments are no command, and which exit status that has.
 //!
-//! `words` has the commands, their options and their help, for the crate `clap`. `line` makes values
-//! of what was given, `index` a type index, and `list` paths of a list.
+//! `words` has the commands, their options and their help, for the crate `clap`, and `names` what the
+//! options are called. `line` makes values of what was given, `index` a type index, and `list` paths
+//! of a list.
 //!
 //! What is proved: an argument is a type index exactly where it is `0x` and 1 to 8 hexadecimal
 //! digits (`IsIndexArgument`). A list gives the paths that it has, in their order (`AreLines`). Each
@@ -33,6 +34,7 @@ mod fault;
 mod index;
 mod line;
 mod list;
+mod names;
 mod words;
 
 pub use fault::{LineFault, WrongWord};

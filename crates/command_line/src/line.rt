@@ -4,9 +4,11 @@ ghost use Rattle.std.specs.Prelude.{◌≡◌, [], false};
 
 use crate::fault::{LineFault, WrongWord};
 use crate::index::read_index;
+use crate::names;
 use crate::words::{Kind, ShownCommand, What, command_named, program};
 use clap::ArgMatches;
 use fault_pages::{Page, last, page_of};
+use output_words::push_quoted;
 use pdb_info::Settings;
 use run_options::{GuidChoice, Making, Scope, Shown};
 use std::alloc::{AllocError, Global};
@@ -111,35 +113,35 @@ const NUMBER: &str = "a number up to 4294967295";
 
 /// The age of a file.
 const AGE: Number = Number {
-    name: "age",
+    name: names::AGE,
     word: "--age",
     wanted: NUMBER,
 };
 
 /// How many bytes the types may have together.
 const OF_LIMIT: Number = Number {
-    name: "limit",
+    name: names::LIMIT,
     word: "--limit",
     wanted: "a number up to 1073741824",
 };
 
 /// How many bytes a block has.
 const OF_BLOCKS: Number = Number {
-    name: "block-size",
+    name: names::BLOCK_SIZE,
     word: "--block-size",
     wanted: "512, 1024, 2048, 4096, 8192, 16384 or 32768",
 };
 
 /// The greatest number of bytes of a file or a stream.
 const MAX: Number = Number {
-    name: "max-bytes",
+    name: names::MAX_BYTES,
     word: "--max-bytes",
     wanted: NUMBER,
 };
 
 /// Whether more is to be said after a refusal.
 fn is_verbose(arguments: &ArgMatches<'_>) -> bool {
-    arguments.get_flag("verbose")
+    arguments.get_flag(names::VERBOSE)
 }
 
 /// The fault of an argument that has no value that its command can use. It says which argument
@@ -162,6 +164,24 @@ fn argument_of(
         Some(argument) => Ok(String::from_str(alloc, argument)?),
         None => Err(wrong(arguments, name, "a value")),
     }
+}
+
+/// What is wanted of the path of a file that is written. Elsewhere `-` stands for a stream.
+const WRITTEN: &str = "a path; ./- is the file with the name -";
+
+/// The path of a file that is written. `name` is that of its argument, and `word` how it stands in the
+/// line.
+fn written_path(
+    alloc: Global,
+    arguments: &ArgMatches<'_>,
+    name: &'static str,
+    word: &'static str,
+) -> Result<String, LineFault> {
+    let path = argument_of(alloc, arguments, name)?;
+    if path.as_str() == "-" {
+        return Err(wrong(arguments, word, WRITTEN));
+    }
+    Ok(path)
 }
 
 /// An argument that is a number.
@@ -198,7 +218,7 @@ fn max_bytes_of(arguments: &ArgMatches<'_>) -> Result<u32, LineFault> {
 
 /// Where the GUID of the file that is written comes from, and the GUID that is given.
 fn guid_of(arguments: &ArgMatches<'_>) -> Result<(GuidChoice, Uuid), LineFault> {
-    match arguments.get_str("guid") {
+    match arguments.get_str(names::GUID) {
         Some("types") => Ok((GuidChoice::ByTypes, Uuid::nil())),
         given => match given.map(Uuid::parse_str) {
             Some(Ok(guid)) => Ok((GuidChoice::Given, guid)),
@@ -236,29 +256,37 @@ fn all_of(
     Ok(all)
 }
 
-/// The list of the paths of more files, where there is one.
+/// The list of the paths of more files, where there is one. Only such a list has ends of lines.
 fn list_of(alloc: Global, arguments: &ArgMatches<'_>) -> Result<Option<PathList>, LineFault> {
-    let Some(path) = arguments.get_str("files-from") else {
+    let Some(path) = arguments.get_str(names::FILES_FROM) else {
+        if arguments.get_flag(names::NULL) {
+            return Err(wrong(arguments, "--null", "--files-from"));
+        }
         return Ok(None);
     };
-    let end = if arguments.get_flag("null") { 0 } else { b'\n' };
+    let end = if arguments.get_flag(names::NULL) {
+        0
+    } else {
+        b'\n'
+    };
     let path = String::from_str(alloc, path)?;
     Ok(Some(PathList { path, end }))
 }
 
 /// The path of the file for the maps, where there is one.
 fn map_of(alloc: Global, arguments: &ArgMatches<'_>) -> Result<Option<String>, LineFault> {
-    match arguments.get_str("map") {
-        Some(path) => Ok(Some(String::from_str(alloc, path)?)),
-        None => Ok(None),
+    if arguments.contains_id(names::MAP) {
+        Ok(Some(written_path(alloc, arguments, names::MAP, "--map")?))
+    } else {
+        Ok(None)
     }
 }
 
 /// How the files of a merge are made.
 fn making_of(arguments: &ArgMatches<'_>) -> Making {
-    if arguments.get_flag("no-clobber") {
+    if arguments.get_flag(names::NO_CLOBBER) {
         Making::New
-    } else if arguments.get_flag("replace") {
+    } else if arguments.get_flag(names::REPLACE) {
         Making::Replace
     } else {
         Making::Overwrite
@@ -271,13 +299,13 @@ fn merging_of(alloc: Global, arguments: &ArgMatches<'_>) -> Result<Merging, Line
     Ok(Merging {
         settings: settings_of(arguments, guid)?,
         naming,
-        out: argument_of(alloc, arguments, "OUT")?,
-        inputs: all_of(alloc, arguments, "IN")?,
+        out: written_path(alloc, arguments, names::OUT, names::OUT)?,
+        inputs: all_of(alloc, arguments, names::IN)?,
         list: list_of(alloc, arguments)?,
         map: map_of(alloc, arguments)?,
-        shows_progress: arguments.get_flag("progress"),
+        shows_progress: arguments.get_flag(names::PROGRESS),
         making: making_of(arguments),
-        skips_refused: arguments.get_flag("skip-refused"),
+        skips_refused: arguments.get_flag(names::SKIP_REFUSED),
         max_bytes: max_bytes_of(arguments)?,
     })
 }
@@ -299,25 +327,27 @@ fn files_of(
 fn shown_of(command: &ShownCommand, arguments: &ArgMatches<'_>) -> Result<Shown, LineFault> {
     match command.what {
         What::Whole(shown) => Ok(shown),
-        What::Record => match arguments.get_str("INDEX").and_then(read_index) {
+        What::Record => match arguments.get_str(names::INDEX).and_then(read_index) {
             Some(index) => Ok(Shown::Record(index)),
-            None => Err(wrong(arguments, "INDEX", "a type index, as 0x1000")),
+            None => Err(wrong(arguments, names::INDEX, "a type index, as 0x1000")),
         },
     }
 }
 
 /// The page of the fault whose number is the argument of `explain`.
 fn page_in(arguments: &ArgMatches<'_>) -> Result<Page, LineFault> {
-    let number = arguments.get_str("N").and_then(|word| word.parse().ok());
+    let number = arguments
+        .get_str(names::NUMBER)
+        .and_then(|word| word.parse().ok());
     let page = number.and_then(page_of);
-    page.ok_or(wrong(arguments, "N", PAGE_NUMBER))
+    page.ok_or(wrong(arguments, names::NUMBER, PAGE_NUMBER))
 }
 
 /// What `diff` compares.
 fn compared_by(arguments: &ArgMatches<'_>) -> Compared {
-    if arguments.get_flag("members") {
+    if arguments.get_flag(names::MEMBERS) {
         Compared::Members
-    } else if arguments.get_flag("origins") {
+    } else if arguments.get_flag(names::ORIGINS) {
         Compared::Types(Scope::Origins)
     } else {
         Compared::Types(Scope::All)
@@ -330,17 +360,17 @@ fn task_of(alloc: Global, name: &str, arguments: &ArgMatches<'_>) -> Result<Task
         Some(Kind::Merge) => Ok(Task::Merge(merging_of(alloc, arguments)?)),
         Some(Kind::Diff) => Ok(Task::Diff {
             compared: compared_by(arguments),
-            files: files_of(alloc, arguments, &["A", "B"])?,
+            files: files_of(alloc, arguments, &[names::FIRST, names::SECOND])?,
             max_bytes: max_bytes_of(arguments)?,
         }),
         Some(Kind::Members) => Ok(Task::Members {
-            file: files_of(alloc, arguments, &["FILE"])?,
-            names: all_of(alloc, arguments, "NAME")?,
+            file: files_of(alloc, arguments, &[names::FILE])?,
+            names: all_of(alloc, arguments, names::NAME)?,
             max_bytes: max_bytes_of(arguments)?,
         }),
         Some(Kind::Show(command)) => Ok(Task::Show {
             shown: shown_of(command, arguments)?,
-            file: argument_of(alloc, arguments, "FILE")?,
+            file: argument_of(alloc, arguments, names::FILE)?,
             max_bytes: max_bytes_of(arguments)?,
         }),
         Some(Kind::Explain) => Ok(Task::Explain(page_in(arguments)?)),
@@ -370,6 +400,53 @@ fn help(alloc: Global, arguments: &[String]) -> Result<Line, LineFault> {
     Err(LineFault::Word(None))
 }
 
+/// Whether a text has more than printable ASCII: what a terminal may act upon.
+fn is_odd(text: &str) -> bool {
+    text.bytes().any(|byte| !matches!(byte, b' '..=b'~'))
+}
+
+/// An argument as it is printed: all that is not printable ASCII is written by its number.
+fn printable(alloc: Global, argument: &str) -> Result<String, AllocError> {
+    if !is_odd(argument) {
+        return String::from_str(alloc, argument);
+    }
+    let mut quoted = String::new(alloc);
+    push_quoted(&mut quoted, argument.as_bytes())?;
+    // The text between the quotes.
+    let text = quoted.as_str().strip_prefix("\"").unwrap_or("");
+    String::from_str(alloc, text.strip_suffix("\"").unwrap_or(text))
+}
+
+/// The arguments as they are printed.
+fn all_printable(alloc: Global, arguments: &[String]) -> Result<Vec<String>, AllocError> {
+    let mut all = Vec::with_capacity(alloc, arguments.len())?;
+    for argument in arguments {
+        all.push(printable(alloc, argument.as_str())?)?;
+    }
+    Ok(all)
+}
+
+/// The fault of arguments that are refused with this error. Its text has them as they are printed: the
+/// error is the one of their printable forms.
+#[inline(never)]
+fn refused(alloc: Global, arguments: &[String], error: clap::Error) -> LineFault {
+    if !error.use_stderr() || !arguments.iter().any(|argument| is_odd(argument.as_str())) {
+        return LineFault::from(error);
+    }
+    match refused_as_printed(alloc, arguments) {
+        Ok(()) => LineFault::Word(None),
+        Err(fault) => fault,
+    }
+}
+
+/// Reads the printable forms of arguments, which are refused as the arguments are.
+#[inline(never)]
+fn refused_as_printed(alloc: Global, arguments: &[String]) -> Result<(), LineFault> {
+    let printed = all_printable(alloc, arguments)?;
+    program(alloc)?.try_get_matches_from(&printed)?;
+    Ok(())
+}
+
 /// Reads the arguments of a command line, which come without the program's name.
 pub fn read_line(alloc: Global, arguments: &[String]) -> Result<Line, LineFault>
     ensures usage { arguments.now ≡ [] →
@@ -384,7 +461,10 @@ pub fn read_line(alloc: Global, arguments: &[String]) -> Result<Line, LineFault>
     if arguments[0].as_str() == "help" {
         return help(alloc, arguments);
     }
-    let matches = program(alloc)?.try_get_matches_from(arguments)?;
+    let matches = match program(alloc)?.try_get_matches_from(arguments) {
+        Ok(matches) => matches,
+        Err(error) => return Err(refused(alloc, arguments, error)),
+    };
     match matches.subcommand() {
         Some((name, arguments)) => Ok(Line {
             task: task_of(alloc, name, arguments)?,

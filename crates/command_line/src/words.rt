@@ -1,5 +1,6 @@
 //! The words of the command line: commands, options and arguments, and their help.
 
+use crate::names;
 use clap::{Arg, ArgAction, Command};
 use fault_pages::last;
 use run_options::Shown;
@@ -16,9 +17,6 @@ const MERGE_NAME: &str = "merge";
 
 /// The name of the command that compares.
 const DIFF_NAME: &str = "diff";
-
-/// The option of `merge` that refuses an OUT that is there.
-const NO_CLOBBER: &str = "no-clobber";
 
 /// The name of the command that says what a fault means.
 const EXPLAIN_NAME: &str = "explain";
@@ -138,7 +136,7 @@ struct Choice {
 
 /// The option of every command that reads: what limits its reading.
 const MAX: Choice = Choice {
-    name: "max-bytes",
+    name: names::MAX_BYTES,
     short: None,
     value: Some("N"),
     help: "The most bytes of a file, and of a stream that is{n}read; up to 4294967295",
@@ -147,7 +145,7 @@ const MAX: Choice = Choice {
 
 /// The option of every command: what it says after a refusal.
 const VERBOSE: Choice = Choice {
-    name: "verbose",
+    name: names::VERBOSE,
     short: Some('v'),
     value: None,
     help: "After a refusal, also says which file or word it is{n}about, why the system refused, and where more is said",
@@ -157,28 +155,28 @@ const VERBOSE: Choice = Choice {
 /// The options of `merge`.
 static OF_MERGE: [Choice; 12] = [
     Choice {
-        name: "guid",
+        name: names::GUID,
         short: None,
         value: Some("G"),
         help: "The GUID of the file that is written",
         is_required: true,
     },
     Choice {
-        name: "age",
+        name: names::AGE,
         short: None,
         value: Some("N"),
         help: "Its age, a number up to 4294967295",
         is_required: true,
     },
     Choice {
-        name: "limit",
+        name: names::LIMIT,
         short: None,
         value: Some("L"),
         help: "The most bytes of all types together; the default,{n}and the greatest, is 1073741824",
         is_required: false,
     },
     Choice {
-        name: "block-size",
+        name: names::BLOCK_SIZE,
         short: None,
         value: Some("B"),
         help: "The bytes of a block of the file: 512, 1024, 2048,{n}4096 (the default), 8192, 16384 or 32768",
@@ -186,42 +184,42 @@ static OF_MERGE: [Choice; 12] = [
     },
     MAX,
     Choice {
-        name: "files-from",
+        name: names::FILES_FROM,
         short: None,
         value: Some("LIST"),
         help: "A file with the paths of more IN, one a line, or -{n}for standard input",
         is_required: false,
     },
     Choice {
-        name: "null",
+        name: names::NULL,
         short: Some('0'),
         value: None,
         help: "The paths of LIST end with a NUL, as those of{n}find -print0 do",
         is_required: false,
     },
     Choice {
-        name: "map",
+        name: names::MAP,
         short: None,
         value: Some("MAP"),
         help: "A file for a line for each record of the inputs: the{n}input, its type index, its new type index",
         is_required: false,
     },
     Choice {
-        name: "progress",
+        name: names::PROGRESS,
         short: None,
         value: None,
         help: "Writes to standard error how many inputs were read",
         is_required: false,
     },
     Choice {
-        name: NO_CLOBBER,
+        name: names::NO_CLOBBER,
         short: None,
         value: None,
         help: "Refuses an OUT or a MAP that is there: 41 Create",
         is_required: false,
     },
     Choice {
-        name: "skip-refused",
+        name: names::SKIP_REFUSED,
         short: None,
         value: None,
         help: "Leaves out an IN with a fault of its own, and says so{n}on standard error; status 4 if any was left out",
@@ -232,7 +230,7 @@ static OF_MERGE: [Choice; 12] = [
 
 /// How `merge` makes OUT where there is one.
 static REPLACE: Choice = Choice {
-    name: "replace",
+    name: names::REPLACE,
     short: None,
     value: None,
     help: "Writes OUT and MAP under other names, which take{n}their places at the end: a refusal leaves the old",
@@ -241,7 +239,7 @@ static REPLACE: Choice = Choice {
 
 /// What `diff` shows.
 static ORIGINS: Choice = Choice {
-    name: "origins",
+    name: names::ORIGINS,
     short: None,
     value: None,
     help: "Only types whose own named types are all in the{n}other file: where the difference begins",
@@ -250,7 +248,7 @@ static ORIGINS: Choice = Choice {
 
 /// What `diff` shows in its place.
 static CHANGED_MEMBERS: Choice = Choice {
-    name: MEMBERS_NAME,
+    name: names::MEMBERS,
     short: None,
     value: None,
     help: "Which structures, unions and enumerations came, went{n}or changed, and in which members",
@@ -322,11 +320,11 @@ fn path<'a>(alloc: Global, name: &'a str, help: &'a str) -> Arg<'a> {
 /// The paths of the files that are merged. A list of paths stands for them too.
 #[inline(never)]
 fn inputs<'a>(alloc: Global) -> Result<Arg<'a>, AllocError> {
-    Arg::new(alloc, "IN")
+    Arg::new(alloc, names::IN)
         .help("The PDB files whose types are merged")
         .num_args(1..)
         .action(ArgAction::Append)
-        .required_unless_present("files-from")
+        .required_unless_present(names::FILES_FROM)
 }
 
 /// A command without its options and arguments. `end` stands at the end of its help.
@@ -372,12 +370,12 @@ fn with_file<'a>(
     command: Command<'a>,
     what: &What,
 ) -> Result<Command<'a>, AllocError> {
-    let command = command.arg(path(alloc, "FILE", "The PDB file to read"))?;
+    let command = command.arg(path(alloc, names::FILE, "The PDB file to read"))?;
     match what {
         What::Whole(_) => Ok(command),
         What::Record => command.arg(path(
             alloc,
-            "INDEX",
+            names::INDEX,
             "The type index of the record, as 0x1000",
         )),
     }
@@ -393,7 +391,7 @@ fn showing<'a>(alloc: Global, shown: &'a ShownCommand) -> Result<Command<'a>, Al
 /// The command that merges, with its arguments.
 #[inline(never)]
 fn with_inputs<'a>(alloc: Global, command: Command<'a>) -> Result<Command<'a>, AllocError> {
-    let command = command.arg(path(alloc, "OUT", "The PDB file to write"))?;
+    let command = command.arg(path(alloc, names::OUT, "The PDB file to write"))?;
     command.arg(inputs(alloc)?)
 }
 
@@ -401,7 +399,7 @@ fn with_inputs<'a>(alloc: Global, command: Command<'a>) -> Result<Command<'a>, A
 #[inline(never)]
 fn merging<'a>(alloc: Global) -> Result<Command<'a>, AllocError> {
     let command = command(alloc, MERGE_NAME, MERGE, &OF_MERGE, MERGE_STATUSES)?;
-    let replace = option(alloc, &REPLACE).conflicts_with(NO_CLOBBER)?;
+    let replace = option(alloc, &REPLACE).conflicts_with(names::NO_CLOBBER)?;
     with_inputs(alloc, command.arg(replace)?)
 }
 
@@ -410,12 +408,12 @@ fn merging<'a>(alloc: Global) -> Result<Command<'a>, AllocError> {
 fn with_files<'a>(alloc: Global, command: Command<'a>) -> Result<Command<'a>, AllocError> {
     let command = command.arg(path(
         alloc,
-        "A",
+        names::FIRST,
         "The PDB file whose own types are shown with '- '",
     ))?;
     command.arg(path(
         alloc,
-        "B",
+        names::SECOND,
         "The PDB file whose own types are shown with '+ '",
     ))
 }
@@ -432,7 +430,7 @@ fn differing<'a>(alloc: Global) -> Result<Command<'a>, AllocError> {
 /// The names of the types that are shown.
 #[inline(never)]
 fn names<'a>(alloc: Global) -> Arg<'a> {
-    Arg::new(alloc, "NAME")
+    Arg::new(alloc, names::NAME)
         .help("The name of a type that is shown, or its type index, as{n}0x1000; else all are")
         .num_args(1..)
         .action(ArgAction::Append)
@@ -442,7 +440,7 @@ fn names<'a>(alloc: Global) -> Arg<'a> {
 #[inline(never)]
 fn telling<'a>(alloc: Global) -> Result<Command<'a>, AllocError> {
     let command = command(alloc, MEMBERS_NAME, MEMBERS, &OF_SHOWN, MEMBERS_STATUSES)?;
-    let command = command.arg(path(alloc, "FILE", "The PDB file to read"))?;
+    let command = command.arg(path(alloc, names::FILE, "The PDB file to read"))?;
     command.arg(names(alloc))
 }
 
@@ -450,7 +448,7 @@ fn telling<'a>(alloc: Global) -> Result<Command<'a>, AllocError> {
 #[inline(never)]
 fn explaining<'a>(alloc: Global) -> Result<Command<'a>, AllocError> {
     let command = command(alloc, EXPLAIN_NAME, EXPLAIN, &OF_EXPLAIN, STATUSES)?;
-    command.arg(path(alloc, "N", PAGE_NUMBER))
+    command.arg(path(alloc, names::NUMBER, PAGE_NUMBER))
 }
 
 /// A command of the program.
