@@ -58,4 +58,10 @@ impl<'f> Inputs for Positioned<'f> {
     }
 }
 
-impl<'f> BoundedInputs for Positioned<'f> {}
+impl<'f> BoundedInputs for Positioned<'f> {
+    ghost needs = { λ _ _. ⊥ };
+
+    fn is_needed(&self, _input: usize) -> bool {
+        false
+    }
+}

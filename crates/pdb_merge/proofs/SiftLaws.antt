@@ -3,7 +3,7 @@ use Rattle.std.proofs.Common.{◌≡◌, ◌≢◌, ◌⊎◌, ◌+◌, ◌<◌,
 use Rattle.std.specs.Prelude.{Result, IfSome}
 use Rattle.std.specs.List.{All, AllPairs}
 use Rattle.std.proofs.lemmas.Bool.{cases_lt}
-use Rattle.std.proofs.lemmas.List.{get_or_append_left, get_or-map, length-map, length-take-le, take-append-drop}
+use Rattle.std.proofs.lemmas.List.{get_or_append_left, get_or-map, length-map, length-take-le, take-append-drop, take_more}
 use Rattle.std.proofs.lemmas.List.Elements.{All-push, Contains-append_left, Contains-push}
 use Rattle.std.proofs.Math.Seq.{get_or-append_seam}
 use Rattle.byte_io.specs.Inputs.{Give, CanRead}
@@ -23,7 +23,7 @@ use Rattle.type_table.specs.Merge.{StartsWith}
 use Rattle.pdb_merge.specs.Merging.{MergeView, AddsFile, AreMapsOf, HasTaken}
 use Rattle.pdb_merge.specs.Own.{IsNotRefused, IsOfReading, IsOwnFault, merge_from_own}
 use Rattle.pdb_merge.specs.Fault.{NamesFault}
-use Rattle.pdb_merge.specs.Sift.{AreListed, AreMapsBut, HasSifted, IsLeftOut, IsOfSift, IsRefused, IsSiftFault, LeavesOut, RefusesSift}
+use Rattle.pdb_merge.specs.Sift.{AcceptsNeeded, AreListed, AreMapsBut, HasSifted, IsLeftOut, IsOfSift, IsRefused, IsSiftFault, LeavesOut, RefusesSift, SiftsUpTo}
 use Rattle.pdb_merge.specs.Union.{CanMerge, FileHas, HasType, HasTypeBelow, ReadsFirst, Unites, Within}
 use Rattle.pdb_merge.specs.declared.fault.AddFault.TheVariants as add
 use Rattle.pdb_merge.specs.declared.fault.MergeFault.{MergeFault}
@@ -31,6 +31,7 @@ use Rattle.pdb_merge.specs.declared.fault.MergeFault.TheVariants as merge
 use Rattle.pdb_merge.specs.declared.input.OwnFault.{OwnFault}
 use Rattle.pdb_merge.specs.declared.input.OwnFault.TheVariants as own
 use Rattle.pdb_merge.specs.declared.merging.sift_files.LeftOut.{LeftOut}
+use Rattle.pdb_merge.proofs.InputLaws.{given_inside}
 use Rattle.pdb_merge.proofs.MergingLaws.{last_file, same_file, unites_still}
 use Rattle.pdb_merge.proofs.UnionLaws.{joined, united_more, weighs_same, within_same}
 
@@ -49,21 +50,21 @@ pairs_push end left one pairs below at i j d less inside = elim (cases_lt j (len
       rw (get_or_append_left left (one ∷ []) d i (omega (arith, less, last)), here, at) before
 ]
 
-pub none_listed : {A : Type 0} (end : ℕ) → AreListed {A = A} end []
+none_listed : {A : Type 0} (end : ℕ) → AreListed {A = A} end []
 none_listed end = record {
   in_order = λ i j d less inside. absurd (omega (arith, inside));
   below = λ k d inside. absurd (omega (arith, inside));
   named = λ k d inside. absurd (omega (arith, inside));
 }
 
-pub listed_still : {A : Type 0} (end more : ℕ) (left : List (LeftOut A)) → end ≤ more → AreListed end left → AreListed more left
+listed_still : {A : Type 0} (end more : ℕ) (left : List (LeftOut A)) → end ≤ more → AreListed end left → AreListed more left
 listed_still end more left less listed = record {
   in_order = listed.in_order;
   below = λ k d inside. omega (arith, listed.below k d inside, less);
   named = listed.named;
 }
 
-pub listed_more : {A : Type 0} (end : ℕ) (left : List (LeftOut A)) (one : LeftOut A) → AreListed end left → one.file ≡ end → one.fault ≢ pdb.Memory → AreListed (end + 1) (left ++ one ∷ [])
+listed_more : {A : Type 0} (end : ℕ) (left : List (LeftOut A)) (one : LeftOut A) → AreListed end left → one.file ≡ end → one.fault ≢ pdb.Memory → AreListed (end + 1) (left ++ one ∷ [])
 listed_more end left one listed at named = record {
   in_order = pairs_push end left one listed.in_order listed.below at;
   below = All-push (λ a. a.file < end + 1) left one (λ k d inside. omega (arith, listed.below k d inside)) (omega (arith, at));
@@ -181,7 +182,7 @@ maps_taken A files list None are = tt
 maps_taken A files list (Some maps) are = record { many = are.many; each = λ i inside. inl (are.each i inside) }
 
 -- files that were all taken
-pub taken_sifts : {A : Type 0} (m : MergeView) (files : List (List ℕ)) → HasTaken m files → HasSifted {A = A} m files []
+taken_sifts : {A : Type 0} (m : MergeView) (files : List (List ℕ)) → HasTaken m files → HasSifted {A = A} m files []
 taken_sifts {A = A} m files taken = record {
   leaves = record {
     listed = none_listed (length files);
@@ -193,7 +194,7 @@ taken_sifts {A = A} m files taken = record {
   maps = maps_taken A files m.types m.maps taken.maps;
 }
 
-pub sifted_more : {A : Type 0} (before after : MergeView) (files : List (List ℕ)) (file : List ℕ) (left : List (LeftOut A)) → AddsFile before after file → Within (IsType after.types) after.limit
+sifted_more : {A : Type 0} (before after : MergeView) (files : List (List ℕ)) (file : List ℕ) (left : List (LeftOut A)) → AddsFile before after file → Within (IsType after.types) after.limit
     → HasSifted before files left → HasSifted after (files ++ file ∷ []) left
 sifted_more before after files file left takes within sifted =
     let all = files ++ file ∷ [] in
@@ -207,7 +208,7 @@ sifted_more before after files file left takes within sifted =
       maps = maps_still files file before.types after.types takes.records left before.maps after.maps takes.accepted takes.added.front takes.added.mapped sifted.maps;
     }
 
-pub sifted_one : {A : Type 0} (before after : MergeView) (files : List (List ℕ)) (file : List ℕ) (left : List (LeftOut A)) (one : LeftOut A) → one.file ≡ length files → one.fault ≢ pdb.Memory → HasPdbFault file one.fault
+sifted_one : {A : Type 0} (before after : MergeView) (files : List (List ℕ)) (file : List ℕ) (left : List (LeftOut A)) (one : LeftOut A) → one.file ≡ length files → one.fault ≢ pdb.Memory → HasPdbFault file one.fault
     → after.types ≡ before.types → after.limit ≡ before.limit → after.maps ≡ with_map before.maps [] → HasSifted before files left → HasSifted after (files ++ file ∷ []) (left ++ one ∷ [])
 sifted_one before after files file left one at named refused types limit maps sifted =
     let many = length_more files file in
@@ -225,13 +226,14 @@ unites_whole types files k inside unites =
     let many : length (take k files) ≡ k = length-take-le k files (omega (arith, inside)) in
     rw (take-append-drop k files, many) at (unites_still types (take k files) (drop k files) (length (take k files)) (omega arith) unites)
 
-pub sift_stops : {A : Type 0} (m : MergeView) (files : List (List ℕ)) (k : ℕ) (left : List (LeftOut A)) (fault : OwnFault A) (outer : MergeFault A) → k < length files
-    → HasSifted m (take k files) left → (outer ≡ merge_from_own k fault) ⊎ (outer ≡ merge.Memory) → IsNotRefused fault → IsOwnFault m.types m.limit (get_or files k []) fault → IsSiftFault files m.limit outer
-sift_stops m files k left fault outer inside sifted (inr memory) kind is = rw memory tt
-sift_stops m files k left (own.Unread inner) outer inside sifted (inl made) kind is = rw (made, is) tt
-sift_stops m files k left (own.Of (add.Refused inner)) outer inside sifted (inl made) kind is = absurd kind
-sift_stops m files k left (own.Of add.Memory) outer inside sifted (inl made) kind is = rw made tt
-sift_stops m files k left (own.Of (add.TooLarge bytes)) outer inside sifted (inl made) kind (records, accepted, weighs, more) =
+sift_stops : {A : Type 0} (needs : ℕ → Type 0) (m : MergeView) (files : List (List ℕ)) (k : ℕ) (left : List (LeftOut A)) (fault : OwnFault A) (outer : MergeFault A) → k < length files
+    → HasSifted m (take k files) left → (outer ≡ merge_from_own k fault) ⊎ (outer ≡ merge.Memory) → needs k ⊎ IsNotRefused fault → IsOwnFault m.types m.limit (get_or files k []) fault → IsSiftFault needs files m.limit outer
+sift_stops needs m files k left fault outer inside sifted (inr memory) kind is = rw memory tt
+sift_stops needs m files k left (own.Unread inner) outer inside sifted (inl made) kind is = rw (made, is) tt
+sift_stops needs m files k left (own.Of (add.Refused inner)) outer inside sifted (inl made) (inl needed) is = rw made (inside, needed, is)
+sift_stops needs m files k left (own.Of (add.Refused inner)) outer inside sifted (inl made) (inr kind) is = absurd kind
+sift_stops needs m files k left (own.Of add.Memory) outer inside sifted (inl made) kind is = rw made tt
+sift_stops needs m files k left (own.Of (add.TooLarge bytes)) outer inside sifted (inl made) kind (records, accepted, weighs, more) =
     let unites = unites_whole m.types files k inside sifted.unites in
     rw made (
       inside,
@@ -241,52 +243,100 @@ sift_stops m files k left (own.Of (add.TooLarge bytes)) outer inside sifted (inl
       more,
     )
 
--- such a fault is no fault of a file alone
-pub sift_kind : {A : Type 0} (k : ℕ) (fault : OwnFault A) (outer : MergeFault A) → (outer ≡ merge_from_own k fault) ⊎ IsOfReading outer → IsNotRefused fault → NamesFault outer → IsOfSift outer
-sift_kind k fault (merge.Input file inner) is kind named = named
-sift_kind k fault (merge.TooLarge file bytes) is kind named = named
-sift_kind k fault merge.Memory is kind named = named
-sift_kind k (own.Of (add.Refused f)) (merge.Refused file inner) is kind named = absurd kind
-sift_kind k (own.Unread inputs.Open) (merge.Refused file inner) (inl made) kind named = absurd cc
-sift_kind k (own.Unread (inputs.Read reads.Read)) (merge.Refused file inner) (inl made) kind named = absurd cc
-sift_kind k (own.Unread (inputs.Read reads.TooLong)) (merge.Refused file inner) (inl made) kind named = absurd cc
-sift_kind k (own.Unread (inputs.Read reads.Memory)) (merge.Refused file inner) (inl made) kind named = absurd cc
-sift_kind k (own.Of (add.TooLarge bytes)) (merge.Refused file inner) (inl made) kind named = absurd cc
-sift_kind k (own.Of add.Memory) (merge.Refused file inner) (inl made) kind named = absurd cc
-sift_kind k fault (merge.Refused file inner) (inr reading) kind named = absurd reading
+-- such a fault is no fault of a file alone, but of one that is needed
+sift_kind : {A : Type 0} (needs : ℕ → Type 0) (k : ℕ) (fault : OwnFault A) (outer : MergeFault A) → (outer ≡ merge_from_own k fault) ⊎ IsOfReading outer → needs k ⊎ IsNotRefused fault → NamesFault outer → IsOfSift needs outer
+sift_kind needs k fault (merge.Input file inner) is kind named = named
+sift_kind needs k fault (merge.TooLarge file bytes) is kind named = named
+sift_kind needs k fault merge.Memory is kind named = named
+sift_kind needs k (own.Of (add.Refused f)) (merge.Refused file inner) (inl made) (inl needed) named =
+    let at : file ≡ k = cc in
+    (rw at needed, named)
+sift_kind needs k (own.Of (add.Refused f)) (merge.Refused file inner) is (inr kind) named = absurd kind
+sift_kind needs k (own.Unread inputs.Open) (merge.Refused file inner) (inl made) kind named = absurd cc
+sift_kind needs k (own.Unread (inputs.Read reads.Read)) (merge.Refused file inner) (inl made) kind named = absurd cc
+sift_kind needs k (own.Unread (inputs.Read reads.TooLong)) (merge.Refused file inner) (inl made) kind named = absurd cc
+sift_kind needs k (own.Unread (inputs.Read reads.Memory)) (merge.Refused file inner) (inl made) kind named = absurd cc
+sift_kind needs k (own.Of (add.TooLarge bytes)) (merge.Refused file inner) (inl made) kind named = absurd cc
+sift_kind needs k (own.Of add.Memory) (merge.Refused file inner) (inl made) kind named = absurd cc
+sift_kind needs k fault (merge.Refused file inner) (inr reading) kind named = absurd reading
 
--- types that are within the limit are not too large
-pub sift_alone : {A : Type 0} (files : List (List ℕ)) (limit : ℕ) (fault : MergeFault A) → IsSiftFault files limit fault → Within (HasType files) limit → fault ≡ merge.Memory
-sift_alone files limit (merge.Input file inner) is within = absurd is
-sift_alone files limit (merge.Refused file inner) is within = absurd is
-sift_alone files limit (merge.TooLarge file bytes) (inside, below, accepted, (l, lists, heavy), more) (all, (m, lists_m, heavy_m), few) =
+-- where the needed files are accepted, types that are within the limit are not too large
+sift_alone : {A : Type 0} (needs : ℕ → Type 0) (files : List (List ℕ)) (limit : ℕ) (fault : MergeFault A) → IsSiftFault needs files limit fault → AcceptsNeeded needs files → Within (HasType files) limit → fault ≡ merge.Memory
+sift_alone needs files limit (merge.Input file inner) is accepts within = absurd is
+sift_alone needs files limit (merge.Refused file inner) (inside, needed, refused) accepts within =
+    let (records, accepted) = accepts file inside needed in
+    absurd (accepted_unrefused (get_or files file []) records inner accepted refused)
+sift_alone needs files limit (merge.TooLarge file bytes) (inside, below, accepted, (l, lists, heavy), more) accepts (all, (m, lists_m, heavy_m), few) =
     let less = weight_grows l m lists.distinct (λ t c. let there = (lists.members t).0 c in (lists_m.members t).1 (there.0, omega (arith, there.1, inside), there.2)) in
     absurd (omega (arith, less, heavy, heavy_m, few, more))
-sift_alone files limit merge.Memory is within = refl
+sift_alone needs files limit merge.Memory is accepts within = refl
 
-pub sift_refuses : {A : Type 0} (known : Option (List (Result (List ℕ) InputFault))) (k : ℕ) (m : MergeView) (left : List (LeftOut A)) (fault : OwnFault A) (outer : MergeFault A)
-    → ((given : List (List ℕ)) → Give known given → k < length given)
-    → ((given : List (List ℕ)) → Give known given → HasSifted m (take k given) left)
+pub sift_refuses : {A : Type 0} (known : Option (List (Result (List ℕ) InputFault))) (needs : ℕ → Type 0) (k : ℕ) (m : MergeView) (left : List (LeftOut A)) (fault : OwnFault A) (outer : MergeFault A)
+    → IfSome known (λ each. k < length each) → SiftsUpTo known needs k m left
     → ((given : List (List ℕ)) → Give known given → IsOwnFault m.types m.limit (get_or given k []) fault)
     → ((given : List (List ℕ)) → Give known given → (outer ≡ merge_from_own k fault) ⊎ (outer ≡ merge.Memory))
-    → (outer ≡ merge_from_own k fault) ⊎ IsOfReading outer → IsNotRefused fault → IfSome known (λ each. ReadsFirst each outer) → NamesFault outer → RefusesSift known m.limit outer
-sift_refuses known k m left fault outer inside sifted is made kind refused first named = record {
-  first = λ given gives. sift_stops m given k left fault outer (inside given gives) (sifted given gives) (made given gives) refused (is given gives);
-  reads = first;
-  own = sift_kind k fault outer kind refused named;
-  found = λ given gives within. sift_alone given m.limit outer (sift_stops m given k left fault outer (inside given gives) (sifted given gives) (made given gives) refused (is given gives)) within;
-}
+    → (outer ≡ merge_from_own k fault) ⊎ IsOfReading outer → needs k ⊎ IsNotRefused fault → IfSome known (λ each. ReadsFirst each outer) → NamesFault outer → RefusesSift known needs m.limit outer
+sift_refuses known needs k m left fault outer inside so_far is made kind refused first named =
+    let stops : (given : List (List ℕ)) → Give known given → IsSiftFault needs given m.limit outer =
+    λ given gives. sift_stops needs m given k left fault outer (given_inside known given k gives inside) (so_far.sifted given gives) (made given gives) refused (is given gives) in
+    record {
+      first = stops;
+      reads = first;
+      own = sift_kind needs k fault outer kind refused named;
+      found = λ given gives accepts within. sift_alone needs given m.limit outer (stops given gives) accepts within;
+    }
 
 -- out of memory refuses any files
-pub memory_refuses : (A : Type 0) (known : Option (List (Result (List ℕ) InputFault))) (limit : ℕ) → RefusesSift {A = A} known limit merge.Memory
-memory_refuses A None limit = record { first = λ given gives. tt; reads = tt; own = tt; found = λ given gives within. refl }
-memory_refuses A (Some each) limit = record { first = λ given gives. tt; reads = tt; own = tt; found = λ given gives within. refl }
+pub memory_refuses : (A : Type 0) (known : Option (List (Result (List ℕ) InputFault))) (needs : ℕ → Type 0) (limit : ℕ) → RefusesSift {A = A} known needs limit merge.Memory
+memory_refuses A None needs limit = record { first = λ given gives. tt; reads = tt; own = tt; found = λ given gives accepts within. refl }
+memory_refuses A (Some each) needs limit = record { first = λ given gives. tt; reads = tt; own = tt; found = λ given gives accepts within. refl }
 
--- ---- the inputs
+-- ---- the next file
 
-pub none_read : (known : Option (List (Result (List ℕ) InputFault))) → IfSome known (λ each. CanRead each 0)
+none_read : (known : Option (List (Result (List ℕ) InputFault))) → IfSome known (λ each. CanRead each 0)
 none_read None = tt
 none_read (Some each) = λ k below. absurd (omega (arith, below))
+
+-- there is none so far
+pub sifts_none : (A : Type 0) (known : Option (List (Result (List ℕ) InputFault))) (needs : ℕ → Type 0) (m : MergeView) → HasTaken m [] → SiftsUpTo {A = A} known needs 0 m []
+sifts_none A known needs m taken = record {
+  sifted = λ files given. taken_sifts m [] taken;
+  listed = none_listed 0;
+  spared = λ k d inside. absurd (omega (arith, inside));
+  read = none_read known;
+  within = taken.within;
+}
+
+-- it was added
+pub sifts_added : {A : Type 0} (known : Option (List (Result (List ℕ) InputFault))) (needs : ℕ → Type 0) (k : ℕ) (before after : MergeView) (left : List (LeftOut A))
+    → IfSome known (λ each. k < length each) → SiftsUpTo known needs k before left
+    → ((files : List (List ℕ)) → Give known files → AddsFile before after (get_or files k []))
+    → Within (IsType after.types) after.limit → IfSome known (λ each. CanRead each (k + 1)) → SiftsUpTo known needs (k + 1) after left
+sifts_added known needs k before after left inside so_far adds within read = record {
+  sifted = λ files given. rw (take_more files k [] (given_inside known files k given inside)) (sifted_more before after (take k files) (get_or files k []) left (adds files given) within (so_far.sifted files given));
+  listed = listed_still k (k + 1) left (omega arith) so_far.listed;
+  spared = so_far.spared;
+  read = read;
+  within = within;
+}
+
+-- it is left out
+pub sifts_left : {A : Type 0} (known : Option (List (Result (List ℕ) InputFault))) (needs : ℕ → Type 0) (k : ℕ) (before after : MergeView) (left : List (LeftOut A)) (one : LeftOut A)
+    → IfSome known (λ each. k < length each) → SiftsUpTo known needs k before left → one.file ≡ k → one.fault ≢ pdb.Memory → (needs k → ⊥)
+    → ((files : List (List ℕ)) → Give known files → HasPdbFault (get_or files k []) one.fault)
+    → after.types ≡ before.types → after.limit ≡ before.limit → after.maps ≡ with_map before.maps [] → IfSome known (λ each. CanRead each (k + 1)) → SiftsUpTo known needs (k + 1) after (left ++ one ∷ [])
+sifts_left known needs k before after left one inside so_far at named spared refused types limit maps read = record {
+  sifted = λ files given.
+      let below = given_inside known files k given inside in
+      let many : k ≡ length (take k files) = sym (length-take-le k files (omega (arith, below))) in
+      rw (take_more files k [] below) (sifted_one before after (take k files) (get_or files k []) left one (at ∙ many) named (refused files given) types limit maps (so_far.sifted files given));
+  listed = listed_more k left one so_far.listed at named;
+  spared = All-push (λ a. needs a.file → ⊥) left one so_far.spared (rw at spared);
+  read = read;
+  within = rw (types, limit) so_far.within;
+}
+
+-- ---- the inputs
 
 pub known_inside : (known : Option (List (Result (List ℕ) InputFault))) (i end : ℕ) → IfSome known (λ each. end ≡ length each) → i < end → IfSome known (λ each. i < length each)
 known_inside None i end count inside = tt

@@ -1,7 +1,7 @@
 -- Merges that leave out the files that are refused.
-use Rattle.std.specs.Prelude.{ℕ, ◌≡◌, ◌≢◌, ◌<◌, ◌⊎◌, ◌+◌, List, [], Option, Result, length, get_or, IfSome}
+use Rattle.std.specs.Prelude.{ℕ, ◌≡◌, ◌≢◌, ◌<◌, ◌⊎◌, ◌+◌, List, [], Option, Result, length, take, get_or, IfSome}
 use Rattle.std.specs.List.{All, AllPairs, Contains}
-use Rattle.byte_io.specs.Inputs.{Give}
+use Rattle.byte_io.specs.Inputs.{CanRead, Give}
 use Rattle.byte_io.specs.declared.inputs.InputFault.{InputFault}
 use Rattle.closed_trees.specs.Tree.{IsType}
 use Rattle.file_types.specs.Read.{IsAccepted, HasPdbFault}
@@ -64,33 +64,54 @@ pub record HasSifted {A : Type 0} (merge : MergeView) (files : List (List ℕ))
   pub within : Within (IsType merge.types) merge.limit
   pub maps : IfSome merge.maps (AreMapsBut files left merge.types)
 
+-- no file that is needed is left out
+abbrev pub AreSpared : {A : Type 0} → (ℕ → Type 0) → List (LeftOut A) → Type 0
+AreSpared needs left = All (λ one. needs one.file → ⊥) left
+
+-- the first `end` files were read, each of which was added to the merge or is left out
+pub record SiftsUpTo {A : Type 0} (known : Option (List (Result (List ℕ) InputFault)))
+    (needs : ℕ → Type 0) (end : ℕ) (merge : MergeView) (left : List (LeftOut A)) : Type 0 where
+  pub sifted : (files : List (List ℕ)) → Give known files → HasSifted merge (take end files) left
+  pub listed : AreListed end left
+  pub spared : AreSpared needs left
+  pub read : IfSome known (λ each. CanRead each end)
+  pub within : Within (IsType merge.types) merge.limit
+
 -- ---- why nothing is merged
 
--- this is why the files are not merged, though those that are refused would be left out: one of
--- them is accepted, and with it the types have `bytes` bytes, more than the limit; or memory ran
--- out
-abbrev pub IsSiftFault : {A : Type 0} → List (List ℕ) → ℕ → MergeFault A → Type 0
-IsSiftFault files limit (merge.TooLarge file bytes) =
+-- each file that is needed is accepted
+abbrev pub AcceptsNeeded : (ℕ → Type 0) → List (List ℕ) → Type 0
+AcceptsNeeded needs files = (i : ℕ) → i < length files → needs i → IsAcceptedAt files i
+
+-- this is why the files are not merged, though those that are refused would be left out: one that
+-- is needed is refused; or one of them is accepted, and with it the types have `bytes` bytes, more
+-- than the limit; or memory ran out
+abbrev pub IsSiftFault : {A : Type 0} → (ℕ → Type 0) → List (List ℕ) → ℕ → MergeFault A → Type 0
+IsSiftFault needs files limit (merge.Refused file inner) =
+    (file < length files) × needs file × HasPdbFault (get_or files file []) inner
+IsSiftFault needs files limit (merge.TooLarge file bytes) =
     (file < length files) × Within (HasTypeBelow files file) limit × IsAcceptedAt files file
     × Weighs (HasTypeBelow files (file + 1)) bytes × (limit < bytes)
-IsSiftFault files limit merge.Memory = Unit {0}
-IsSiftFault files limit _ = ⊥
+IsSiftFault needs files limit merge.Memory = Unit {0}
+IsSiftFault needs files limit (merge.Input file inner) = ⊥
 
--- no file is refused for a fault of its own, and out of memory is never inside another fault
-abbrev pub IsOfSift : {A : Type 0} → MergeFault A → Type 0
-IsOfSift (merge.Refused file inner) = ⊥
-IsOfSift fault = NamesFault fault
+-- no file is refused for a fault of its own but one that is needed, and out of memory is never
+-- inside another fault
+abbrev pub IsOfSift : {A : Type 0} → (ℕ → Type 0) → MergeFault A → Type 0
+IsOfSift needs (merge.Refused file inner) = needs file × NamesFault (merge.Refused file inner)
+IsOfSift needs fault = NamesFault fault
 
 -- the files are not merged, for this reason
 pub record RefusesSift {A : Type 0} (known : Option (List (Result (List ℕ) InputFault)))
-    (limit : ℕ) (fault : MergeFault A) : Type 0 where
-  pub first : (given : List (List ℕ)) → Give known given → IsSiftFault given limit fault
+    (needs : ℕ → Type 0) (limit : ℕ) (fault : MergeFault A) : Type 0 where
+  pub first : (given : List (List ℕ)) → Give known given → IsSiftFault needs given limit fault
   -- reading comes first: every file was read, or the fault is that of the first unread file
   pub reads : IfSome known (λ each. ReadsFirst each fault)
-  pub own : IsOfSift fault
-  -- where the types are within the limit, only out of memory refuses the files
-  pub found : (given : List (List ℕ)) → Give known given → Within (HasType given) limit
-      → fault ≡ merge.Memory
+  pub own : IsOfSift needs fault
+  -- where the needed files are accepted, and the types are within the limit, only out of memory
+  -- refuses the files
+  pub found : (given : List (List ℕ)) → Give known given → AcceptsNeeded needs given
+      → Within (HasType given) limit → fault ≡ merge.Memory
 
 -- ---- what was written
 

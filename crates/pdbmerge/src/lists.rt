@@ -4,7 +4,7 @@ use crate::refusal::Refusal;
 use byte_io::{In, read_all};
 use command_line::{LineFault, ListFault, Merging, PathList, WrongWord, push_paths};
 use pdb_commands::RunFault;
-use program_files::{Place, ProgramFault, Said, Telling};
+use program_files::{Place, ProgramFault, Said, Stream, Telling};
 use std::fs;
 use std::io::Read;
 use std::rt::HostRuntime;
@@ -30,10 +30,11 @@ fn bytes_of(
     max_bytes: u32,
     said: &Said,
 ) -> Result<Vec<u8>, ProgramFault> {
-    if list.path.as_str() == STANDARD_INPUT {
+    let path = list.path.as_str();
+    if path == STANDARD_INPUT || Stream::named(path) == Some(Stream::Input) {
         return read_from(rt, rt.stdin(), max_bytes, said);
     }
-    match fs::open(rt, list.path.as_str()) {
+    match fs::open(rt, path) {
         Ok(file) => read_from(rt, file, max_bytes, said),
         Err(error) => {
             said.keep(Place::List, &error);

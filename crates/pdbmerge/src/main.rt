@@ -2,8 +2,8 @@
 //! hold.
 //!
 //! `arguments` takes the arguments from the system. `merge` runs the command of that name: `lists` reads
-//! the list of more inputs, `map` writes its maps, and `report` prints the report on it. `same` tells
-//! whether two paths name one file. `hashes` makes the hashes of records. `hold` keeps files off the
+//! the list of more inputs, `early` refuses files that can't be written, `map` writes its maps, and
+//! `report` prints the report on it. `hashes` makes the hashes of records. `hold` keeps files off the
 //! numbers of the standard streams, and `refusal` prints why a command was refused.
 //! The arguments are read by `command_line`, files are opened and created by `program_files`, and
 //! the commands are those of `pdb_commands`. This module joins these to the system: arguments, the
@@ -14,6 +14,7 @@
 #![tactic(auto)]
 
 mod arguments;
+mod early;
 mod hashes;
 mod hold;
 mod lists;
@@ -21,7 +22,6 @@ mod map;
 mod merge;
 mod refusal;
 mod report;
-mod same;
 
 use arguments::arguments;
 use byte_io::{In, Out, put_all};

@@ -1,18 +1,21 @@
 //! The command `merge`: its files, its report and its exit status.
 
+use crate::early::refuse_early;
 use crate::hashes::Hashes;
-use crate::map::{put_map, refuse_taken, write_map_file};
-use crate::refusal::quoted;
-use crate::report::{REPORT_LENGTH, TakenStreams, print};
+use crate::map::write_map_file;
+use crate::refusal::{quoted, taken_by};
+use crate::report::{REPORT_LENGTH, print};
 use byte_io::Out;
 use command_line::Merging;
 use pdb_commands::{
     RunFault, SiftedFile, merge_accepted, report_accepted, run_merge_by_types, run_merge_with,
 };
 use pdb_merge::{KeepMaps, LeftOut, NoMaps, TypeMaps};
-use program_files::{InputFiles, NewFile, Place, ProgramFault, Progress, Said};
-use run_options::{GuidChoice, Making};
-use std::io::{Error, ErrorKind};
+use program_files::{
+    FileId, InputFiles, NewFile, Place, Placed, ProgramFault, Progress, Said, TakenStreams,
+    are_file, place_both,
+};
+use run_options::GuidChoice;
 use std::process::ExitCode;
 use std::rt::HostRuntime;
 
@@ -67,7 +70,9 @@ fn merge_some<K: KeepMaps + Drop>(
     maps: K,
 ) -> Result<Beside<K>, RunFault> {
     let (alloc, task) = (job.rt.alloc(), job.task);
-    let inputs = inputs_of(job);
+    // A file that is left out would be lost where it is the one that is written.
+    let needed = are_file(job.rt, &FileId::of(job.rt, task.out.as_str()), &task.inputs)?;
+    let inputs = inputs_of(job).needing(&needed);
     let done = merge_accepted(
         alloc,
         inputs,
@@ -191,6 +196,15 @@ fn tell_left_out(job: &Job<'_>, left_out: &[LeftOut]) {
     }
 }
 
+/// Says that a loss of power may undo a merge, where the system could not store a folder.
+fn tell_placed(job: &Job<'_>, placed: Placed) {
+    if placed == Placed::Unstored && !job.taken.error {
+        let _ = eprintln!(job.rt;
+            "pdbmerge: the folder is not stored: a loss of power may undo this"
+        );
+    }
+}
+
 /// Prints what is said of a merge, and then puts its files in their places.
 #[inline(never)]
 fn finish(job: &Job<'_>, written: &mut Written<'_>) -> Result<(), ProgramFault> {
@@ -199,10 +213,12 @@ fn finish(job: &Job<'_>, written: &mut Written<'_>) -> Result<(), ProgramFault> 
     }
     tell_left_out(job, &written.left_out);
     print(job.rt, &written.report, job.taken, job.said)?;
-    if let Some(map) = &mut written.map {
-        put_map(job.rt, map, job.task)?;
-    }
-    written.out.take_place()
+    let placed = match &mut written.map {
+        Some(map) => place_both(&mut written.out, map)?,
+        None => written.out.take_place()?,
+    };
+    tell_placed(job, placed);
+    Ok(())
 }
 
 /// Merges, and prints what is said of it. Returns the exit status.
@@ -217,12 +233,7 @@ fn merge_with(job: &Job<'_>, hasher: Hashes) -> Result<ExitCode, ProgramFault> {
             if let Some(map) = &mut written.map {
                 map.abandon();
             }
-            // The line of a refusal would be written into OUT or MAP, which are whole.
-            if job.taken.error {
-                Ok(ExitCode::FAILURE)
-            } else {
-                Err(fault)
-            }
+            Err(fault)
         }
     }
 }
@@ -235,13 +246,8 @@ pub fn merge(
     said: &Said,
     is_verbose: bool,
 ) -> Result<ExitCode, ProgramFault> {
-    refuse_taken(rt, task, said)?;
-    let taken = TakenStreams::of(rt, task);
-    // Nothing can take the place of a stream.
-    if task.making == Making::Replace && taken.is_out {
-        said.keep(Place::Out, &Error::from(ErrorKind::Unsupported));
-        return Err(ProgramFault::Create);
-    }
+    let taken = taken_by(rt, task);
+    refuse_early(rt, task, taken, said)?;
     let job = Job {
         rt,
         task,

@@ -1,12 +1,13 @@
 //! What the program says of a refusal.
 
-use command_line::{Line, LineFault, Task};
+use command_line::{Line, LineFault, Merging, Task};
 use output_words::push_quoted;
 use pdb_commands::RunFault;
-use program_files::{Place, ProgramFault, Said};
+use program_files::{Place, ProgramFault, Said, TakenStreams};
 use std::alloc::AllocError;
 use std::io::{self, Eprint, Print};
 use std::process::ExitCode;
+use std::rt::Files;
 
 /// Why the program ends without having done what it was asked for.
 #[derive(Drop)]
@@ -116,7 +117,16 @@ fn is_of_system(fault: &ProgramFault) -> bool {
     matches!(fault.number(), 36 | 37 | 40 | 41)
 }
 
-/// Prints what the system said of the file that it refused, where there are words for that.
+/// The system's words for an error, without the number that Rust adds to them.
+fn words_of<R: AllocGlobal>(rt: &R, error: &io::Error) -> Result<String, AllocError> {
+    let text = format!(in rt.alloc(); "{error}")?;
+    match text.as_str().split_once(" (os error ") {
+        Some((words, _)) => String::from_str(rt.alloc(), words),
+        None => Ok(text),
+    }
+}
+
+/// Prints what the system said of the file that it refused.
 fn say_why<R: Eprint + AllocGlobal>(
     rt: &R,
     fault: &ProgramFault,
@@ -124,7 +134,8 @@ fn say_why<R: Eprint + AllocGlobal>(
     said: &Said,
 ) -> io::Result<()> {
     match said.last() {
-        Some((place, words)) if is_of_system(fault) => {
+        Some((place, error)) if is_of_system(fault) => {
+            let words = words_of(rt, &error)?;
             match refused_path(place, fault, task) {
                 Some(path) => eprintln!(rt; "{}: {words}", quoted(rt, path)?),
                 None => eprintln!(rt; "standard output: {words}"),
@@ -162,15 +173,48 @@ fn say_more<R: Eprint + AllocGlobal>(
     }
 }
 
-/// Prints why a command was refused, and more where the arguments ask for it. Returns the exit
-/// status.
+/// The standard streams that a merge writes its files into.
 #[inline(never)]
-pub fn refuse<R: Print + Eprint + AllocGlobal>(
+pub fn taken_by<R: Files>(rt: &R, task: &Merging) -> TakenStreams {
+    let map = match &task.map {
+        Some(map) => Some(map.as_str()),
+        None => None,
+    };
+    TakenStreams::of(rt, task.out.as_str(), map)
+}
+
+/// Whether standard error is a file that a command writes: then the lines of a refusal would spoil it.
+fn is_error_taken<R: Files>(rt: &R, task: &Task) -> bool {
+    match task {
+        Task::Merge(task) => taken_by(rt, task).error,
+        Task::Usage
+        | Task::Show { .. }
+        | Task::Diff { .. }
+        | Task::Members { .. }
+        | Task::Explain(_) => false,
+    }
+}
+
+/// The exit status after a refusal.
+fn status_of(refusal: &Refusal) -> ExitCode {
+    match refusal {
+        Refusal::Line(fault) => ExitCode::from(fault.status()),
+        Refusal::List(_) | Refusal::Program(_) => ExitCode::FAILURE,
+    }
+}
+
+/// Prints why a command was refused, and more where the arguments ask for it. Returns the exit
+/// status. Nothing is printed where standard error is OUT or MAP.
+#[inline(never)]
+pub fn refuse<R: Print + Eprint + AllocGlobal + Files>(
     rt: &R,
     refusal: &Refusal,
     line: &Line,
     said: &Said,
 ) -> ExitCode {
+    if is_error_taken(rt, &line.task) {
+        return status_of(refusal);
+    }
     let status = match refusal {
         Refusal::Line(fault) => refuse_line(rt, fault),
         Refusal::List(fault) | Refusal::Program(fault) => print_fault(rt, fault),

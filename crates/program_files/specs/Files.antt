@@ -6,6 +6,7 @@ use Rattle.byte_io.specs.declared.inputs.InputFault.{InputFault}
 use Rattle.byte_io.specs.declared.inputs.InputFault.TheVariants.{Open, Read}
 use Rattle.program_files.specs.declared.files.Reading.{Reading}
 use Rattle.program_files.specs.declared.files.Reading.TheVariants.{At, Whole}
+use Rattle.program_files.specs.declared.said.Telling.{Telling}
 use Rattle.program_files.specs.declared.files.State.{State}
 use Rattle.program_files.specs.declared.files.State.TheVariants.{Closed, Opened, Refused}
 
@@ -14,7 +15,7 @@ abbrev pub IsOpeningFault : InputFault → Type 0
 IsOpeningFault fault = (fault ≡ Open) ⊎ (fault ≡ Read TooLong)
 
 -- a file that is read by position has a byte, and no more than this many, by what is told of it
-abbrev pub IsWithin : {F : Type 0} → (Seeking F → ℕ) → ℕ → Reading F → Type 0
+abbrev pub IsWithin : {F : Type 0} → (Seeking (Telling F) → ℕ) → ℕ → Reading F → Type 0
 IsWithin told limit (At file) = (0 < told file) × (told file ≤ limit)
 IsWithin told limit (Whole file) = Unit {0}
 

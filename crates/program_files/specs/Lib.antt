@@ -1,3 +1,4 @@
 pub mod Fault
 pub mod Output
 pub mod Files
+pub mod Streams

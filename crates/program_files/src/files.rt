@@ -5,6 +5,7 @@ ghost use Rattle.std.specs.Io.KnownBytes.{Consumes, IsAtEnd};
 ghost use Rattle.program_files.specs.Files.{GivesIfOpened, IsOpeningFault, IsUnopened, IsWithin};
 
 use crate::said::{Place, Said, Telling};
+use crate::streams::{Giver, StandardStreams, Stream};
 use byte_io::{In, InputFault, ReadAt, ReadFault, Seeking, Source};
 use std::fs::OpenFile;
 use std::rt::Files;
@@ -12,11 +13,11 @@ use std::{fmt, fs};
 
 /// A file that is open, and how it is read.
 #[derive(Debug, Drop)]
-pub enum Reading<F> {
+pub enum Reading<'a, F> {
     /// By position: a regular file whose length the system tells.
-    At(Seeking<F>),
+    At(Seeking<Telling<'a, F>>),
     /// To its end: a pipe, a device, a folder, or a file of no length that is told.
-    Whole(F),
+    Whole(Giver<'a, F>),
 }
 
 /// How many bytes the system says that a regular file has. `None` for all others.
@@ -58,20 +59,27 @@ pub fn open_told<'a, R: Files>(
     Ok((file, length))
 }
 
-/// Opens a file to read it as far as that is needed. The faults are those of [`open_told`].
-pub fn open_within<'a, R: Files>(
+/// Opens a file to read it as far as that is needed. A path that names standard input, and that the
+/// system can't open, as where it is a socket, is read from standard input itself. The faults are
+/// those of [`open_told`].
+pub fn open_within<'a, R: Files + StandardStreams>(
     rt: &R,
     path: &str,
     limit: u32,
     said: &'a Said,
-) -> Result<Reading<Telling<'a, R::File>>, InputFault>
+) -> Result<Reading<'a, R::File>, InputFault>
     ensures within { IfOk result
         (IsWithin (λ file. (⟦<Seeking<Telling<'a, R::File>> as ReadAt>⟧.bytes file).told) limit) }
     ensures fault { IfErr result IsOpeningFault }
 {
-    match open_told(rt, path, limit, said)? {
-        (file, Some(length)) if 0 < length => Ok(Reading::At(Seeking::new(file, length))),
-        (file, _) => Ok(Reading::Whole(file)),
+    match open_told(rt, path, limit, said) {
+        Ok((file, Some(length))) if 0 < length => Ok(Reading::At(Seeking::new(file, length))),
+        Ok((file, _)) => Ok(Reading::Whole(Giver::File(file))),
+        Err(InputFault::Open) if Stream::named(path) == Some(Stream::Input) => {
+            let input = Telling::new(rt.input(), Place::Input, said);
+            Ok(Reading::Whole(Giver::Stream(input)))
+        }
+        Err(fault) => Err(fault),
     }
 }
 

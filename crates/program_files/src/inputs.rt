@@ -1,10 +1,11 @@
 //! The files that a merge reads.
 
-ghost use Rattle.std.specs.Prelude.{◌≡◌, None, Some, length, map, slice_get, string_bytes, IfSome, IfNone, IfOk};
+ghost use Rattle.std.specs.Prelude.{◌≡◌, ◌↔◌, None, Some, length, map, slice_get, string_bytes, true, IsTrue, IfSome, IfNone, IfOk};
 
 use crate::files::{Reading, open_told, open_within};
 use crate::progress::Progress;
 use crate::said::{Said, Telling};
+use crate::streams::{Giver, StandardStreams};
 use byte_io::{In, InputFault, Inputs, Opened, ReadFault, Seeking, read_into, skip_all};
 use pdb_merge::BoundedInputs;
 use std::alloc::Allocator;
@@ -20,6 +21,8 @@ pub struct InputFiles<'a, R: Files> {
     names: &'a [String],
     max_bytes: u32,
     progress: Option<Progress<'a, R>>,
+    /// Whether the file at each position is needed. None is where nothing is said of it.
+    needed: &'a [bool],
     said: &'a Said,
 }
 
@@ -51,8 +54,18 @@ impl<'a, R: Files + AllocGlobal> InputFiles<'a, R> {
             names,
             max_bytes,
             progress,
+            needed: &[],
             said,
         }
+    }
+
+    /// The same files. Those at whose positions this is true are never left out of a merge.
+    pub fn needing(self, needed: &'a [bool]) -> InputFiles<'a, R>
+        ensures names { result.names.now ≡ self.entry.names.now }
+        ensures limit { result.max_bytes ≡ self.entry.max_bytes }
+        ensures needed { result.needed.now ≡ needed.now }
+    {
+        InputFiles { needed, ..self }
     }
 
     /// The name of the file at a position, from 0.
@@ -75,7 +88,7 @@ impl<'a, R: Files + AllocGlobal> InputFiles<'a, R> {
     /// Reads a file that is open to its end. `length` is what the system says that the file has.
     fn read_whole<'b, A: Allocator>(
         &self,
-        file: Telling<'a, R::File>,
+        file: Giver<'a, R::File>,
         length: Option<u64>,
         buffer: &'b mut Vec<u8, A>,
     ) -> Result<&'b [u8], InputFault> {
@@ -91,7 +104,7 @@ impl<'a, R: Files + AllocGlobal> InputFiles<'a, R> {
     }
 }
 
-impl<'f, R: Files + AllocGlobal + Clock + Eprint> Inputs for InputFiles<'f, R> {
+impl<'f, R: Files + AllocGlobal + Clock + Eprint + StandardStreams> Inputs for InputFiles<'f, R> {
     ghost known = { λ _. None };
 
     type File = Seeking<Telling<'f, R::File>>;
@@ -108,7 +121,7 @@ impl<'f, R: Files + AllocGlobal + Clock + Eprint> Inputs for InputFiles<'f, R> {
         buffer: &'b mut Vec<u8, A>,
     ) -> Result<&'b [u8], InputFault> {
         let (file, length) = open_told(self.rt, self.path(input)?, self.max_bytes, self.said)?;
-        self.read_whole(file, length, buffer)
+        self.read_whole(Giver::File(file), length, buffer)
     }
 
     fn open<'b, A: Allocator>(
@@ -136,10 +149,22 @@ impl<'f, R: Files + AllocGlobal + Clock + Eprint> Inputs for InputFiles<'f, R> {
     }
 }
 
-impl<'f, R: Files + AllocGlobal + Clock + Eprint> BoundedInputs for InputFiles<'f, R> {
+impl<'f, R: Files + AllocGlobal + Clock + Eprint + StandardStreams> BoundedInputs
+    for InputFiles<'f, R> {
+    ghost needs = { λ files input. slice_get files.needed.now input ≡ Some true };
+
     fn limit(&self) -> u32
         ensures { result ≡ self.now.max_bytes }
     {
         self.max_bytes
+    }
+
+    fn is_needed(&self, input: usize) -> bool
+        ensures { IsTrue result ↔ (slice_get self.now.needed.now input ≡ Some true) }
+    {
+        match self.needed.get(input) {
+            Some(is_needed) => *is_needed,
+            None => false,
+        }
     }
 }

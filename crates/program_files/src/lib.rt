@@ -5,6 +5,8 @@
 //! - [`InputFiles`] are the inputs of a merge, one of which is open at a time. [`Progress`] tells how
 //!   many of them were read.
 //! - [`NewFile`] is a file that is created at its first write, in the way that `Making` of `run_options` says.
+//! - [`FileId`] tells one file from another, and [`TakenStreams`] which standard streams are files that a
+//!   merge writes. A path that names a [`Stream`] stands for that stream ([`StandardStreams`]).
 //! - [`Said`] keeps what the system said when it refused a call, and [`Telling`] is a file that tells it.
 //! - [`ProgramFault`] says why the program did not do what it was asked for, and [`MapFault`] why it
 //!   did not write the maps of a merge.
@@ -34,11 +36,18 @@ mod inputs;
 mod output;
 mod progress;
 mod said;
+mod same;
 mod spare;
+mod streams;
+mod taken;
 
 pub use fault::{MapFault, ProgramFault};
 pub use files::{Reading, WholeFile, open_within};
 pub use inputs::InputFiles;
-pub use output::NewFile;
+pub use output::{NewFile, place_both};
 pub use progress::Progress;
 pub use said::{Place, Said, Telling};
+pub use same::{FileId, are_file, is_one_of};
+pub use spare::Placed;
+pub use streams::{Giver, StandardStreams, Stream};
+pub use taken::TakenStreams;

@@ -1,19 +1,25 @@
 //! The file that the program writes.
 
-ghost use Rattle.std.specs.Prelude.{◌≡◌, ◌↔◌, ◌<◌, ◌≤◌, ◌⊎◌, IsTrue, IfErr, length, take, true, false};
+ghost use Rattle.std.specs.Prelude.{◌≡◌, ◌↔◌, ◌<◌, ◌≤◌, ◌⊎◌, IsTrue, IfErr, Err, length, take, true, false};
 ghost use Rattle.std.specs.Io.KnownBytes.{Appends, Keeps};
 ghost use Rattle.pdb_commands.specs.declared.fault.RunFault.TheVariants.{Memory};
-ghost use Rattle.program_files.specs.declared.fault.ProgramFault.TheVariants.{Run, Create};
+ghost use Rattle.program_files.specs.declared.output.State.TheVariants.{Absent};
+ghost use Rattle.program_files.specs.declared.fault.ProgramFault.TheVariants.{Run, Create, Map};
 ghost use Rattle.program_files.specs.Output.{IsCreated, IsUncreated, TakesIfCreated, taken_of};
 
-use crate::fault::ProgramFault;
+use crate::fault::{MapFault, ProgramFault};
 use crate::said::{Place, Said, Telling};
-use crate::spare::Spare;
+use crate::same::FileId;
+use crate::spare::{Placed, Spare};
+use crate::streams::{StandardStreams, Stream, Taker};
 use byte_io::{NotTaken, Out, Sink};
 use pdb_commands::RunFault;
 use run_options::Making;
-use std::fs::{File, OpenFile};
-use std::io::{self, ErrorKind};
+use std::fs::{File, OpenFile, OpenOptions};
+use std::io::{self, Error, ErrorKind, Write};
+use std::os::fd::{AsFd, AsRawFd};
+use std::os::unix::fs::FileExt;
+use std::random::RandomSource;
 use std::rt::Files;
 use std::{fmt, fs};
 
@@ -27,8 +33,13 @@ fn open_over<R: Files>(rt: &R, path: &str) -> io::Result<R::File> {
 
 /// Opens a file that is not there yet.
 #[inline(never)]
-pub(crate) fn open_new<R: Files>(rt: &R, path: &str) -> io::Result<R::File> {
+fn open_new<R: Files>(rt: &R, path: &str) -> io::Result<R::File> {
     File::create_new(rt, path)
+}
+
+/// Why a standard stream is not written as it is asked for.
+fn no_such_stream() -> Error {
+    Error::new(ErrorKind::Unsupported, "it is a standard stream")
 }
 
 /// Waits until the system has stored a regular file. Pipes and devices have nothing to store.
@@ -41,6 +52,20 @@ fn store<F: OpenFile>(file: &F) -> Result<(), NotTaken> {
     }
 }
 
+/// Waits until the system has stored the regular file that a standard stream writes into. The system
+/// stores it by its name. Where that can't be opened, nothing is stored.
+#[inline(never)]
+fn store_named<R: Files>(rt: &R, path: &str) -> Result<(), NotTaken> {
+    // A pipe without a reader must not be opened: that would wait for one.
+    if !fs::metadata(rt, path).map_or(false, |metadata| metadata.is_file()) {
+        return Ok(());
+    }
+    match OpenOptions::new().append(true).open(rt, path) {
+        Ok(file) => store(&file),
+        Err(_) => Ok(()),
+    }
+}
+
 /// The state of a file that is created at its first write.
 #[derive(Drop)]
 enum State<F> {
@@ -50,7 +75,8 @@ enum State<F> {
 }
 
 /// A file that is created at its first write. So an older file at its path is untouched until there
-/// is something to write. Once it is created, it took what the sink of the file took.
+/// is something to write. Once it is created, it took what the sink of the file took. A path that
+/// names standard output or standard error is that stream as it is: nothing that it has is lost.
 #[derive(Drop)]
 pub struct NewFile<'a, R: Files> {
     rt: &'a R,
@@ -58,7 +84,7 @@ pub struct NewFile<'a, R: Files> {
     making: Making,
     place: Place,
     said: &'a Said,
-    state: State<Telling<'a, R::File>>,
+    state: State<Taker<'a, R::File>>,
     /// The name that the file has until it takes its place.
     spare: Option<Spare>,
     lacks_memory: bool,
@@ -74,7 +100,10 @@ impl<R: Files> fmt::Debug for NewFile<'_, R> {
     }
 }
 
-impl<'a, R: Files + AllocGlobal> NewFile<'a, R> {
+impl<'a, R: Files + AllocGlobal + RandomSource + StandardStreams> NewFile<'a, R>
+where
+    R::File: AsFd + AsRawFd + FileExt,
+{
     /// The file at this path. Nothing is done at the path yet. The sink is not broken. What the system
     /// says of the file goes to `said`.
     pub fn new(
@@ -84,7 +113,8 @@ impl<'a, R: Files + AllocGlobal> NewFile<'a, R> {
         place: Place,
         said: &'a Said,
     ) -> NewFile<'a, R>
-        ensures { ⟦<NewFile<'a, R> as Sink>⟧.is_broken result ≡ false }
+        ensures whole { ⟦<NewFile<'a, R> as Sink>⟧.is_broken result ≡ false }
+        ensures absent { result.state ≡ Absent }
     {
         NewFile {
             rt,
@@ -123,25 +153,42 @@ impl<'a, R: Files + AllocGlobal> NewFile<'a, R> {
         ensures { IfErr result (λ _. IsCreated self.now.state) }
     {
         match &self.state {
-            State::Created(out) => store(out.writer()),
-            _ => Ok(()),
+            State::Created(out) => match out.writer() {
+                Taker::File(file) => store(file),
+                Taker::Output(_) | Taker::Error(_) => store_named(self.rt, self.path),
+            },
+            State::Absent | State::Refused => Ok(()),
         }
     }
 
-    /// Gives the file its path, if it has another name so far. `Create` where the system refuses that;
-    /// nothing is left of the file then, and what was at the path is as it was.
-    pub fn take_place(&mut self) -> Result<(), ProgramFault>
+    /// Gives the file its path, if it has another name so far, and says whether that is stored. `Create`
+    /// where the system refuses that; nothing is left of the file then, and what was at the path is as
+    /// it was.
+    pub fn take_place(&mut self) -> Result<Placed, ProgramFault>
         ensures { IfErr result (λ fault. fault ≡ Create) }
     {
         let Some(spare) = self.spare.take() else {
-            return Ok(());
+            return Ok(Placed::Stored);
         };
-        if let Err(error) = spare.take_place(self.rt) {
-            self.said.keep(self.place, &error);
-            spare.remove(self.rt);
-            return Err(ProgramFault::Create);
+        match self.put_in_place(&spare) {
+            Ok(placed) => Ok(placed),
+            Err(error) => {
+                self.said.keep(self.place, &error);
+                spare.remove(self.rt);
+                Err(ProgramFault::Create)
+            }
         }
-        Ok(())
+    }
+
+    /// Puts the file in the place of what is there, unless that has the same bytes.
+    fn put_in_place(&self, spare: &Spare) -> io::Result<Placed> {
+        match &self.state {
+            State::Created(out) => match out.writer() {
+                Taker::File(file) => spare.take_place(self.rt, file.file()),
+                Taker::Output(_) | Taker::Error(_) => Ok(Placed::Stored),
+            },
+            State::Absent | State::Refused => Ok(Placed::Stored),
+        }
     }
 
     /// Removes the file, if it has another name so far.
@@ -152,19 +199,34 @@ impl<'a, R: Files + AllocGlobal> NewFile<'a, R> {
     }
 
     /// Opens the file to be written, as it is to be made.
-    fn open(&mut self) -> io::Result<R::File>
+    fn open(&mut self) -> io::Result<Taker<'a, R::File>>
         ensures broken { self.new.broken ≡ self.old.broken }
         ensures state { self.new.state ≡ self.old.state }
     {
-        match self.making {
-            Making::Overwrite => open_over(self.rt, self.path),
-            Making::New => open_new(self.rt, self.path),
-            Making::Replace => {
+        let file = match (self.making, Stream::named(self.path)) {
+            (Making::Overwrite, Some(stream)) => return self.open_stream(stream),
+            (Making::Replace, Some(_)) => return Err(no_such_stream()),
+            (Making::Overwrite, None) => open_over(self.rt, self.path)?,
+            (Making::New, _) => open_new(self.rt, self.path)?,
+            (Making::Replace, None) => {
                 let (spare, file) = Spare::create(self.rt, self.path)?;
                 self.spare = Some(spare);
-                Ok(file)
+                file
             }
-        }
+        };
+        Ok(Taker::File(Telling::new(file, self.place, self.said)))
+    }
+
+    /// A standard stream, to be written from where it stands.
+    fn open_stream(&self, stream: Stream) -> io::Result<Taker<'a, R::File>> {
+        let mut taker = match stream {
+            Stream::Input => return Err(no_such_stream()),
+            Stream::Output => Taker::Output(Telling::new(self.rt.output(), self.place, self.said)),
+            Stream::Error => Taker::Error(Telling::new(self.rt.error(), self.place, self.said)),
+        };
+        // A stream that was closed, or is open for reading alone, refuses this, too.
+        taker.write(&[])?;
+        Ok(taker)
     }
 
     /// Creates the file, unless that was tried before. What a created file took stays.
@@ -176,7 +238,7 @@ impl<'a, R: Files + AllocGlobal> NewFile<'a, R> {
     {
         if let State::Absent = &self.state {
             self.state = match self.open() {
-                Ok(file) => { State::Created(Out::new(Telling::new(file, self.place, self.said))) }
+                Ok(taker) => State::Created(Out::new(taker)),
                 Err(error) => {
                     self.said.keep(self.place, &error);
                     self.lacks_memory = error.kind() == ErrorKind::OutOfMemory;
@@ -187,16 +249,19 @@ impl<'a, R: Files + AllocGlobal> NewFile<'a, R> {
     }
 }
 
-impl<'a, R: Files + AllocGlobal> Sink for NewFile<'a, R> {
-    ghost taken = { λ s. taken_of ⟦<Out<Telling<'a, R::File>> as Sink>⟧.taken s.state };
+impl<'a, R: Files + AllocGlobal + RandomSource + StandardStreams> Sink for NewFile<'a, R>
+where
+    R::File: AsFd + AsRawFd + FileExt,
+{
+    ghost taken = { λ s. taken_of ⟦<Out<Taker<'a, R::File>> as Sink>⟧.taken s.state };
 
     ghost is_broken = { λ s. s.broken };
 
     fn put(&mut self, bytes: &[u8]) -> usize
         ensures bound { result ≤ length bytes.now }
         ensures takes { Appends
-            (taken_of ⟦<Out<Telling<'a, R::File>> as Sink>⟧.taken self.old.state)
-            (taken_of ⟦<Out<Telling<'a, R::File>> as Sink>⟧.taken self.new.state)
+            (taken_of ⟦<Out<Taker<'a, R::File>> as Sink>⟧.taken self.old.state)
+            (taken_of ⟦<Out<Taker<'a, R::File>> as Sink>⟧.taken self.new.state)
             (take result bytes.now) }
         ensures refuses { 0 < length bytes.now → result ≡ 0 → self.new.broken ≡ true }
         ensures whole { 0 < result → self.new.broken ≡ self.old.broken }
@@ -207,11 +272,34 @@ impl<'a, R: Files + AllocGlobal> Sink for NewFile<'a, R> {
         self.create();
         let count = match &mut self.state {
             State::Created(out) => out.put(bytes),
-            _ => 0,
+            State::Absent | State::Refused => 0,
         };
         if count == 0 && !bytes.is_empty() {
             self.broken = true;
         }
         count
+    }
+}
+
+/// Puts the file of a merge in its place, and then the one for its maps. Where the first is refused,
+/// `Create`, nothing is done with the second. If the path of the second leads to the first now, or the
+/// system refuses it, `Map` says so, and nothing is left of the second.
+pub fn place_both<'a, R: Files + AllocGlobal + RandomSource + StandardStreams>(
+    out: &mut NewFile<'a, R>,
+    map: &mut NewFile<'a, R>,
+) -> Result<Placed, ProgramFault>
+where
+    R::File: AsFd + AsRawFd + FileExt,
+    ensures kind { IfErr result (λ fault. (fault ≡ Create) ⊎ (fault ≡ Map MapFault.Create)) }
+    ensures first { result ≡ Err Create → map.new ≡ map.old }
+{
+    let placed = out.take_place()?;
+    if FileId::of(map.rt, map.path).is(map.rt, out.path) {
+        map.abandon();
+        return Err(ProgramFault::Map(MapFault::Create));
+    }
+    match map.take_place() {
+        Ok(other) => Ok(placed.with(other)),
+        Err(_) => Err(ProgramFault::Map(MapFault::Create)),
     }
 }

@@ -5,7 +5,7 @@ ghost use Rattle.std.specs.Prelude.{◌≡◌};
 use std::cell::Cell;
 use std::fmt;
 use std::fs::{FileTimes, Metadata, OpenFile, Permissions};
-use std::io::{self, Error, ErrorKind, Read, Seek, SeekFrom, Write};
+use std::io::{self, Error, Read, Seek, SeekFrom, Write};
 
 /// Which file a call to the system was about.
 #[derive(Clone, Copy, Debug, PartialEq, Eq)]
@@ -25,34 +25,12 @@ pub enum Place {
 /// Keeps what the system said when it last refused a call.
 #[derive(Drop)]
 pub struct Said {
-    last: Cell<Option<(Place, ErrorKind)>>,
+    last: Cell<Option<(Place, Error)>>,
 }
 
 impl fmt::Debug for Said {
     fn fmt<W: fmt::Write>(&self, f: &mut fmt::Formatter<W>) -> fmt::Result {
         f.debug_struct("Said").finish_non_exhaustive()
-    }
-}
-
-/// What sort of failure it was, in words, where that tells a user what to do.
-fn words_for(kind: ErrorKind) -> Option<&'static str> {
-    match kind {
-        ErrorKind::NotFound => Some("there is no such file or folder"),
-        ErrorKind::PermissionDenied => Some("permission denied"),
-        ErrorKind::AlreadyExists => Some("it is there already"),
-        ErrorKind::NotADirectory => Some("its path leads through what is no folder"),
-        ErrorKind::IsADirectory => Some("it is a folder"),
-        ErrorKind::ReadOnlyFilesystem => Some("the file system is read-only"),
-        ErrorKind::FilesystemLoop => Some("its path has too many symbolic links"),
-        ErrorKind::InvalidFilename => Some("its name is too long"),
-        ErrorKind::StorageFull => Some("no room is left on the device"),
-        ErrorKind::QuotaExceeded => Some("the quota is used up"),
-        ErrorKind::FileTooLarge => Some("the file would be too large"),
-        ErrorKind::BrokenPipe => Some("nobody reads the pipe"),
-        ErrorKind::InvalidInput => Some("its name has a byte of 0"),
-        ErrorKind::Unsupported => Some("it is no regular file"),
-        ErrorKind::ExecutableFileBusy => Some("it is a program that runs"),
-        _ => None,
     }
 }
 
@@ -66,14 +44,13 @@ impl Said {
 
     /// Keeps what the system said of a file.
     pub fn keep(&self, place: Place, error: &Error) {
-        self.last.set(Some((place, error.kind())));
+        self.last.set(Some((place, *error)));
     }
 
-    /// The file that the last refused call was about, and what the system said of it, in words. `None`
-    /// where no call was refused, or there are no words for what the system said.
-    pub fn last(&self) -> Option<(Place, &'static str)> {
-        let (place, kind) = self.last.get()?;
-        Some((place, words_for(kind)?))
+    /// The file that the last refused call was about, and what the system said of it. `None` where no
+    /// call was refused.
+    pub fn last(&self) -> Option<(Place, Error)> {
+        self.last.get()
     }
 }
 
@@ -99,6 +76,13 @@ impl<'a, F> Telling<'a, F> {
         ensures { result.file ≡ file }
     {
         Telling { file, place, said }
+    }
+
+    /// The file itself, which keeps nothing.
+    pub(crate) fn file(&self) -> &F
+        ensures { result.now ≡ self.now.file }
+    {
+        &self.file
     }
 
     /// The answer of a call, which is kept if it is a refusal.

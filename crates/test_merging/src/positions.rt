@@ -66,7 +66,13 @@ impl<'p> Inputs for Parts<'p> {
     }
 }
 
-impl<'p> BoundedInputs for Parts<'p> {}
+impl<'p> BoundedInputs for Parts<'p> {
+    ghost needs = { λ _ _. ⊥ };
+
+    fn is_needed(&self, _input: usize) -> bool {
+        false
+    }
+}
 
 /// The list of the types of files that are read by position.
 fn list_at<A: Allocator + Copy>(

@@ -89,8 +89,8 @@ pub fn merge_by_types<
 /// Merges those of some files that are accepted, and writes the file of their types into a sink. The
 /// others are left out, and the answer tells which, and why.
 ///
-/// A file that cannot be read is not left out: it is refused, and so are types that have more bytes
-/// together than the limit. `choice` says which GUID the file has. Everything else is as in
+/// A file that cannot be read is not left out: it is refused. So is one that is needed
+/// ([`BoundedInputs::is_needed`]), and so are types that have more bytes together than the limit. `choice` says which GUID the file has. Everything else is as in
 /// [`pdb_merge::merge_to_with`]: what is written, the maps, the order of the faults, and what stays.
 pub fn merge_accepted<
     I: BoundedInputs + Drop,
@@ -107,8 +107,8 @@ pub fn merge_accepted<
     hasher: S,
     maps: K,
 ) -> Result<SiftedFile<A, K>, OutFault<A>>
-    ensures { SiftsTo (I.known files) choice settings.now K.maps W.taken W.is_broken
-        out.old out.new result }
+    ensures { SiftsTo (I.known files) (I.needs files) choice settings.now K.maps W.taken
+        W.is_broken out.old out.new result }
 {
     let Sifted {
         canon,

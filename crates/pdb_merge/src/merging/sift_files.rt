@@ -1,13 +1,12 @@
 //! The types of those of several files that are accepted.
 
-ghost use Rattle.std.specs.Prelude.{◌≡◌, ◌<◌, ◌≤◌, ◌+◌, ◌^◌, ◌++◌, ◌∷◌, [], ℕ, List, length, take, OnOk, IfOk, IfErr, IfSome};
+ghost use Rattle.std.specs.Prelude.{◌≡◌, ◌<◌, ◌≤◌, ◌+◌, ◌^◌, ◌++◌, ◌∷◌, [], ℕ, List, length, OnOk, IfOk, IfErr, IfSome};
 ghost use Rattle.std.specs.List.{concat};
 ghost use Rattle.byte_io.specs.Inputs.{CanRead, Give};
-ghost use Rattle.closed_trees.specs.Tree.{IsType};
 ghost use Rattle.canonical_list.specs.Finish.{IsCanonOf};
 ghost use Rattle.pdb_info.specs.Settings.{record_limit};
 ghost use Rattle.pdb_merge.specs.Answer.{AcceptsFiles};
-ghost use Rattle.pdb_merge.specs.Sift.{AreListed, AreMapsBut, HasSifted, LeavesOut, RefusesSift};
+ghost use Rattle.pdb_merge.specs.Sift.{AreListed, AreMapsBut, AreSpared, LeavesOut, RefusesSift, SiftsUpTo};
 ghost use Rattle.pdb_merge.specs.Union.{HasType, Within};
 ghost use Rattle.type_table.specs.Maps.{with_map};
 
@@ -61,7 +60,8 @@ fn leave_out<S: BuildHasher, A: Allocator + Copy, K: KeepMaps>(
     Ok(())
 }
 
-/// Adds the types of the file at a position, or leaves the file out if it has a fault of its own.
+/// Adds the types of the file at a position, or leaves the file out if it has a fault of its own and
+/// is not needed.
 fn sift_input<I: BoundedInputs, S: BuildHasher, A: Allocator + Copy, K: KeepMaps>(
     alloc: A,
     inputs: &I,
@@ -72,23 +72,20 @@ fn sift_input<I: BoundedInputs, S: BuildHasher, A: Allocator + Copy, K: KeepMaps
 ) -> Result<(), MergeFault<A>>
     requires few { input + 1 < 2 ^ 64 }
     requires inside { IfSome (I.known inputs.now) (λ each. input < length each) }
-    requires before { IfSome (I.known inputs.now) (λ each. CanRead each input) }
-    ensures value { (files : List (List ℕ)) → Give (I.known inputs.now) files →
-        HasSifted merge.old (take input files) left_out.old.items →
-        OnOk result (HasSifted merge.new (take (input + 1) files) left_out.new.items) }
-    ensures listed { AreListed input left_out.old.items →
-        OnOk result (AreListed (input + 1) left_out.new.items) }
-    ensures within { Within (IsType merge.old.types) merge.old.limit →
-        OnOk result (Within (IsType merge.new.types) merge.new.limit) }
-    ensures read { OnOk result (IfSome (I.known inputs.now) (λ each. CanRead each (input + 1))) }
+    requires so_far { SiftsUpTo (I.known inputs.now) (I.needs inputs.now) input merge.old
+        left_out.old.items }
+    ensures next { OnOk result (SiftsUpTo (I.known inputs.now) (I.needs inputs.now) (input + 1)
+        merge.new left_out.new.items) }
     ensures limit { merge.new.limit ≡ merge.old.limit }
-    ensures refuses { ((files : List (List ℕ)) → Give (I.known inputs.now) files →
-        HasSifted merge.old (take input files) left_out.old.items) →
-        IfErr result (RefusesSift (I.known inputs.now) merge.old.limit) }
+    ensures refuses { IfErr result
+        (RefusesSift (I.known inputs.now) (I.needs inputs.now) merge.old.limit) }
 {
     let Err(fault) = add_own(alloc, inputs, input, buffer, merge) else {
         return Ok(());
     };
+    if inputs.is_needed(input) {
+        return Err(refuse(inputs, input, fault));
+    }
     match fault.refused() {
         Ok(fault) => {
             let one = LeftOut { file: input, fault };
@@ -105,8 +102,10 @@ fn sift_input<I: BoundedInputs, S: BuildHasher, A: Allocator + Copy, K: KeepMaps
 /// the list, and the files that were left out, because they are not.
 ///
 /// The files are read one at a time, in order. A file that cannot be read is refused first, `Input`.
-/// Then comes `TooLarge`, where the types so far, with those of this file, have more bytes than the
-/// limit of the settings. Both name the file by its position, from 0. `Memory` is out of memory.
+/// Then come, of the file at which the merge stands, `Refused`, where it is not accepted and must not
+/// be left out ([`BoundedInputs::is_needed`]); and `TooLarge`, where the types so far, with those of
+/// this file, have more bytes than the limit of the settings. These name the file by its position,
+/// from 0. `Memory` is out of memory.
 ///
 /// [`TypeMaps`](crate::TypeMaps) keeps the maps, in four bytes for each record of all files, and
 /// [`NoMaps`](crate::NoMaps) keeps none. Everything else is as in
@@ -137,10 +136,12 @@ pub fn sift_files<
     ensures read { OnOk result (IfSome (I.known files) (λ each. CanRead each (length each))) }
     // Whatever is known of the files, each is left out once, in their order.
     ensures listed { IfOk result (λ sifted. (n : ℕ) × AreListed n sifted.left_out.items) }
+    ensures spared { IfOk result (λ sifted. AreSpared (I.needs files) sifted.left_out.items) }
     // If no file is left out, all are accepted.
     ensures accepts { IfOk result (λ sifted.
         sifted.left_out.items ≡ [] → AcceptsFiles (I.known files) (record_limit settings.now)) }
-    ensures refuses { IfErr result (RefusesSift (I.known files) (record_limit settings.now)) }
+    ensures refuses { IfErr result
+        (RefusesSift (I.known files) (I.needs files) (record_limit settings.now)) }
 {
     let mut merge = Merge::with_maps(alloc, settings.record_limit(), hasher, maps);
     let mut left_out = Vec::new(alloc);

@@ -20,6 +20,7 @@ returns-in-Ok g c =
           (ok.value given gives) c.in-Ok.ensures.value (ok.left given gives) (ok.maps given gives);
       read = ok.read;
       listed = ok.listed;
+      spared = ok.spared;
       accepts = ok.accepts;
       refuses = tt;
       late = tt;
@@ -39,6 +40,7 @@ returns g c =
       value = λ given gives. tt;
       read = tt;
       listed = tt;
+      spared = tt;
       accepts = tt;
       refuses = λ inner is. elim c.in-Err.ensures.fault [ inl memory ↦ absurd cc | inr wrote ↦ absurd cc ];
       late = λ none. ok.read;

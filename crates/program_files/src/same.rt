@@ -1,12 +1,13 @@
 //! Whether two paths name one file.
 
+use std::alloc::AllocError;
 use std::fs;
 use std::os::unix::fs::MetadataExt;
 use std::rt::Files;
 
 /// What tells one file from another: its path, and where there is such a file, its device and its
 /// number there.
-#[derive(Drop)]
+#[derive(Debug, Drop)]
 pub struct FileId<'a> {
     path: &'a str,
     number: Option<(u64, u64)>,
@@ -43,4 +44,17 @@ pub fn is_one_of<R: Files>(rt: &R, file: &FileId<'_>, paths: &[String]) -> bool 
         }
     }
     false
+}
+
+/// Which of these paths name a file.
+pub fn are_file<R: Files + AllocGlobal>(
+    rt: &R,
+    file: &FileId<'_>,
+    paths: &[String],
+) -> Result<Vec<bool>, AllocError> {
+    let mut are = Vec::with_capacity(rt.alloc(), paths.len())?;
+    for path in paths {
+        are.push(file.is(rt, path.as_str()))?;
+    }
+    Ok(are)
 }
