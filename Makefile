@@ -69,7 +69,7 @@ wrong-bodies:
 # them over the libraries, by the program of campaign_driver. Of tests/inputs and tests/spread the clock is a
 # part, so that they run alone.
 SCRIPTS := tools/archive tests/dist tests/library tests/failures tests/campaign crates/campaign_driver tests/driver \
-	tests/surroundings tests/answers tests/outputs tests/program tests/examples examples/differences tests/rows \
+	tests/surroundings tests/answers tests/outputs tests/places tests/program tests/examples examples/differences tests/rows \
 	tests/explain tests/guid tests/maps tests/difference tests/members tests/changes tests/position \
 	tests/streams tests/faults tests/cookbook tests/manual tests/help tests/wrong_bodies \
 	tools/figures tools/readmes tools/faults tools/stale tools/lint

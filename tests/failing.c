@@ -1,6 +1,7 @@
 /* A library that lets one call of a process fail, for tests/failures. It is loaded by LD_PRELOAD.
  *
- * FAILING names the call: memory, open, stat, seek, read, write, sync, random, rename, chmod or chown. FAILING_AT is its number,
+ * FAILING names the call: memory, open, stat, seek, read, write, sync, random, rename, chmod or chown, or by_name for
+ * one that gives rights or an owner to a path. FAILING_AT is its number,
  * counted from 1 over the calls of this kind; that call fails, and all others are passed on. Where
  * FAILING is `reads`, all reads after it fail too. A write to standard error is not counted. If FAILING_ZERO is set, the write doesn't fail, but takes no bytes.
  * FAILING_TOLD names a file that is made when the call comes. FAILING_MOST is the most bytes that a
@@ -16,9 +17,9 @@
 #include <sys/syscall.h>
 #include <unistd.h>
 
-enum kind { MEMORY, OPEN, STAT, SEEK, READ, WRITE, SYNC, RANDOM, RENAME, CHMOD, CHOWN, KINDS };
+enum kind { MEMORY, OPEN, STAT, SEEK, READ, WRITE, SYNC, RANDOM, RENAME, CHMOD, CHOWN, BY_NAME, KINDS };
 static const char *const names[KINDS] = {"memory", "open",   "stat",   "seek",  "read", "write",
-                                         "sync",   "random", "rename", "chmod", "chown"};
+                                         "sync",   "random", "rename", "chmod", "chown", "by_name"};
 static unsigned long counts[KINDS], fails_at[KINDS];
 static int all_reads;
 static const char *told;
@@ -125,8 +126,16 @@ int fchmod(int file, mode_t mode) {
     return fails(CHMOD) ? failed(EPERM) : syscall(SYS_fchmod, file, mode);
 }
 
+int fchown(int file, uid_t user, gid_t group) {
+    return fails(CHOWN) ? failed(EPERM) : syscall(SYS_fchown, file, user, group);
+}
+
+int chmod(const char *path, mode_t mode) {
+    return fails(BY_NAME) ? failed(EPERM) : syscall(SYS_chmod, path, mode);
+}
+
 int chown(const char *path, uid_t user, gid_t group) {
-    return fails(CHOWN) ? failed(EPERM) : syscall(SYS_chown, path, user, group);
+    return fails(BY_NAME) ? failed(EPERM) : syscall(SYS_chown, path, user, group);
 }
 
 int getentropy(void *bytes, size_t size) {

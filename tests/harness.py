@@ -301,9 +301,9 @@ def quoted(path):
 
 # What the system says, in words, and what it says in the usual runs: there is no file, it is a folder, or the device is
 # full.
-MISSING_FILE, FOLDER, FULL = 'there is no such file or folder', 'it is a folder', 'no room is left on the device'
+MISSING_FILE, FOLDER, FULL = 'No such file or directory', 'Is a directory', 'No space left on device'
 THERE, NO_FOLDER, NOT_REGULAR = (
-    'it is there already', 'its path leads through what is no folder', 'it is no regular file')
+    'File exists', 'Not a directory', 'it is no regular file')
 USUAL = {36: FULL, 37: FOLDER, 40: MISSING_FILE, 41: MISSING_FILE}
 
 
