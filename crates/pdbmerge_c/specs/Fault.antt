@@ -1,5 +1,5 @@
 -- What a call says of its fault.
-use Rattle.std.specs.Prelude.{ℕ, ◌≡◌, ◌≢◌, ◌<◌, ◌≤◌, List, Option, Some, None, get_or, slice_get}
+use Rattle.std.specs.Prelude.{ℕ, ◌≡◌, ◌≢◌, ◌<◌, ◌≤◌, ◌+◌, List, Option, Some, None, get_or, slice_get}
 use Rattle.pdbmerge_c.specs.declared.fault.Fault.{Fault}
 
 -- what stands for no input, and for the length of no name: the highest number of eight bytes
@@ -30,6 +30,12 @@ pub record Tells {Why : Type 0} (IsFault : Why → Type 0) (number_of : Why → 
   pub why : Why
   pub is_fault : IsFault why
   pub told : IsTold fault (number_of why) no_number
+
+-- a number of bytes, and then of as many more, up to the highest number
+pub record IsCounted (old more new : ℕ) : Type 0 where
+  pub none : more ≡ 0 → new ≡ old
+  pub fits : old + more ≤ no_number → new ≡ old + more
+  pub full : 0 < more → no_number < old + more → new ≡ no_number
 
 -- these bytes are the first 235 of a text that has so many bytes and no NUL, and then NULs
 pub record AreFirst (kept : List ℕ) (many : ℕ) : Type 0 where

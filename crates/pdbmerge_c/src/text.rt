@@ -1,6 +1,7 @@
 //! The text of a fault, as far as it is kept. It does not allocate.
 
-ghost use Rattle.pdbmerge_c.specs.Fault.{AreFirst};
+ghost use Rattle.std.specs.Prelude.{length};
+ghost use Rattle.pdbmerge_c.specs.Fault.{AreFirst, IsCounted};
 
 use std::fmt;
 use std::marker::Model;
@@ -37,7 +38,9 @@ impl Text {
     }
 
     /// Takes one byte more. A byte that does not fit is counted, and not kept.
-    fn push(&mut self, byte: u8) {
+    fn push(&mut self, byte: u8)
+        ensures { IsCounted self.old 1 self.new }
+    {
         if self.many < MOST_TEXT {
             self.kept[self.many] = if byte == 0 { b' ' } else { byte };
         }
@@ -54,7 +57,9 @@ impl Text {
 }
 
 impl fmt::Write for Text {
-    fn write_str(&mut self, text: &str) -> fmt::Result {
+    fn write_str(&mut self, text: &str) -> fmt::Result
+        ensures { IsCounted self.old (length text.now) self.new }
+    {
         for byte in text.bytes() {
             self.push(byte);
         }
