@@ -1,22 +1,35 @@
 # Completion of pdbmerge for bash. It needs only builtins.
 
-# Offers the files that end in .pdb, and the folders.
-_pdbmerge_files() { # WORD
+# Offers the paths that compgen finds. One may have line feeds. So // stands behind each: no path ends so.
+_pdbmerge_paths() { # COMPGEN-WORDS..
+    local line path=
     # This fails where no completion is under way, as in a test.
     compopt -o filenames 2>/dev/null
-    mapfile -t COMPREPLY < <(compgen -f -X '!*.pdb' -- "$1"; compgen -d -- "$1")
+    while IFS= read -r line; do
+        path+=$line
+        if [[ $path == *// ]]; then
+            COMPREPLY+=("${path%//}")
+            path=
+        else
+            path+=$'\n'
+        fi
+    done < <(compgen -S // "$@")
+}
+
+# Offers the files that end in .pdb, and the folders.
+_pdbmerge_files() { # WORD
+    _pdbmerge_paths -f -X '!*.pdb' -- "$1"
+    _pdbmerge_paths -d -- "$1"
 }
 
 # Offers the folders.
 _pdbmerge_folders() { # WORD
-    compopt -o filenames 2>/dev/null
-    mapfile -t COMPREPLY < <(compgen -d -- "$1")
+    _pdbmerge_paths -d -- "$1"
 }
 
 # Offers all files and folders.
 _pdbmerge_any_files() { # WORD
-    compopt -o filenames 2>/dev/null
-    mapfile -t COMPREPLY < <(compgen -f -- "$1")
+    _pdbmerge_paths -f -- "$1"
 }
 
 # Offers those of the given words that begin as WORD does.
