@@ -12,12 +12,13 @@
 
 /* ---- Errors */
 
-/* Linux's numbers of those errors that the program tells from others, or has words for. */
+/* Linux's numbers of the errors that are told here. */
 enum {
     LINUX_ENOENT = 2,
     LINUX_EIO = 5,
     LINUX_EBADF = 9,
     LINUX_EACCES = 13,
+    LINUX_EBUSY = 16,
     LINUX_EEXIST = 17,
     LINUX_ENOTDIR = 20,
     LINUX_EISDIR = 21,
@@ -50,9 +51,9 @@ static int linux_error(DWORD error) {
         case ERROR_INVALID_DRIVE:
         case ERROR_BAD_NETPATH:
         case ERROR_BAD_NET_NAME: return LINUX_ENOENT;
-        case ERROR_ACCESS_DENIED:
+        case ERROR_ACCESS_DENIED: return LINUX_EACCES;
         case ERROR_SHARING_VIOLATION:
-        case ERROR_LOCK_VIOLATION: return LINUX_EACCES;
+        case ERROR_LOCK_VIOLATION: return LINUX_EBUSY;
         case ERROR_FILE_EXISTS:
         case ERROR_ALREADY_EXISTS: return LINUX_EEXIST;
         case ERROR_DIRECTORY: return LINUX_ENOTDIR;
@@ -76,6 +77,32 @@ static int fail_with(int error) {
 /* Fails with what Windows said last. */
 static int fail(void) {
     return fail_with(linux_error(GetLastError()));
+}
+
+/* The words of glibc for an error. */
+static const char *words_of(int error) {
+    switch (error) {
+        case LINUX_ENOENT: return "No such file or directory";
+        case LINUX_EIO: return "Input/output error";
+        case LINUX_EBADF: return "Bad file descriptor";
+        case LINUX_EACCES: return "Permission denied";
+        case LINUX_EBUSY: return "Device or resource busy";
+        case LINUX_EEXIST: return "File exists";
+        case LINUX_ENOTDIR: return "Not a directory";
+        case LINUX_EISDIR: return "Is a directory";
+        case LINUX_ENOSPC: return "No space left on device";
+        case LINUX_EROFS: return "Read-only file system";
+        case LINUX_EPIPE: return "Broken pipe";
+        case LINUX_ENAMETOOLONG: return "File name too long";
+        case LINUX_ENOSYS: return "Function not implemented";
+        default: return "Unknown error";
+    }
+}
+
+/* Where the words are longer than the room, it gets the first of them, and no 0. */
+int __xpg_strerror_r(int error, char *to, size_t room) {
+    strncpy(to, words_of(error), room);
+    return 0;
 }
 
 /* ---- Arguments */
@@ -209,7 +236,7 @@ typedef struct {
 _Static_assert(sizeof(statx_answer) == 256 && offsetof(statx_answer, device_major) == 136, "as on Linux");
 
 /* Linux's kinds of files. */
-enum { A_PIPE = 0010000, A_DEVICE = 0020000, A_FOLDER = 0040000, A_FILE = 0100000 };
+enum { A_PIPE = 0010000, A_DEVICE = 0020000, A_FOLDER = 0040000, A_FILE = 0100000, A_LINK = 0120000 };
 
 /* Whether two handles are of one open file. Windows can tell since version 10. */
 static int is_same(HANDLE one, HANDLE other) {
@@ -253,7 +280,7 @@ static int describe(HANDLE handle, statx_answer *to) {
 /* ---- Files */
 
 /* The sets of flags with which the program opens a file. */
-enum { TO_READ = 0x80100, TO_OVERWRITE = 0x80341, TO_CREATE = 0x801c2 };
+enum { TO_READ = 0x80100, TO_OVERWRITE = 0x80341, TO_APPEND = 0x80501, TO_CREATE = 0x801c2 };
 
 static HANDLE failed_with(DWORD error) {
     SetLastError(error);
@@ -270,6 +297,9 @@ enum { AS_FOLDER_TOO = FILE_FLAG_BACKUP_SEMANTICS, AS_LINK = FILE_FLAG_OPEN_REPA
 
 /* Opens a file, and locks nobody out. Of a folder that is to be overwritten Windows says that access is denied. */
 static HANDLE opened(const char *name, DWORD access, DWORD creation, DWORD flags) {
+    /* No file of this disk is taken for what Linux tells there of open files. */
+    if (strncmp(name, "/proc/self/fdinfo/", 18) == 0)
+        return failed_with(ERROR_FILE_NOT_FOUND);
     const wchar_t *wide = widened(strcmp(name, "/dev/null") == 0 ? "NUL" : name);
     DWORD shared = FILE_SHARE_READ | FILE_SHARE_WRITE | FILE_SHARE_DELETE;
     if (wide == NULL)
@@ -283,41 +313,41 @@ static HANDLE opened(const char *name, DWORD access, DWORD creation, DWORD flags
 
 /* Creates a file that is not there. A device always is, and so is a link to nothing. */
 static int created(const char *name) {
-    HANDLE handle = opened(name, GENERIC_WRITE, CREATE_NEW, AS_LINK);
+    HANDLE handle = opened(name, GENERIC_READ | GENERIC_WRITE, CREATE_NEW, AS_LINK);
     if (handle == INVALID_HANDLE_VALUE || GetFileType(handle) == FILE_TYPE_DISK)
         return numbered(handle);
     CloseHandle(handle);
     return fail_with(LINUX_EEXIST);
 }
 
-/* Opens a standard stream once more. A file is read from its start, and what is written to it is all that it has. A
- * stream that was closed is a folder since the program began. */
-static HANDLE opened_again(HANDLE stream, int is_written) {
-    LARGE_INTEGER start = {.QuadPart = 0};
+/* Opens a standard stream once more, where it stands. */
+static HANDLE copied(HANDLE stream) {
     HANDLE self = GetCurrentProcess(), copy;
-    statx_answer is;
-    if (describe(stream, &is) != 0)
-        return INVALID_HANDLE_VALUE;
-    if (is_written && is.mode == A_FOLDER)
-        return failed_with(IS_FOLDER);
-    if (is.mode == A_FILE) {
-        SetFilePointerEx(stream, start, NULL, FILE_BEGIN);
-        if (is_written && is.size != 0 && !SetEndOfFile(stream))
-            return INVALID_HANDLE_VALUE;
-    }
     return DuplicateHandle(self, stream, self, &copy, 0, FALSE, DUPLICATE_SAME_ACCESS) ? copy : INVALID_HANDLE_VALUE;
 }
 
+/* Opens a standard stream once more. A file is read from its start. A stream that was closed is a folder since the
+ * program began. */
+static HANDLE opened_again(HANDLE stream) {
+    LARGE_INTEGER start = {.QuadPart = 0};
+    if (GetFileType(stream) == FILE_TYPE_DISK)
+        SetFilePointerEx(stream, start, NULL, FILE_BEGIN);
+    return copied(stream);
+}
+
 int open(const char *name, int flags, ...) {
-    int standard = standard_of(name), is_written = flags == TO_OVERWRITE;
+    int standard = standard_of(name);
     if (flags == TO_CREATE)
         return standard >= 0 ? fail_with(LINUX_EEXIST) : created(name);
-    if (flags != TO_READ && !is_written)
-        return fail_with(LINUX_EIO);
-    if (standard >= 0)
-        return numbered(opened_again(files[standard], is_written));
-    return numbered(is_written ? opened(name, GENERIC_WRITE, CREATE_ALWAYS, FILE_ATTRIBUTE_NORMAL)
-                               : opened(name, GENERIC_READ, OPEN_EXISTING, AS_FOLDER_TOO));
+    if (flags == TO_READ)
+        return numbered(standard >= 0 ? opened_again(files[standard])
+                                      : opened(name, GENERIC_READ, OPEN_EXISTING, AS_FOLDER_TOO));
+    if (flags == TO_OVERWRITE && standard < 0)
+        return numbered(opened(name, GENERIC_WRITE, CREATE_ALWAYS, FILE_ATTRIBUTE_NORMAL));
+    /* The program writes a stream by its number, and opens it only to have it stored. */
+    if (flags == TO_APPEND && standard >= 0)
+        return numbered(copied(files[standard]));
+    return fail_with(LINUX_EIO);
 }
 
 /* How many bytes are moved at a time. A console of an old Windows takes fewer than 64 KiB. */
@@ -347,9 +377,10 @@ int64_t read(int number, uint8_t *to, size_t room) {
 int64_t write(int number, const uint8_t *from, size_t length) {
     HANDLE handle = handle_of(number);
     DWORD count;
-    /* The reader of a pipe would take a write of no bytes for the end. */
-    if (length == 0)
-        return 0;
+    /* A write of no bytes asks whether there is anything to write to. Windows tells that of what is on a disk. The
+     * reader of a pipe would take such a write for the end. */
+    if (length == 0 && GetFileType(handle) != FILE_TYPE_DISK)
+        return handle != NULL ? 0 : fail_with(LINUX_EBADF);
     return WriteFile(handle, from, piece(handle, length), &count, NULL) ? (int64_t)count
                                                                         : fail_of(handle, LINUX_EBADF);
 }
@@ -363,8 +394,22 @@ int64_t lseek(int number, int64_t offset, int whence) {
     return position.QuadPart;
 }
 
+/* The position of the file is put back. */
+int64_t pread(int number, uint8_t *to, size_t room, int64_t offset) {
+    int64_t position = lseek(number, 0, FILE_CURRENT);
+    if (position < 0 || lseek(number, offset, FILE_BEGIN) < 0)
+        return -1;
+    int64_t count = read(number, to, room);
+    return lseek(number, position, FILE_BEGIN) < 0 ? -1 : count;
+}
+
+/* Windows stores no folder by itself. Nothing is left to store of one: `rename` has waited for its new name. */
 int fsync(int number) {
-    return FlushFileBuffers(handle_of(number)) ? 0 : fail();
+    HANDLE handle = handle_of(number);
+    statx_answer is;
+    if (describe(handle, &is) == 0 && is.mode == A_FOLDER)
+        return 0;
+    return FlushFileBuffers(handle) ? 0 : fail();
 }
 
 /* The program asks for none of the next three. The kit has them in one function with `fsync` and `fchmod`. */
@@ -382,11 +427,14 @@ int flock(int number, int how) {
     return fail_with(LINUX_ENOSYS);
 }
 
+/* A file that is asked for without following links counts as a link. So the program asks `realpath` of each OUT that
+ * is there, and gets its path with slashes, behind the last of which it makes the new one. */
 int statx(int number, const char *name, int flags, unsigned mask, statx_answer *to) {
     (void)mask;
     int standard = standard_of(name);
     /* Linux's AT_SYMLINK_NOFOLLOW. */
-    DWORD how = flags & 0x100 ? AS_FOLDER_TOO | AS_LINK : AS_FOLDER_TOO;
+    int is_of_link = (flags & 0x100) != 0;
+    DWORD how = is_of_link ? AS_FOLDER_TOO | AS_LINK : AS_FOLDER_TOO;
     if (name[0] == 0 && number >= 0)
         return describe(handle_of(number), to);
     if (standard >= 0)
@@ -396,6 +444,8 @@ int statx(int number, const char *name, int flags, unsigned mask, statx_answer *
         return fail();
     int answer = describe(handle, to);
     CloseHandle(handle);
+    if (is_of_link)
+        to->mode = A_LINK;
     return answer;
 }
 
@@ -411,8 +461,15 @@ int fchmod(int number, unsigned mode) {
     return 0;
 }
 
-int chown(const char *name, unsigned user, unsigned group) {
-    (void)name, (void)user, (void)group;
+/* A file is given to nobody. */
+int fchown(int number, unsigned user, unsigned group) {
+    (void)number, (void)user, (void)group;
+    return fail_with(LINUX_ENOSYS);
+}
+
+/* The program asks for the number of its process so, where there are no random bytes. */
+int64_t readlink(const char *name, uint8_t *to, size_t room) {
+    (void)name, (void)to, (void)room;
     return fail_with(LINUX_ENOSYS);
 }
 
@@ -459,7 +516,8 @@ static void keep_rights(const wchar_t *name, const wchar_t *old, DWORD attribute
         SetFileAttributesW(name, kept | FILE_ATTRIBUTE_ARCHIVE);
 }
 
-/* A file that is read-only is not replaced. A new one may have to be moved to another disk. */
+/* A file that is read-only is not replaced. A new one may have to be moved to another disk. This waits until the disk
+ * has the new name, so that `fsync` need not store a folder. */
 int rename(const char *from, const char *to) {
     static wchar_t name[MARK + MOST_WHOLE];
     const wchar_t *wide = widened(from);
