@@ -4,6 +4,7 @@
  * Windows' own calls. Nothing proves them: README.md has the contract of each beside what is done here. The program
  * has one thread. Names and arguments are UTF-8, and no byte of a file is changed. */
 #include <cpuid.h>
+#include <stdarg.h>
 #include <stddef.h>
 #include <stdint.h>
 #include <string.h>
@@ -295,8 +296,9 @@ static int is_folder(const wchar_t *name) {
 /* How a file is opened. Without the first flag no folder can be read. With the second one a link is not followed. */
 enum { AS_FOLDER_TOO = FILE_FLAG_BACKUP_SEMANTICS, AS_LINK = FILE_FLAG_OPEN_REPARSE_POINT };
 
-/* Opens a file, and locks nobody out. Of a folder that is to be overwritten Windows says that access is denied. */
-static HANDLE opened(const char *name, DWORD access, DWORD creation, DWORD flags) {
+/* Opens a file, and locks nobody out. A new one has these rights, or those of its folder. Of a folder that is to be
+ * overwritten Windows says that access is denied. */
+static HANDLE opened_with(const char *name, DWORD access, DWORD creation, DWORD flags, SECURITY_ATTRIBUTES *rights) {
     /* No file of this disk is taken for what Linux tells there of open files. */
     if (strncmp(name, "/proc/self/fdinfo/", 18) == 0)
         return failed_with(ERROR_FILE_NOT_FOUND);
@@ -304,16 +306,49 @@ static HANDLE opened(const char *name, DWORD access, DWORD creation, DWORD flags
     DWORD shared = FILE_SHARE_READ | FILE_SHARE_WRITE | FILE_SHARE_DELETE;
     if (wide == NULL)
         return INVALID_HANDLE_VALUE;
-    HANDLE handle = CreateFileW(wide, access, shared, NULL, creation, flags, NULL);
+    HANDLE handle = CreateFileW(wide, access, shared, rights, creation, flags, NULL);
     DWORD error = GetLastError();
     if (handle == INVALID_HANDLE_VALUE && creation == CREATE_ALWAYS && is_folder(wide))
         error = IS_FOLDER;
     return handle == INVALID_HANDLE_VALUE ? failed_with(error) : handle;
 }
 
-/* Creates a file that is not there. A device always is, and so is a link to nothing. */
-static int created(const char *name) {
-    HANDLE handle = opened(name, GENERIC_READ | GENERIC_WRITE, CREATE_NEW, AS_LINK);
+static HANDLE opened(const char *name, DWORD access, DWORD creation, DWORD flags) {
+    return opened_with(name, access, creation, flags, NULL);
+}
+
+/* Rights for the user of the program alone. NULL where Windows doesn't tell who that is. */
+static SECURITY_ATTRIBUTES *own_rights(void) {
+    static union {
+        TOKEN_USER is;
+        uint8_t room[sizeof(TOKEN_USER) + SECURITY_MAX_SID_SIZE];
+    } user;
+    static union {
+        ACL is;
+        uint8_t room[sizeof(ACL) + sizeof(ACCESS_ALLOWED_ACE) + SECURITY_MAX_SID_SIZE];
+    } list;
+    static SECURITY_DESCRIPTOR rights;
+    static SECURITY_ATTRIBUTES given = {sizeof given, &rights, FALSE};
+    HANDLE token;
+    DWORD length;
+    if (!OpenProcessToken(GetCurrentProcess(), TOKEN_QUERY, &token))
+        return NULL;
+    int is_told = GetTokenInformation(token, TokenUser, &user, sizeof user, &length);
+    CloseHandle(token);
+    /* Without the last one Windows adds the rights that the folder has for its files. */
+    is_told = is_told && InitializeAcl(&list.is, sizeof list, ACL_REVISION) &&
+              AddAccessAllowedAce(&list.is, ACL_REVISION, FILE_ALL_ACCESS, user.is.User.Sid) &&
+              InitializeSecurityDescriptor(&rights, SECURITY_DESCRIPTOR_REVISION) &&
+              SetSecurityDescriptorDacl(&rights, TRUE, &list.is, FALSE) &&
+              SetSecurityDescriptorControl(&rights, SE_DACL_PROTECTED, SE_DACL_PROTECTED);
+    return is_told ? &given : NULL;
+}
+
+/* Creates a file that is not there. A device always is, and so is a link to nothing. Of the mode only this is kept:
+ * whether others than the owner may have the file. */
+static int created(const char *name, unsigned mode) {
+    SECURITY_ATTRIBUTES *rights = mode & 077 ? NULL : own_rights();
+    HANDLE handle = opened_with(name, GENERIC_READ | GENERIC_WRITE, CREATE_NEW, AS_LINK, rights);
     if (handle == INVALID_HANDLE_VALUE || GetFileType(handle) == FILE_TYPE_DISK)
         return numbered(handle);
     CloseHandle(handle);
@@ -337,8 +372,13 @@ static HANDLE opened_again(HANDLE stream) {
 
 int open(const char *name, int flags, ...) {
     int standard = standard_of(name);
-    if (flags == TO_CREATE)
-        return standard >= 0 ? fail_with(LINUX_EEXIST) : created(name);
+    if (flags == TO_CREATE) {
+        va_list more;
+        va_start(more, flags);
+        unsigned mode = va_arg(more, unsigned);
+        va_end(more);
+        return standard >= 0 ? fail_with(LINUX_EEXIST) : created(name, mode);
+    }
     if (flags == TO_READ)
         return numbered(standard >= 0 ? opened_again(files[standard])
                                       : opened(name, GENERIC_READ, OPEN_EXISTING, AS_FOLDER_TOO));
