@@ -3,8 +3,9 @@
  * usage: start INPUT OUTPUT ERRORS COMMAND-LINE
  *
  * INPUT, OUTPUT and ERRORS are files. "-" is a stream that is closed, and "|" a pipe: what comes out of it goes to
- * standard output. ERRORS may be "=", which is the stream of OUTPUT. In COMMAND-LINE an @ stands for one half of a
- * surrogate pair. The status is that of the program. */
+ * standard output. A stream of "+NAME" follows what the file has, and one of "<NAME" can only be read. ERRORS may be
+ * "=", which is the stream of OUTPUT. In COMMAND-LINE an @ stands for one half of a surrogate pair. The status is that
+ * of the program. */
 #include <windows.h>
 
 static HANDLE pipe_end;
@@ -19,8 +20,13 @@ static HANDLE stream_of(const wchar_t *name, DWORD access, DWORD creation) {
         SetHandleInformation(pipe_end, HANDLE_FLAG_INHERIT, 0);
         return handle;
     }
-    return CreateFileW(name, access, FILE_SHARE_READ | FILE_SHARE_WRITE | FILE_SHARE_DELETE, &inherited, creation,
-                       FILE_ATTRIBUTE_NORMAL, NULL);
+    int is_followed = name[0] == L'+', is_read = name[0] == L'<';
+    handle = CreateFileW(name + (is_followed || is_read), is_read ? GENERIC_READ : access,
+                         FILE_SHARE_READ | FILE_SHARE_WRITE | FILE_SHARE_DELETE, &inherited,
+                         is_followed || is_read ? OPEN_EXISTING : creation, FILE_ATTRIBUTE_NORMAL, NULL);
+    if (is_followed)
+        SetFilePointer(handle, 0, NULL, FILE_END);
+    return handle;
 }
 
 /* Writes all that comes out of the pipe. */
