@@ -7,6 +7,28 @@ use crate::same::FileId;
 use crate::streams::Stream;
 use std::rt::Files;
 
+/// A standard stream, and the file that it is open on.
+#[derive(Drop)]
+struct OpenStream<'a> {
+    stream: Stream,
+    file: FileId<'a>,
+}
+
+impl<'a> OpenStream<'a> {
+    /// The stream that has this name under `/proc`.
+    fn of<R: Files>(rt: &R, stream: Stream, name: &'a str) -> OpenStream<'a> {
+        OpenStream {
+            stream,
+            file: FileId::of(rt, name),
+        }
+    }
+
+    /// Whether a path leads to the stream.
+    fn is<R: Files>(&self, rt: &R, path: &str) -> bool {
+        Stream::named(path) == Some(self.stream) || self.file.is(rt, path)
+    }
+}
+
 /// Which of the two streams that are written are OUT or MAP. Nothing but the new file goes into those.
 #[derive(Clone, Copy, Debug)]
 pub struct TakenStreams {
@@ -17,12 +39,12 @@ pub struct TakenStreams {
 }
 
 impl TakenStreams {
-    /// The standard streams that are OUT or MAP. The kit tells nothing of a stream but by the name that
-    /// `/proc` has for it: without `/proc` no stream is known to be one of them.
+    /// The standard streams that are OUT or MAP: by a name of the stream, or by device and number.
+    /// The kit tells these of a stream by the name that `/proc` has for it alone.
     #[inline(never)]
     pub fn of<R: Files>(rt: &R, out: &str, map: Option<&str>) -> TakenStreams {
-        let output = FileId::of(rt, "/proc/self/fd/1");
-        let error = FileId::of(rt, "/proc/self/fd/2");
+        let output = OpenStream::of(rt, Stream::Output, "/proc/self/fd/1");
+        let error = OpenStream::of(rt, Stream::Error, "/proc/self/fd/2");
         TakenStreams {
             output: output.is(rt, out) || map.map_or(false, |map| output.is(rt, map)),
             error: error.is(rt, out) || map.map_or(false, |map| error.is(rt, map)),
