@@ -1,7 +1,7 @@
 //! The text of a fault, as far as it is kept. It does not allocate.
 
-ghost use Rattle.std.specs.Prelude.{length};
-ghost use Rattle.pdbmerge_c.specs.Fault.{AreFirst, IsCounted};
+ghost use Rattle.std.specs.Prelude.{◌≡◌, ◌∷◌, []};
+ghost use Rattle.pdbmerge_c.specs.Fault.{AreFirst, HasTaken};
 
 use std::fmt;
 use std::marker::Model;
@@ -18,19 +18,20 @@ pub(crate) struct Text {
 }
 
 impl Model for Text {
-    ghost use Rattle.std.specs.Prelude.{ℕ};
-    ghost use Rattle.pdbmerge_c.specs.Fault.{AreFirst};
+    ghost use Rattle.pdbmerge_c.specs.Fault.{AreFirst, TextView};
 
-    ghost Value = { ℕ };
+    ghost Value = { TextView };
 
-    ghost view = { λ t. t.many };
+    ghost view = { λ t. record { kept = t.kept; many = t.many } };
 
     ghost invariant = { λ t. AreFirst t.kept t.many };
 }
 
 impl Text {
     /// A text of no bytes.
-    pub(crate) fn new() -> Text {
+    pub(crate) fn new() -> Text
+        ensures { result.many ≡ 0 }
+    {
         Text {
             kept: [0; 236],
             many: 0,
@@ -39,7 +40,7 @@ impl Text {
 
     /// Takes one byte more. A byte that does not fit is counted, and not kept.
     fn push(&mut self, byte: u8)
-        ensures { IsCounted self.old 1 self.new }
+        ensures { HasTaken self.old self.new (byte ∷ []) }
     {
         if self.many < MOST_TEXT {
             self.kept[self.many] = if byte == 0 { b' ' } else { byte };
@@ -49,7 +50,9 @@ impl Text {
 
     /// What is kept, and NULs, and how many bytes the whole text has.
     pub(crate) fn finish(self) -> ([u8; 236], u64)
-        ensures { AreFirst result.0 result.1 }
+        ensures first { AreFirst result.0 result.1 }
+        ensures kept { result.0 ≡ self.kept }
+        ensures many { result.1 ≡ self.many }
     {
         let Text { kept, many } = self;
         (kept, many as u64)
@@ -58,7 +61,7 @@ impl Text {
 
 impl fmt::Write for Text {
     fn write_str(&mut self, text: &str) -> fmt::Result
-        ensures { IsCounted self.old (length text.now) self.new }
+        ensures { HasTaken self.old self.new text.now }
     {
         for byte in text.bytes() {
             self.push(byte);
