@@ -10,7 +10,7 @@ use clap::ArgMatches;
 use fault_pages::{Page, last, page_of};
 use output_words::push_quoted;
 use pdb_info::Settings;
-use run_options::{GuidChoice, Making, Scope, Shown};
+use run_options::{GuidChoice, Making, OnRefused, Scope, Shown};
 use std::alloc::{AllocError, Global};
 use uuid::Uuid;
 
@@ -46,7 +46,8 @@ pub struct PathList {
 #[derive(Debug, Drop)]
 pub struct Merging {
     pub settings: Settings,
-    pub naming: GuidChoice,
+    /// Which GUID OUT has.
+    pub guid: GuidChoice,
     pub out: String,
     pub inputs: Vec<String>,
     pub list: Option<PathList>,
@@ -55,8 +56,8 @@ pub struct Merging {
     pub shows_progress: bool,
     /// How OUT and the file for the maps are made.
     pub making: Making,
-    /// Whether inputs that have a fault of their own are left out.
-    pub skips_refused: bool,
+    /// What becomes of an input that is refused.
+    pub refused: OnRefused,
     pub max_bytes: u32,
 }
 
@@ -219,7 +220,7 @@ fn max_bytes_of(arguments: &ArgMatches<'_>) -> Result<u32, LineFault> {
 /// Where the GUID of the file that is written comes from, and the GUID that is given.
 fn guid_of(arguments: &ArgMatches<'_>) -> Result<(GuidChoice, Uuid), LineFault> {
     match arguments.get_str(names::GUID) {
-        Some("types") => Ok((GuidChoice::ByTypes, Uuid::nil())),
+        Some("types") => Ok((GuidChoice::OfTypes, Uuid::nil())),
         given => match given.map(Uuid::parse_str) {
             Some(Ok(guid)) => Ok((GuidChoice::Given, guid)),
             _ => Err(wrong(arguments, "--guid", GUID)),
@@ -293,19 +294,28 @@ fn making_of(arguments: &ArgMatches<'_>) -> Making {
     }
 }
 
+/// What becomes of an input that is refused.
+fn refused_of(arguments: &ArgMatches<'_>) -> OnRefused {
+    if arguments.get_flag(names::SKIP_REFUSED) {
+        OnRefused::Skip
+    } else {
+        OnRefused::Stop
+    }
+}
+
 /// What `merge` is asked for.
 fn merging_of(alloc: Global, arguments: &ArgMatches<'_>) -> Result<Merging, LineFault> {
-    let (naming, guid) = guid_of(arguments)?;
+    let (choice, guid) = guid_of(arguments)?;
     Ok(Merging {
         settings: settings_of(arguments, guid)?,
-        naming,
+        guid: choice,
         out: written_path(alloc, arguments, names::OUT, names::OUT)?,
         inputs: all_of(alloc, arguments, names::IN)?,
         list: list_of(alloc, arguments)?,
         map: map_of(alloc, arguments)?,
         shows_progress: arguments.get_flag(names::PROGRESS),
         making: making_of(arguments),
-        skips_refused: arguments.get_flag(names::SKIP_REFUSED),
+        refused: refused_of(arguments),
         max_bytes: max_bytes_of(arguments)?,
     })
 }

@@ -6,3 +6,4 @@ pub mod MembersLaws
 pub mod MergeLaws
 pub mod ShowLaws
 pub mod TypesLaws
+pub mod PlanLaws

@@ -1,21 +1,15 @@
 -- The faults of merging.
-use Rattle.std.proofs.Common.{◌≡◌, ℕ, Bool, List, Option, refl, ap, subst, inl}
-use Rattle.std.specs.Prelude.{Some, None, Result, Err, IfSome}
-use Rattle.canonical_list.specs.Finish.{IsCanonOf}
-use Rattle.pdb_merge.specs.Merged.{WroteMapped}
-use Rattle.pdb_merge.specs.Merging.{AreMapsOf}
-use Rattle.pdb_merge.specs.Union.{HasType}
-use Rattle.pdb_merge.specs.declared.summary.Summary.{Summary}
-use Rattle.pdb_merge.proofs.FileLaws.{same_records}
+use Rattle.std.proofs.Common.{◌≡◌, ℕ, Bool, List, Option, refl, ap, inl}
+use Rattle.std.specs.Prelude.{Result, Err}
 use Rattle.byte_io.specs.declared.inputs.InputFault.{InputFault}
-use Rattle.pdb_merge.specs.Answer.{MergesTo, Writes, WritesWith, WritesPart}
+use Rattle.pdb_merge.specs.Answer.{MergesTo, Writes, WritesPart}
 use Rattle.pdb_merge.specs.declared.fault.MergeFault.{MergeFault}
 use Rattle.pdb_merge.specs.declared.fault.MergeFault.TheVariants as merges
 use Rattle.pdb_merge.specs.declared.fault.OutFault.{OutFault}
 use Rattle.pdb_merge.specs.declared.fault.OutFault.TheVariants as outs
 use Rattle.pdb_merge.specs.Fault.{NamesFault}
 use Rattle.pdb_commands.specs.Fault.{run_from_out}
-use Rattle.pdb_commands.specs.Merge.{AreMapsInto, IsOfMerging, MergesInto}
+use Rattle.pdb_commands.specs.Merge.{IsOfMerging, MergesInto}
 use Rattle.pdb_commands.specs.declared.fault.RunFault.TheVariants.{Merge, Write}
 
 one_inside : {A : Type 0} (a b : MergeFault A) → Merge a ≡ Merge b → a ≡ b
@@ -31,7 +25,7 @@ merge_inside outs.Memory inner is = absurd cc
 merge_inside outs.Write inner is = absurd cc
 
 -- where the command did not write the file, merging did not
-write_inside : {A : Type 0} (fault : OutFault A) → run_from_out fault ≡ Write → fault ≡ outs.Write
+pub write_inside : {A : Type 0} (fault : OutFault A) → run_from_out fault ≡ Write → fault ≡ outs.Write
 write_inside (outs.Merge (merges.Input file unread)) wrote = absurd cc
 write_inside (outs.Merge (merges.Refused file refused)) wrote = absurd cc
 write_inside (outs.Merge (merges.TooLarge file bytes)) wrote = absurd cc
@@ -49,9 +43,9 @@ of_merging outs.Memory named = tt
 of_merging outs.Write named = tt
 
 -- where merging is refused, so is the command
-pub merge_refused : {A T U V W : Type 0} {known : Option (List (Result (List ℕ) InputFault))} {limit : ℕ} {wrote : List (List ℕ) → WritesWith U} {shown : List (List ℕ) → Writes} {part : List (List ℕ) → WritesPart} {taken : W → Option (List ℕ)} {is_broken : W → Bool} {before after : W}
+pub merge_refused : {A V W : Type 0} {known : Option (List (Result (List ℕ) InputFault))} {limit : ℕ} {wrote : List (List ℕ) → Writes} {part : List (List ℕ) → WritesPart} {taken : W → Option (List ℕ)} {is_broken : W → Bool} {before after : W}
     (told : V → Option (List ℕ)) (is_dumb : V → Bool) (report : V) (fault : OutFault A) → MergesTo known limit wrote part taken is_broken before after (Err fault)
-    → MergesInto {T = T} known limit shown part taken is_broken before after told is_dumb report report (Err (run_from_out fault))
+    → MergesInto known limit wrote part taken is_broken before after told is_dumb report report (Err (run_from_out fault))
 merge_refused told is_dumb report fault m = record {
   own = of_merging fault (λ inner is. (m.refuses inner is).named);
   value = λ given gives. tt;
@@ -65,12 +59,3 @@ merge_refused told is_dumb report fault m = record {
   untold = λ want. refl;
   untouched = λ inner is. let same = merge_inside fault inner is in (m.untouched (λ did. cc), refl);
 }
-
--- the maps of a merge lead into the canonical list of the types
-pub maps_into : (IsFile : List ℕ → List (List ℕ) → Type 0) (files : List (List ℕ)) (old new : Option (List ℕ)) (summary : Summary) (kept : Option (List (List ℕ))) → ((file : List ℕ) (records : List (List ℕ)) → IsFile file records → IsCanonOf records (HasType files))
-    → WroteMapped IsFile files old new summary kept → IfSome kept (AreMapsInto files)
-maps_into IsFile files old new summary None canon wrote = tt
-maps_into IsFile files old new summary (Some maps) canon mapped = λ list is.
-    let wrote = mapped.wrote in
-    let same = same_records (HasType files) (HasType files) wrote.records list (λ t. (λ h. h, λ h. h)) (canon wrote.file wrote.records wrote.is_file) is in
-    subst (λ (records : List (List ℕ)). AreMapsOf files records maps) same mapped.maps

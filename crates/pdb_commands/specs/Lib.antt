@@ -12,3 +12,4 @@ pub mod Shown
 pub mod Streams
 pub mod Types
 pub mod Known
+pub mod Plan

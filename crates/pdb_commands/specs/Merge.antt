@@ -4,15 +4,14 @@ use Rattle.std.specs.Io.KnownBytes.{Appends}
 use Rattle.byte_io.specs.Inputs.{CanRead, Give}
 use Rattle.byte_io.specs.declared.inputs.InputFault.{InputFault}
 use Rattle.msf_streams.specs.Put.{AppendsPart}
-use Rattle.canonical_list.specs.Finish.{IsCanonOf}
-use Rattle.pdb_merge.specs.Union.{HasType}
-use Rattle.pdb_merge.specs.Merging.{AreMapsOf}
 use Rattle.pdb_merge.specs.Answer.{AcceptsFiles, RefusesFiles, RefusesReading, Writes, WritesPart}
 use Rattle.pdb_merge.specs.Fault.{NamesFault}
 use Rattle.pdb_merge.specs.declared.summary.Summary.{Summary}
 use Rattle.pdb_merge.specs.declared.fault.MergeFault.{MergeFault}
 use Rattle.pdb_merge.specs.declared.fault.MergeFault.TheVariants as merge
 use Rattle.output_words.specs.Text.{named_line}
+use Rattle.run_options.specs.declared.on_refused.OnRefused.{OnRefused}
+use Rattle.run_options.specs.declared.on_refused.OnRefused.TheVariants.{Stop, Skip}
 use Rattle.pdb_commands.specs.declared.fault.RunFault.{RunFault}
 use Rattle.pdb_commands.specs.declared.fault.RunFault.TheVariants.{Merge, Memory, Write}
 
@@ -23,9 +22,11 @@ summary_lines summary =
     named_line (codes "types") summary.types ++ named_line (codes "bytes") summary.bytes
     ++ named_line (codes "file") summary.length
 
--- the report on a file that was written while this many files were left out
-unfoldable pub accepted_lines : Summary → ℕ → List ℕ
-accepted_lines summary refused = summary_lines summary ++ named_line (codes "refused") refused
+-- the report on a merge: where files that are refused are left out, it says how many were
+unfoldable pub report_lines : Summary → OnRefused → ℕ → List ℕ
+report_lines summary Stop left_out = summary_lines summary
+report_lines summary Skip left_out =
+    summary_lines summary ++ named_line (codes "refused") left_out
 
 -- a sink took the whole file
 abbrev pub WroteWhole : Writes → Option (List ℕ) → Option (List ℕ) → Type 0
@@ -45,11 +46,6 @@ abbrev pub WroteAndBrokeOff : Writes → Option (List ℕ) → Option (List ℕ)
 WroteAndBrokeOff wrote old new told_before told_after =
     (summary : Summary) × wrote old new summary
     × AppendsPart told_before told_after (summary_lines summary)
-
--- these are the maps of the files into the canonical list of their types
-abbrev pub AreMapsInto : List (List ℕ) → List (List ℕ) → Type 0
-AreMapsInto files maps =
-    (list : List (List ℕ)) → IsCanonOf list (HasType files) → AreMapsOf files list maps
 
 -- a fault that the command can have: a fault of merging, which is not out of memory; or out of
 -- memory; or that a sink broke
@@ -73,11 +69,11 @@ pub record AnswersReading {A W T : Type 0} (known : Option (List (Result (List �
 
 -- how a command that merges answers: `wrote` says what it wrote for which files, and `part` what it
 -- wrote of that before its sink broke
-pub record MergesInto {A W V T : Type 0} (known : Option (List (Result (List ℕ) InputFault)))
+pub record MergesInto {A W V : Type 0} (known : Option (List (Result (List ℕ) InputFault)))
     (limit : ℕ) (wrote : List (List ℕ) → Writes) (part : List (List ℕ) → WritesPart)
     (taken : W → Option (List ℕ)) (is_broken : W → Bool) (before after : W)
     (told : V → Option (List ℕ)) (is_dumb : V → Bool) (report_before report_after : V)
-    (result : Result T (RunFault A)) : Type 0 where
+    (result : Result (Unit {0}) (RunFault A)) : Type 0 where
   -- the command has no other fault, whatever is known of the inputs
   pub own : IfErr result IsOfMerging
   pub value : (given : List (List ℕ)) → Give known given →

@@ -6,9 +6,9 @@
 //! alone, and [`run_shown`] reads a [`Source`](byte_io::Source) to its end, as do [`run_records`],
 //! [`run_record`], [`run_types`], [`run_check`], [`run_info`] and [`run_streams`].
 //!
-//! [`run_merge`] writes one file with the types of several files, and a report on it.
-//! [`merge_accepted`] leaves out the files that are not accepted, and [`report_accepted`] says how
-//! many they were. [`run_diff`] shows the types that only one of two files has. [`run_members`] shows
+//! [`run_plan`] writes one file with the types of several files, the maps of these files into it if
+//! they are kept, and a report on it. A plan says what becomes of a file that is refused; [`run_merge`]
+//! stops there. [`run_diff`] shows the types that only one of two files has. [`run_members`] shows
 //! the definitions of the types of a file, with their members, and [`run_diff_members`] which of them
 //! came, went or changed between two files. Each refusal is a [`RunFault`].
 //!
@@ -63,9 +63,11 @@ mod members;
 mod merge;
 mod record;
 mod records;
+mod report;
 mod shown;
 mod streams;
 mod types;
+mod whole_files;
 
 pub use changes::run_diff_members;
 pub use check::run_check;
@@ -74,11 +76,11 @@ pub use fault::RunFault;
 pub use info::run_info;
 pub use maps::write_maps;
 pub use members::run_members;
-pub use merge::{report_accepted, run_merge, run_merge_by_types, run_merge_with};
+pub use merge::run_plan;
 pub use record::run_record;
 pub use records::run_records;
 pub use shown::{run_shown, run_shown_at, run_shown_file};
 pub use streams::run_streams;
 pub use type_texts::{Asked, Found, Query};
 pub use types::run_types;
-pub use types_guid::{SiftedFile, merge_accepted};
+pub use whole_files::run_merge;

@@ -5,12 +5,13 @@ ghost use Rattle.std.specs.Io.KnownBytes.{Appends};
 ghost use Rattle.closed_trees.specs.Depth.{AreBelow};
 ghost use Rattle.tpi_records.specs.Header.{first_index};
 ghost use Rattle.msf_streams.specs.Put.{AppendsPart};
-ghost use Rattle.command_texts.specs.Maps.{map_lines, lines_of_maps};
+ghost use Rattle.command_texts.specs.Maps.{map_lines};
+ghost use Rattle.pdb_commands.specs.Plan.{kept_lines};
 
 use crate::fault::RunFault;
 use byte_io::{Sink, put_all};
 use command_texts::push_map;
-use pdb_merge::TypeMaps;
+use pdb_merge::KeepMaps;
 use std::alloc::Allocator;
 
 /// Makes the lines of the records of one file, and writes them.
@@ -37,28 +38,30 @@ fn write_map<W: Sink, A: Allocator>(
     Ok(())
 }
 
-/// Writes the maps of a merge: a line for each record of each input, in their order. A line has the
-/// position of the input, from 0, the type index of the record, and the type index of its type in
-/// the file that was written.
+/// Writes the maps of a merge, if they are kept: a line for each record of each input, in their order. A
+/// line has the position of the input, from 0, the type index of the record, and the type index of its
+/// type in the file that was written.
 ///
 /// The lines of one input are made at a time. After `Memory`, `out` took the first bytes of the
 /// lines. After `Write` it took the first bytes of them too, and is broken.
-pub fn write_maps<W: Sink, A: Allocator + Copy>(
+#[tactic(auto, using(crate::proofs::MapsLaws::took_more, crate::proofs::MapsLaws::took_all))]
+pub fn write_maps<W: Sink, K: KeepMaps, A: Allocator + Copy>(
     alloc: A,
-    maps: &TypeMaps<A>,
+    maps: &K,
     out: &mut W,
 ) -> Result<(), RunFault<A>>
     ensures value { OnOk result
-        (Appends (W.taken out.old) (W.taken out.new) (lines_of_maps 0 maps.now)) }
+        (Appends (W.taken out.old) (W.taken out.new) (kept_lines (K.maps maps.now))) }
     ensures fault { IfErr result (λ fault. (fault ≡ RunFault.Memory) ⊎ (fault ≡ RunFault.Write)) }
     ensures write { result ≡ Err RunFault.Write →
         (W.is_broken out.new ≡ true)
-        × AppendsPart (W.taken out.old) (W.taken out.new) (lines_of_maps 0 maps.now) }
+        × AppendsPart (W.taken out.old) (W.taken out.new) (kept_lines (K.maps maps.now)) }
     ensures memory { result ≡ Err RunFault.Memory →
-        (n : ℕ) × Appends (W.taken out.old) (W.taken out.new) (take n (lines_of_maps 0 maps.now)) }
+        (n : ℕ) × Appends (W.taken out.old) (W.taken out.new)
+        (take n (kept_lines (K.maps maps.now))) }
 {
-    for file in 0..maps.len() {
-        write_map(alloc, file, maps.get(file), out)?;
+    for file in 0..maps.count() {
+        write_map(alloc, file, maps.map_of(file), out)?;
     }
     Ok(())
 }

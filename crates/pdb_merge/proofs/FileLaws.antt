@@ -1,14 +1,11 @@
 -- The file of the types of files: all lists of files with the same types have the same file.
-use Rattle.std.proofs.Common.{◌≡◌, ◌≢◌, ◌⊎◌, ◌↔◌, ℕ, Bool, true, subst, List, [], ◌∷◌, length, refl, sym, ap, ◌∙◌, arith, inl, inr}
-use Rattle.std.specs.Prelude.{Option, Result, Ok, Err, IfOk, IfErr}
+use Rattle.std.proofs.Common.{◌≡◌, ◌↔◌, ℕ, subst, List, [], ◌∷◌, length, refl, sym, ap, ◌∙◌, arith, inl, inr}
+use Rattle.std.specs.Prelude.{Option, Result, Ok, Err, IfErr}
 use Rattle.std.specs.List.{concat}
-use Rattle.byte_io.specs.Inputs.{Give}
-use Rattle.byte_io.specs.declared.inputs.InputFault.{InputFault}
 use Rattle.pdb_info.specs.Settings.{SettingsView, AreSettings, record_limit}
 use Rattle.closed_trees.specs.Tree.{Tree, IsType}
 use Rattle.closed_trees.specs.Canon.{texts}
 use Rattle.canonical_list.specs.Finish.{IsCanonOf}
-use Rattle.pdb_merge.specs.Answer.{AcceptsFiles, MergesTo, WritesWith, WritesPart}
 use Rattle.file_types.specs.Read.{IsAccepted}
 use Rattle.closed_trees.proofs.WeightLaws.{weight_of_texts}
 use Rattle.closed_trees.proofs.CanonLaws.{one_canonical_list}
@@ -20,8 +17,6 @@ use Rattle.type_table.proofs.CanonTableLaws.{canon_same}
 use Rattle.msf_streams.specs.Put.{AppendsPart}
 use Rattle.file_types.proofs.ReadLaws.{one_list}
 use Rattle.pdb_merge.specs.Merged.{merged_file, IsFileOf, Merged, WroteFile, WroteAs, WrotePartAs}
-use Rattle.pdb_merge.specs.declared.fault.OutFault.{OutFault}
-use Rattle.pdb_merge.specs.declared.fault.OutFault.TheVariants as outs
 use Rattle.pdb_merge.specs.declared.summary.Summary.{Summary}
 
 pub same_records : (P Q : Tree → Type 0) (records found : List (List ℕ)) → ((t : Tree) → P t ↔ Q t) → IsCanonOf records P → IsCanonOf found Q → records ≡ found
@@ -135,37 +130,3 @@ pub wrote_part : {A E : Type 0} (IsFile : List ℕ → List (List ℕ) → Type 
 wrote_part IsFile settings records old new e (Ok done) is part = tt
 wrote_part IsFile settings records old new e (Err fault) is part = λ same.
     record { file = merged_file settings records; records = records; taken = part same; is_file = is }
-
--- ---- the answer of a merge whose files were accepted
-
--- the answer of writing is that of the merge
-pub merges_to : {A W T : Type 0} (known : Option (List (Result (List ℕ) InputFault))) (limit : ℕ)
-    (wrote : List (List ℕ) → WritesWith T) (part : List (List ℕ) → WritesPart)
-    (taken : W → Option (List ℕ)) (is_broken : W → Bool) (before after : W)
-    (result : Result T (OutFault A)) → AcceptsFiles known limit
-    → ((given : List (List ℕ)) → Give known given
-    → IfOk result (wrote given (taken before) (taken after)))
-    → ((given : List (List ℕ)) → Give known given
-    → IfErr result (λ fault. fault ≡ outs.Write → part given (taken before) (taken after)))
-    → IfErr result (λ fault. (fault ≡ outs.Memory) ⊎ (fault ≡ outs.Write))
-    → IfErr result (λ fault. fault ≡ outs.Write → is_broken after ≡ true)
-    → IfErr result (λ fault. fault ≢ outs.Write → after ≡ before)
-    → MergesTo known limit wrote part taken is_broken before after result
-merges_to known limit wrote part taken is_broken before after (Ok done) accepts value write fault broken untouched = record {
-  value = value;
-  accepts = accepts;
-  refuses = tt;
-  late = tt;
-  broken = tt;
-  write = λ given gives. tt;
-  untouched = tt;
-}
-merges_to known limit wrote part taken is_broken before after (Err fault) accepts value write is broken untouched = record {
-  value = λ given gives. tt;
-  accepts = tt;
-  refuses = λ inner same. elim is [ inl memory ↦ absurd cc | inr wrote ↦ absurd cc ];
-  late = λ other. accepts;
-  broken = broken;
-  write = write;
-  untouched = untouched;
-}

@@ -1,6 +1,5 @@
 pub mod MemoryLaws
 pub mod UnionLaws
-pub mod MergingLaws
 pub mod InputLaws
 pub mod FitLaws
 pub mod BytesLaws
@@ -10,3 +9,5 @@ pub mod MapLaws
 pub mod RefusedLaws
 pub mod OwnLaws
 pub mod SiftLaws
+pub mod GuidLaws
+pub mod PlanLaws

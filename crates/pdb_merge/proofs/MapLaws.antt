@@ -1,5 +1,5 @@
 -- Maps of files into the list that was written.
-use Rattle.std.proofs.Common.{◌≡◌, ◌≢◌, ◌+◌, ◌-◌, ◌⊎◌, ℕ, suc, Bool, true, List, [], ◌∷◌, ◌++◌, length, map, drop, get_or, refl, sym, ap, ◌∙◌, subst, arith, inl, inr, length-append, length-drop, append-nil}
+use Rattle.std.proofs.Common.{◌≡◌, ◌+◌, ◌-◌, ℕ, suc, List, [], ◌∷◌, ◌++◌, length, map, drop, get_or, refl, sym, ap, ◌∙◌, subst, arith, inl, inr, length-append, length-drop, append-nil}
 use Rattle.std.proofs.lemmas.Bool.{cases_lt}
 use Rattle.std.proofs.lemmas.List.{get_or_append_left, get_or-append-add, get_or-drop, get_or-map, length-map, ext_get_or}
 use Rattle.canonical_list.specs.Numbers.{AreNumbers}
@@ -9,88 +9,11 @@ use Rattle.type_table.proofs.MapLaws.{numbers_follow}
 use Rattle.file_types.specs.Read.{IsAccepted}
 use Rattle.file_types.proofs.ReadLaws.{one_list}
 use Rattle.pdb_merge.specs.Laws.{MapsFollow, MapOfMergedFile}
-use Rattle.std.specs.Prelude.{Option, Result, Ok, Err, IfOk, IfErr, IfSome}
-use Rattle.byte_io.specs.Inputs.{Give}
-use Rattle.byte_io.specs.declared.inputs.InputFault.{InputFault}
-use Rattle.pdb_info.specs.Settings.{SettingsView}
-use Rattle.canonical_list.specs.Finish.{IsCanonOf}
-use Rattle.msf_streams.specs.Put.{AppendsPart}
-use Rattle.pdb_merge.specs.Answer.{AcceptsFiles, MergesTo}
 use Rattle.pdb_merge.specs.Union.{HasType, SameTypes}
 use Rattle.pdb_merge.specs.Merging.{IsMapOf, AreMapsOf}
-use Rattle.pdb_merge.specs.Merged.{merged_file, StandOnce, WroteAs, WroteFile, WroteWithMaps, WrotePartAs}
-use Rattle.pdb_merge.specs.declared.fault.OutFault.{OutFault}
-use Rattle.pdb_merge.specs.declared.fault.OutFault.TheVariants as outs
-use Rattle.pdb_merge.specs.declared.summary.Summary.{Summary}
-use Rattle.pdb_merge.proofs.FileLaws.{earlier_merge, merges_to, same_records, wrote_as, wrote_part}
+use Rattle.pdb_merge.specs.Merged.{merged_file, StandOnce}
+use Rattle.pdb_merge.proofs.FileLaws.{earlier_merge, same_records}
 use Rattle.pdb_merge.proofs.ReadBackLaws.{canon_types, is_back}
-
--- ---- the answer of a merge that keeps maps
-
--- an answer, with something that is kept beside it
-unfoldable pub with_kept : {T K E : Type 0} → K → Result T E → Result (T × K) E
-with_kept kept (Ok done) = Ok (done, kept)
-with_kept kept (Err fault) = Err fault
-
-unfoldable pub without_kept : {T K E : Type 0} → Result (T × K) E → Result T E
-without_kept (Ok done) = Ok done.0
-without_kept (Err fault) = Err fault
-
-wrote_mapped : {K E : Type 0} (IsFile : List ℕ → List (List ℕ) → Type 0) (files : List (List ℕ)) (settings : SettingsView) (records : List (List ℕ)) (old new : Option (List ℕ)) (maps_of : K → Option (List (List ℕ))) (kept : K) (answer : Result Summary E)
-    → IsFile (merged_file settings records) records → IsCanonOf records (HasType files) → IfSome (maps_of kept) (AreMapsOf files records)
-    → IfOk answer (WroteFile records settings old new) → IfOk (with_kept kept answer) (WroteWithMaps IsFile files maps_of old new)
-unfolding with_kept wrote_as
-wrote_mapped IsFile files settings records old new maps_of kept (Ok summary) is canon maps did = record { wrote = wrote_as IsFile files settings records old new summary is canon did; maps = maps }
-wrote_mapped IsFile files settings records old new maps_of kept (Err fault) is canon maps did = tt
-
--- where the file of the list of their types was written, and these are the maps into the list, the merge answers so
-pub merges_mapped : {A W K : Type 0} (known : Option (List (Result (List ℕ) InputFault))) (limit : ℕ) (IsFile : List (List ℕ) → List ℕ → List (List ℕ) → Type 0) (settings : SettingsView) (records : List (List ℕ))
-    (maps_of : K → Option (List (List ℕ))) (kept : K) (taken : W → Option (List ℕ)) (is_broken : W → Bool) (before after : W) (result : Result Summary (OutFault A))
-    → IfOk result (WroteFile records settings (taken before) (taken after))
-    → AcceptsFiles known limit
-    → ((given : List (List ℕ)) → Give known given → IsCanonOf records (HasType given))
-    → ((given : List (List ℕ)) → Give known given → IsFile given (merged_file settings records) records)
-    → ((given : List (List ℕ)) → Give known given → IfSome (maps_of kept) (AreMapsOf given records))
-    → IfErr result (λ fault. (fault ≡ outs.Memory) ⊎ (fault ≡ outs.Write))
-    → IfErr result (λ fault. fault ≡ outs.Write → is_broken after ≡ true)
-    → IfErr result (λ fault. fault ≡ outs.Write → AppendsPart (taken before) (taken after) (merged_file settings records))
-    → IfErr result (λ fault. fault ≢ outs.Write → after ≡ before)
-    → MergesTo known limit (λ given. WroteWithMaps (IsFile given) given maps_of) (λ given. WrotePartAs (IsFile given)) taken is_broken before after (with_kept kept result)
-unfolding with_kept
-merges_mapped {A = A} known limit IsFile settings records maps_of kept taken is_broken before after (Ok summary) value accepts canon file maps fault broken write untouched =
-    merges_to known limit (λ given. WroteWithMaps (IsFile given) given maps_of) (λ given. WrotePartAs (IsFile given)) taken is_broken before after (Ok (summary, kept)) accepts
-    (λ given gives. wrote_mapped {E = OutFault A} (IsFile given) given settings records (taken before) (taken after) maps_of kept (Ok summary) (file given gives) (canon given gives) (maps given gives) value)
-    (λ given gives. tt) tt tt tt
-merges_mapped known limit IsFile settings records maps_of kept taken is_broken before after (Err inner) value accepts canon file maps fault broken write untouched =
-    merges_to known limit (λ given. WroteWithMaps (IsFile given) given maps_of) (λ given. WrotePartAs (IsFile given)) taken is_broken before after (Err inner) accepts
-    (λ given gives. tt)
-    (λ given gives. wrote_part {A = Summary} (IsFile given) settings records (taken before) (taken after) outs.Write (Err inner) (file given gives) write)
-    fault broken untouched
-
--- without the maps it is the answer of a merge
-pub merges_without : {A W K : Type 0} (known : Option (List (Result (List ℕ) InputFault))) (limit : ℕ) (IsFile : List (List ℕ) → List ℕ → List (List ℕ) → Type 0) (maps_of : K → Option (List (List ℕ)))
-    (taken : W → Option (List ℕ)) (is_broken : W → Bool) (before after : W) (result : Result (Summary × K) (OutFault A))
-    → MergesTo known limit (λ given. WroteWithMaps (IsFile given) given maps_of) (λ given. WrotePartAs (IsFile given)) taken is_broken before after result
-    → MergesTo known limit (λ given. WroteAs (IsFile given) given) (λ given. WrotePartAs (IsFile given)) taken is_broken before after (without_kept result)
-unfolding without_kept
-merges_without known limit IsFile maps_of taken is_broken before after (Ok (summary, kept)) m = record {
-  value = λ given gives. (m.value given gives).wrote;
-  accepts = m.accepts;
-  refuses = tt;
-  late = tt;
-  broken = tt;
-  write = λ given gives. tt;
-  untouched = tt;
-}
-merges_without known limit IsFile maps_of taken is_broken before after (Err fault) m = record {
-  value = λ given gives. tt;
-  accepts = tt;
-  refuses = m.refuses;
-  late = m.late;
-  broken = m.broken;
-  write = m.write;
-  untouched = m.untouched;
-}
 
 -- ---- the laws
 

@@ -1,5 +1,5 @@
 -- The fault of one input, as far as this input goes.
-use Rattle.std.proofs.Common.{◌≡◌, ◌⊎◌, ◌<◌, ◌+◌, ℕ, List, [], Option, Some, None, get_or, length, take, refl, inl, inr}
+use Rattle.std.proofs.Common.{◌≡◌, ◌⊎◌, ◌+◌, ℕ, List, [], Option, Some, None, get_or, refl, inl, inr}
 use Rattle.std.specs.Prelude.{Result, Ok, Err, IfSome, slice_get}
 use Rattle.byte_io.specs.At.{Bytes, stable}
 use Rattle.byte_io.specs.Inputs.{CanRead, Give, HasBytes, opened_bytes}
@@ -12,13 +12,8 @@ use Rattle.file_types.specs.declared.fault.PdbFault.{PdbFault}
 use Rattle.file_types.specs.declared.fault.PdbFault.TheVariants as pdb
 use Rattle.pdb_merge.specs.Fault.{add_from_pdb}
 use Rattle.pdb_merge.proofs.InputLaws.{IsUnread, file_read, more_read}
-use Rattle.pdb_merge.specs.Own.{IsOwnFault, IsOwnReadFault, ReadsInput, merge_from_own}
-use Rattle.pdb_merge.specs.Answer.{RefusesFiles}
-use Rattle.pdb_merge.specs.Fault.{NamesFault}
-use Rattle.pdb_merge.specs.Merging.{MergeView, HasTaken}
-use Rattle.pdb_merge.specs.Union.{CanMerge, IsMergeFault, IsReadingFaultAt, ReadsFirst}
-use Rattle.pdb_merge.proofs.MergingLaws.{alone_whole, stops_whole, taken_alone, taken_stops}
-use Rattle.pdb_merge.proofs.UnionLaws.{refuses_files}
+use Rattle.pdb_merge.specs.Own.{IsOwnReadFault, ReadsInput, merge_from_own}
+use Rattle.pdb_merge.specs.Union.{IsReadingFaultAt}
 use Rattle.pdb_merge.specs.declared.fault.AddFault.TheVariants as add
 use Rattle.pdb_merge.specs.declared.fault.MergeFault.{MergeFault}
 use Rattle.pdb_merge.specs.declared.fault.MergeFault.TheVariants as merge
@@ -57,34 +52,6 @@ pdb_own file (pdb.Info f) (inl refused) = refused
 pdb_own file (pdb.Tpi f) (inl refused) = refused
 pdb_own file (pdb.Type f) (inl refused) = refused
 pdb_own file inner (inr memory) = absurd cc
-
--- the fault of a file stops a merge that has taken the files before it
-own_stops : {A : Type 0} (m : MergeView) (files : List (List ℕ)) (k : ℕ) (fault : OwnFault A) (outer : MergeFault A) → k < length files → HasTaken m (take k files)
-    → IsOwnFault m.types m.limit (get_or files k []) fault → (outer ≡ merge_from_own k fault) ⊎ (outer ≡ merge.Memory) → IsMergeFault files m.limit outer
-own_stops m files k fault outer inside taken is (inr memory) = rw memory tt
-own_stops m files k (own.Unread inner) outer inside taken is (inl made) = rw (made, is) tt
-own_stops m files k (own.Of inner) outer inside taken is (inl made) =
-    stops_whole files k m.limit inner outer inside made (taken_stops m (take k files) (get_or files k []) inner is taken)
-
--- and only out of memory stops files that can be merged
-own_alone : {A : Type 0} (m : MergeView) (files : List (List ℕ)) (k : ℕ) (fault : OwnFault A) (outer : MergeFault A) → k < length files → HasTaken m (take k files)
-    → IsOwnFault m.types m.limit (get_or files k []) fault → (outer ≡ merge_from_own k fault) ⊎ (outer ≡ merge.Memory) → CanMerge files m.limit → outer ≡ merge.Memory
-own_alone m files k fault outer inside taken is (inr memory) can = memory
-own_alone m files k (own.Unread inner) outer inside taken is (inl made) can = rw (made, is) refl
-own_alone m files k (own.Of inner) outer inside taken is (inl made) can =
-    alone_whole files k m.limit inner outer inside made (λ more. taken_alone m (take k files) more (get_or files k []) inner is taken) can
-
-pub own_refuses : {A : Type 0} (known : Option (List (Result (List ℕ) InputFault))) (k : ℕ) (m : MergeView) (fault : OwnFault A) (outer : MergeFault A)
-    → ((given : List (List ℕ)) → Give known given → k < length given)
-    → ((given : List (List ℕ)) → Give known given → HasTaken m (take k given))
-    → ((given : List (List ℕ)) → Give known given → IsOwnFault m.types m.limit (get_or given k []) fault)
-    → ((given : List (List ℕ)) → Give known given → (outer ≡ merge_from_own k fault) ⊎ (outer ≡ merge.Memory))
-    → IfSome known (λ each. ReadsFirst each outer) → NamesFault outer → RefusesFiles known m.limit outer
-own_refuses known k m fault outer inside taken is made first named =
-    refuses_files known m.limit outer
-    (λ given gives. own_stops m given k fault outer (inside given gives) (taken given gives) (is given gives) (made given gives))
-    first named
-    (λ given gives can. own_alone m given k fault outer (inside given gives) (taken given gives) (is given gives) (made given gives) can)
 
 -- it is why the types of the file at this position are not read
 pub own_stops_at : {A : Type 0} (files : List (List ℕ)) (i : ℕ) (fault : OwnFault A) (outer : MergeFault A) → IsOwnReadFault (get_or files i []) fault

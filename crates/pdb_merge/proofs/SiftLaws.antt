@@ -1,10 +1,10 @@
 -- Merges that leave out the files that are refused.
-use Rattle.std.proofs.Common.{◌≡◌, ◌≢◌, ◌⊎◌, ◌+◌, ◌<◌, ◌≤◌, ℕ, List, [], ◌∷◌, ◌++◌, Option, Some, None, length, map, take, drop, get_or, refl, sym, ap, ◌∙◌, arith, inl, inr, length-append}
+use Rattle.std.proofs.Common.{◌≡◌, ◌≢◌, ◌⊎◌, ◌↔◌, ◌+◌, ◌<◌, ◌≤◌, ℕ, List, [], ◌∷◌, ◌++◌, Option, Some, None, length, take, drop, get_or, refl, sym, ap, ◌∙◌, arith, inl, inr, length-append}
 use Rattle.std.specs.Prelude.{Result, IfSome}
 use Rattle.std.specs.List.{All, AllPairs}
 use Rattle.std.proofs.lemmas.Bool.{cases_lt}
-use Rattle.std.proofs.lemmas.List.{get_or_append_left, get_or-map, length-map, length-take-le, take-append-drop, take_more}
-use Rattle.std.proofs.lemmas.List.Elements.{All-push, Contains-append_left, Contains-push}
+use Rattle.std.proofs.lemmas.List.{get_or_append_left, get_or-map, get_or-take, length-map, length-take-le, take-append-drop, take_more}
+use Rattle.std.proofs.lemmas.List.Elements.{All-contains, All-push, Contains-append_left, Contains-push}
 use Rattle.std.proofs.Math.Seq.{get_or-append_seam}
 use Rattle.byte_io.specs.Inputs.{Give, CanRead}
 use Rattle.byte_io.specs.declared.inputs.InputFault.{InputFault}
@@ -20,20 +20,40 @@ use Rattle.type_table.proofs.CanonTableLaws.{canon_same}
 use Rattle.type_table.proofs.MapLaws.{numbers_still, numbers_follow}
 use Rattle.type_table.specs.Maps.{IsMapped, AreFollowed, followed_by, with_map}
 use Rattle.type_table.specs.Merge.{StartsWith}
-use Rattle.pdb_merge.specs.Merging.{MergeView, AddsFile, AreMapsOf, HasTaken}
+use Rattle.pdb_merge.specs.Merging.{MergeView, AddsFile}
 use Rattle.pdb_merge.specs.Own.{IsNotRefused, IsOfReading, IsOwnFault, merge_from_own}
 use Rattle.pdb_merge.specs.Fault.{NamesFault}
-use Rattle.pdb_merge.specs.Sift.{AcceptsNeeded, AreListed, AreMapsBut, HasSifted, IsLeftOut, IsOfSift, IsRefused, IsSiftFault, LeavesOut, RefusesSift, SiftsUpTo}
-use Rattle.pdb_merge.specs.Union.{CanMerge, FileHas, HasType, HasTypeBelow, ReadsFirst, Unites, Within}
+use Rattle.pdb_merge.specs.Sift.{AcceptsNeeded, AreListed, AreMapsBut, AreSpared, CanSift, HasSifted, IsLeftOut, IsOfSift, IsRefused, IsSiftFault, LeavesOut, RefusesSift, SiftsUpTo}
+use Rattle.pdb_merge.specs.Union.{FileHas, HasType, HasTypeBelow, ReadsFirst, Unites, Within}
 use Rattle.pdb_merge.specs.declared.fault.AddFault.TheVariants as add
 use Rattle.pdb_merge.specs.declared.fault.MergeFault.{MergeFault}
 use Rattle.pdb_merge.specs.declared.fault.MergeFault.TheVariants as merge
 use Rattle.pdb_merge.specs.declared.input.OwnFault.{OwnFault}
 use Rattle.pdb_merge.specs.declared.input.OwnFault.TheVariants as own
-use Rattle.pdb_merge.specs.declared.merging.sift_files.LeftOut.{LeftOut}
+use Rattle.pdb_merge.specs.declared.sift.LeftOut.{LeftOut}
 use Rattle.pdb_merge.proofs.InputLaws.{given_inside}
-use Rattle.pdb_merge.proofs.MergingLaws.{last_file, same_file, unites_still}
-use Rattle.pdb_merge.proofs.UnionLaws.{joined, united_more, weighs_same, within_same}
+use Rattle.pdb_merge.proofs.UnionLaws.{joined, none_united, none_within, united_more, weighs_same, within_same}
+
+-- ---- files with more files after them
+
+-- more files change no file before them
+same_file : (files more : List (List ℕ)) (i : ℕ) → i < length files → get_or (files ++ more) i [] ≡ get_or files i []
+same_file files more i inside = get_or_append_left files more [] i inside
+
+-- more files do not change the types of those before them
+same_below : (files more : List (List ℕ)) (end : ℕ) → end ≤ length files → (t : Tree) → HasTypeBelow files end t ↔ HasTypeBelow (files ++ more) end t
+same_below files more end inside t = (
+  λ h. let same = same_file files more h.0 (omega (arith, h.1, inside)) in (h.0, h.1, rw same h.2),
+  λ h. let same = same_file files more h.0 (omega (arith, h.1, inside)) in (h.0, h.1, rw same at h.2),
+)
+
+unites_still : (records files more : List (List ℕ)) (end : ℕ) → end ≤ length files → Unites records files end → Unites records (files ++ more) end
+unites_still records files more end inside unites t =
+    let same = same_below files more end inside t in
+    (λ h. same.0 ((unites t).0 h), λ h. (unites t).1 (same.1 h))
+
+last_file : (files : List (List ℕ)) (file : List ℕ) → get_or (files ++ file ∷ []) (length files) [] ≡ file
+last_file files file = get_or-append_seam files file [] []
 
 -- ---- what is left out
 
@@ -177,21 +197,21 @@ maps_one files file types left one (Some maps) new at kept are = rw kept (record
 
 -- ---- one more file
 
-maps_taken : (A : Type 0) (files list : List (List ℕ)) (maps : Option (List (List ℕ))) → IfSome maps (AreMapsOf files list) → IfSome maps (AreMapsBut {A = A} files [] list)
-maps_taken A files list None are = tt
-maps_taken A files list (Some maps) are = record { many = are.many; each = λ i inside. inl (are.each i inside) }
+no_maps : (A : Type 0) (list : List (List ℕ)) (maps : Option (List (List ℕ))) → IfSome maps (λ none. none ≡ []) → IfSome maps (AreMapsBut {A = A} [] [] list)
+no_maps A list None none = tt
+no_maps A list (Some maps) none = record { many = ap length none; each = λ i inside. absurd (omega (arith, inside)) }
 
--- files that were all taken
-taken_sifts : {A : Type 0} (m : MergeView) (files : List (List ℕ)) → HasTaken m files → HasSifted {A = A} m files []
-taken_sifts {A = A} m files taken = record {
+-- no files so far
+none_sifted : (A : Type 0) (m : MergeView) → m.types ≡ [] → IfSome m.maps (λ none. none ≡ []) → HasSifted {A = A} m [] []
+none_sifted A m types none = record {
   leaves = record {
-    listed = none_listed (length files);
+    listed = none_listed 0;
     refused = λ k d inside. absurd (omega (arith, inside));
-    others = λ i inside. inr (taken.accepted i inside);
+    others = λ i inside. absurd (omega (arith, inside));
   };
-  unites = taken.unites;
-  within = taken.within;
-  maps = maps_taken A files m.types m.maps taken.maps;
+  unites = rw types (none_united []);
+  within = rw types (none_within m.limit);
+  maps = no_maps A m.types m.maps none;
 }
 
 sifted_more : {A : Type 0} (before after : MergeView) (files : List (List ℕ)) (file : List ℕ) (left : List (LeftOut A)) → AddsFile before after file → Within (IsType after.types) after.limit
@@ -226,70 +246,91 @@ unites_whole types files k inside unites =
     let many : length (take k files) ≡ k = length-take-le k files (omega (arith, inside)) in
     rw (take-append-drop k files, many) at (unites_still types (take k files) (drop k files) (length (take k files)) (omega arith) unites)
 
-sift_stops : {A : Type 0} (needs : ℕ → Type 0) (m : MergeView) (files : List (List ℕ)) (k : ℕ) (left : List (LeftOut A)) (fault : OwnFault A) (outer : MergeFault A) → k < length files
-    → HasSifted m (take k files) left → (outer ≡ merge_from_own k fault) ⊎ (outer ≡ merge.Memory) → needs k ⊎ IsNotRefused fault → IsOwnFault m.types m.limit (get_or files k []) fault → IsSiftFault needs files m.limit outer
-sift_stops needs m files k left fault outer inside sifted (inr memory) kind is = rw memory tt
-sift_stops needs m files k left (own.Unread inner) outer inside sifted (inl made) kind is = rw (made, is) tt
-sift_stops needs m files k left (own.Of (add.Refused inner)) outer inside sifted (inl made) (inl needed) is = rw made (inside, needed, is)
-sift_stops needs m files k left (own.Of (add.Refused inner)) outer inside sifted (inl made) (inr kind) is = absurd kind
-sift_stops needs m files k left (own.Of add.Memory) outer inside sifted (inl made) kind is = rw made tt
-sift_stops needs m files k left (own.Of (add.TooLarge bytes)) outer inside sifted (inl made) kind (records, accepted, weighs, more) =
+-- each file that must stay is accepted
+leaves_needed : {A : Type 0} (must : ℕ → Type 0) (files : List (List ℕ)) (left : List (LeftOut A)) → LeavesOut files left → AreSpared must left → AcceptsNeeded must files (length files)
+leaves_needed must files left leaves spared i less stays = elim (leaves.others i less) [
+  | inl (one, holds, at) ↦ absurd (All-contains (λ a. must a.file → ⊥) left one spared holds (rw at stays))
+  | inr has ↦ has
+]
+
+-- so are the first of them
+needed_below : {A : Type 0} (must : ℕ → Type 0) (files : List (List ℕ)) (k : ℕ) (left : List (LeftOut A)) → k < length files → LeavesOut (take k files) left → AreSpared must left → AcceptsNeeded must files k
+needed_below must files k left inside leaves spared i less stays =
+    let many : length (take k files) ≡ k = length-take-le k files (omega (arith, inside)) in
+    let has = leaves_needed must (take k files) left leaves spared i (omega (arith, less, many)) stays in
+    (has.0, rw (get_or-take k files i [] less) at has.1)
+
+can_below : {A : Type 0} (must : ℕ → Type 0) (m : MergeView) (files : List (List ℕ)) (k : ℕ) (left : List (LeftOut A)) → k < length files → HasSifted m (take k files) left → AreSpared must left → CanSift must files k m.limit
+can_below must m files k left inside sifted spared = record {
+  accepted = needed_below must files k left inside sifted.leaves spared;
+  within = within_same (IsType m.types) (HasTypeBelow files k) m.limit (unites_whole m.types files k inside sifted.unites) sifted.within;
+}
+
+sift_stops : {A : Type 0} (must : ℕ → Type 0) (m : MergeView) (files : List (List ℕ)) (k : ℕ) (left : List (LeftOut A)) (fault : OwnFault A) (outer : MergeFault A) → k < length files
+    → HasSifted m (take k files) left → AreSpared must left → (outer ≡ merge_from_own k fault) ⊎ (outer ≡ merge.Memory) → must k ⊎ IsNotRefused fault → IsOwnFault m.types m.limit (get_or files k []) fault → IsSiftFault must files m.limit outer
+sift_stops must m files k left fault outer inside sifted spared (inr memory) kind is = rw memory tt
+sift_stops must m files k left (own.Unread inner) outer inside sifted spared (inl made) kind is = rw (made, is) tt
+sift_stops must m files k left (own.Of (add.Refused inner)) outer inside sifted spared (inl made) (inl stays) is = rw made (inside, stays, can_below must m files k left inside sifted spared, is)
+sift_stops must m files k left (own.Of (add.Refused inner)) outer inside sifted spared (inl made) (inr kind) is = absurd kind
+sift_stops must m files k left (own.Of add.Memory) outer inside sifted spared (inl made) kind is = rw made tt
+sift_stops must m files k left (own.Of (add.TooLarge bytes)) outer inside sifted spared (inl made) kind (records, accepted, weighs, more) =
     let unites = unites_whole m.types files k inside sifted.unites in
     rw made (
       inside,
-      within_same (IsType m.types) (HasTypeBelow files k) m.limit unites sifted.within,
+      can_below must m files k left inside sifted spared,
       (records, accepted),
       weighs_same (λ t. IsType m.types t ⊎ IsType records t) (HasTypeBelow files (k + 1)) bytes (joined m.types records files k unites accepted) weighs,
       more,
     )
 
 -- such a fault is no fault of a file alone, but of one that is needed
-sift_kind : {A : Type 0} (needs : ℕ → Type 0) (k : ℕ) (fault : OwnFault A) (outer : MergeFault A) → (outer ≡ merge_from_own k fault) ⊎ IsOfReading outer → needs k ⊎ IsNotRefused fault → NamesFault outer → IsOfSift needs outer
-sift_kind needs k fault (merge.Input file inner) is kind named = named
-sift_kind needs k fault (merge.TooLarge file bytes) is kind named = named
-sift_kind needs k fault merge.Memory is kind named = named
-sift_kind needs k (own.Of (add.Refused f)) (merge.Refused file inner) (inl made) (inl needed) named =
+sift_kind : {A : Type 0} (must : ℕ → Type 0) (k : ℕ) (fault : OwnFault A) (outer : MergeFault A) → (outer ≡ merge_from_own k fault) ⊎ IsOfReading outer → must k ⊎ IsNotRefused fault → NamesFault outer → IsOfSift must outer
+sift_kind must k fault (merge.Input file inner) is kind named = named
+sift_kind must k fault (merge.TooLarge file bytes) is kind named = named
+sift_kind must k fault merge.Memory is kind named = named
+sift_kind must k (own.Of (add.Refused f)) (merge.Refused file inner) (inl made) (inl stays) named =
     let at : file ≡ k = cc in
-    (rw at needed, named)
-sift_kind needs k (own.Of (add.Refused f)) (merge.Refused file inner) is (inr kind) named = absurd kind
-sift_kind needs k (own.Unread inputs.Open) (merge.Refused file inner) (inl made) kind named = absurd cc
-sift_kind needs k (own.Unread (inputs.Read reads.Read)) (merge.Refused file inner) (inl made) kind named = absurd cc
-sift_kind needs k (own.Unread (inputs.Read reads.TooLong)) (merge.Refused file inner) (inl made) kind named = absurd cc
-sift_kind needs k (own.Unread (inputs.Read reads.Memory)) (merge.Refused file inner) (inl made) kind named = absurd cc
-sift_kind needs k (own.Of (add.TooLarge bytes)) (merge.Refused file inner) (inl made) kind named = absurd cc
-sift_kind needs k (own.Of add.Memory) (merge.Refused file inner) (inl made) kind named = absurd cc
-sift_kind needs k fault (merge.Refused file inner) (inr reading) kind named = absurd reading
+    (rw at stays, named)
+sift_kind must k (own.Of (add.Refused f)) (merge.Refused file inner) is (inr kind) named = absurd kind
+sift_kind must k (own.Unread inputs.Open) (merge.Refused file inner) (inl made) kind named = absurd cc
+sift_kind must k (own.Unread (inputs.Read reads.Read)) (merge.Refused file inner) (inl made) kind named = absurd cc
+sift_kind must k (own.Unread (inputs.Read reads.TooLong)) (merge.Refused file inner) (inl made) kind named = absurd cc
+sift_kind must k (own.Unread (inputs.Read reads.Memory)) (merge.Refused file inner) (inl made) kind named = absurd cc
+sift_kind must k (own.Of (add.TooLarge bytes)) (merge.Refused file inner) (inl made) kind named = absurd cc
+sift_kind must k (own.Of add.Memory) (merge.Refused file inner) (inl made) kind named = absurd cc
+sift_kind must k fault (merge.Refused file inner) (inr reading) kind named = absurd reading
 
--- where the needed files are accepted, types that are within the limit are not too large
-sift_alone : {A : Type 0} (needs : ℕ → Type 0) (files : List (List ℕ)) (limit : ℕ) (fault : MergeFault A) → IsSiftFault needs files limit fault → AcceptsNeeded needs files → Within (HasType files) limit → fault ≡ merge.Memory
-sift_alone needs files limit (merge.Input file inner) is accepts within = absurd is
-sift_alone needs files limit (merge.Refused file inner) (inside, needed, refused) accepts within =
-    let (records, accepted) = accepts file inside needed in
+-- files that can be merged have no fault
+sift_alone : {A : Type 0} (must : ℕ → Type 0) (files : List (List ℕ)) (limit : ℕ) (fault : MergeFault A) → IsSiftFault must files limit fault → CanSift must files (length files) limit → fault ≡ merge.Memory
+sift_alone must files limit (merge.Input file inner) is can = absurd is
+sift_alone must files limit (merge.Refused file inner) (inside, stays, below, refused) can =
+    let (records, accepted) = can.accepted file inside stays in
     absurd (accepted_unrefused (get_or files file []) records inner accepted refused)
-sift_alone needs files limit (merge.TooLarge file bytes) (inside, below, accepted, (l, lists, heavy), more) accepts (all, (m, lists_m, heavy_m), few) =
+sift_alone must files limit (merge.TooLarge file bytes) (inside, below, accepted, (l, lists, heavy), more) can =
+    let (all, (m, lists_m, heavy_m), few) = can.within in
     let less = weight_grows l m lists.distinct (λ t c. let there = (lists.members t).0 c in (lists_m.members t).1 (there.0, omega (arith, there.1, inside), there.2)) in
     absurd (omega (arith, less, heavy, heavy_m, few, more))
-sift_alone needs files limit merge.Memory is accepts within = refl
+sift_alone must files limit merge.Memory is can = refl
 
-pub sift_refuses : {A : Type 0} (known : Option (List (Result (List ℕ) InputFault))) (needs : ℕ → Type 0) (k : ℕ) (m : MergeView) (left : List (LeftOut A)) (fault : OwnFault A) (outer : MergeFault A)
-    → IfSome known (λ each. k < length each) → SiftsUpTo known needs k m left
+pub sift_refuses : {A : Type 0} (known : Option (List (Result (List ℕ) InputFault))) (must : ℕ → Type 0) (k : ℕ) (m : MergeView) (left : List (LeftOut A)) (fault : OwnFault A) (outer : MergeFault A)
+    → IfSome known (λ each. k < length each) → SiftsUpTo known must k m left
     → ((given : List (List ℕ)) → Give known given → IsOwnFault m.types m.limit (get_or given k []) fault)
     → ((given : List (List ℕ)) → Give known given → (outer ≡ merge_from_own k fault) ⊎ (outer ≡ merge.Memory))
-    → (outer ≡ merge_from_own k fault) ⊎ IsOfReading outer → needs k ⊎ IsNotRefused fault → IfSome known (λ each. ReadsFirst each outer) → NamesFault outer → RefusesSift known needs m.limit outer
-sift_refuses known needs k m left fault outer inside so_far is made kind refused first named =
-    let stops : (given : List (List ℕ)) → Give known given → IsSiftFault needs given m.limit outer =
-    λ given gives. sift_stops needs m given k left fault outer (given_inside known given k gives inside) (so_far.sifted given gives) (made given gives) refused (is given gives) in
+    → (outer ≡ merge_from_own k fault) ⊎ IsOfReading outer → must k ⊎ IsNotRefused fault → IfSome known (λ each. ReadsFirst each outer) → NamesFault outer → RefusesSift known must m.limit outer
+sift_refuses known must k m left fault outer inside so_far is made kind refused first named =
+    let stops : (given : List (List ℕ)) → Give known given → IsSiftFault must given m.limit outer =
+    λ given gives. sift_stops must m given k left fault outer (given_inside known given k gives inside) (so_far.sifted given gives) so_far.spared (made given gives) refused (is given gives) in
     record {
       first = stops;
       reads = first;
-      own = sift_kind needs k fault outer kind refused named;
-      found = λ given gives accepts within. sift_alone needs given m.limit outer (stops given gives) accepts within;
+      own = sift_kind must k fault outer kind refused named;
+      found = λ given gives can. sift_alone must given m.limit outer (stops given gives) can;
     }
 
 -- out of memory refuses any files
-pub memory_refuses : (A : Type 0) (known : Option (List (Result (List ℕ) InputFault))) (needs : ℕ → Type 0) (limit : ℕ) → RefusesSift {A = A} known needs limit merge.Memory
-memory_refuses A None needs limit = record { first = λ given gives. tt; reads = tt; own = tt; found = λ given gives accepts within. refl }
-memory_refuses A (Some each) needs limit = record { first = λ given gives. tt; reads = tt; own = tt; found = λ given gives accepts within. refl }
+pub memory_refuses : (A : Type 0) (known : Option (List (Result (List ℕ) InputFault))) (must : ℕ → Type 0) (limit : ℕ) → RefusesSift {A = A} known must limit merge.Memory
+memory_refuses A None must limit = record { first = λ given gives. tt; reads = tt; own = tt; found = λ given gives can. refl }
+memory_refuses A (Some each) must limit = record { first = λ given gives. tt; reads = tt; own = tt; found = λ given gives can. refl }
 
 -- ---- the next file
 
@@ -298,21 +339,21 @@ none_read None = tt
 none_read (Some each) = λ k below. absurd (omega (arith, below))
 
 -- there is none so far
-pub sifts_none : (A : Type 0) (known : Option (List (Result (List ℕ) InputFault))) (needs : ℕ → Type 0) (m : MergeView) → HasTaken m [] → SiftsUpTo {A = A} known needs 0 m []
-sifts_none A known needs m taken = record {
-  sifted = λ files given. taken_sifts m [] taken;
+pub sifts_none : (A : Type 0) (known : Option (List (Result (List ℕ) InputFault))) (must : ℕ → Type 0) (m : MergeView) → m.types ≡ [] → IfSome m.maps (λ none. none ≡ []) → SiftsUpTo {A = A} known must 0 m []
+sifts_none A known must m types none = record {
+  sifted = λ files given. none_sifted A m types none;
   listed = none_listed 0;
   spared = λ k d inside. absurd (omega (arith, inside));
   read = none_read known;
-  within = taken.within;
+  within = rw types (none_within m.limit);
 }
 
 -- it was added
-pub sifts_added : {A : Type 0} (known : Option (List (Result (List ℕ) InputFault))) (needs : ℕ → Type 0) (k : ℕ) (before after : MergeView) (left : List (LeftOut A))
-    → IfSome known (λ each. k < length each) → SiftsUpTo known needs k before left
+pub sifts_added : {A : Type 0} (known : Option (List (Result (List ℕ) InputFault))) (must : ℕ → Type 0) (k : ℕ) (before after : MergeView) (left : List (LeftOut A))
+    → IfSome known (λ each. k < length each) → SiftsUpTo known must k before left
     → ((files : List (List ℕ)) → Give known files → AddsFile before after (get_or files k []))
-    → Within (IsType after.types) after.limit → IfSome known (λ each. CanRead each (k + 1)) → SiftsUpTo known needs (k + 1) after left
-sifts_added known needs k before after left inside so_far adds within read = record {
+    → Within (IsType after.types) after.limit → IfSome known (λ each. CanRead each (k + 1)) → SiftsUpTo known must (k + 1) after left
+sifts_added known must k before after left inside so_far adds within read = record {
   sifted = λ files given. rw (take_more files k [] (given_inside known files k given inside)) (sifted_more before after (take k files) (get_or files k []) left (adds files given) within (so_far.sifted files given));
   listed = listed_still k (k + 1) left (omega arith) so_far.listed;
   spared = so_far.spared;
@@ -321,17 +362,17 @@ sifts_added known needs k before after left inside so_far adds within read = rec
 }
 
 -- it is left out
-pub sifts_left : {A : Type 0} (known : Option (List (Result (List ℕ) InputFault))) (needs : ℕ → Type 0) (k : ℕ) (before after : MergeView) (left : List (LeftOut A)) (one : LeftOut A)
-    → IfSome known (λ each. k < length each) → SiftsUpTo known needs k before left → one.file ≡ k → one.fault ≢ pdb.Memory → (needs k → ⊥)
+pub sifts_left : {A : Type 0} (known : Option (List (Result (List ℕ) InputFault))) (must : ℕ → Type 0) (k : ℕ) (before after : MergeView) (left : List (LeftOut A)) (one : LeftOut A)
+    → IfSome known (λ each. k < length each) → SiftsUpTo known must k before left → one.file ≡ k → one.fault ≢ pdb.Memory → (must k → ⊥)
     → ((files : List (List ℕ)) → Give known files → HasPdbFault (get_or files k []) one.fault)
-    → after.types ≡ before.types → after.limit ≡ before.limit → after.maps ≡ with_map before.maps [] → IfSome known (λ each. CanRead each (k + 1)) → SiftsUpTo known needs (k + 1) after (left ++ one ∷ [])
-sifts_left known needs k before after left one inside so_far at named spared refused types limit maps read = record {
+    → after.types ≡ before.types → after.limit ≡ before.limit → after.maps ≡ with_map before.maps [] → IfSome known (λ each. CanRead each (k + 1)) → SiftsUpTo known must (k + 1) after (left ++ one ∷ [])
+sifts_left known must k before after left one inside so_far at named spared refused types limit maps read = record {
   sifted = λ files given.
       let below = given_inside known files k given inside in
       let many : k ≡ length (take k files) = sym (length-take-le k files (omega (arith, below))) in
       rw (take_more files k [] below) (sifted_one before after (take k files) (get_or files k []) left one (at ∙ many) named (refused files given) types limit maps (so_far.sifted files given));
   listed = listed_more k left one so_far.listed at named;
-  spared = All-push (λ a. needs a.file → ⊥) left one so_far.spared (rw at spared);
+  spared = All-push (λ a. must a.file → ⊥) left one so_far.spared (rw at spared);
   read = read;
   within = rw (types, limit) so_far.within;
 }
@@ -364,15 +405,9 @@ sifted_maps m list files left new all sifted = maps_finished files m.types list 
 pub sifted_canon : {A : Type 0} (m : MergeView) (list files : List (List ℕ)) (left : List (LeftOut A)) → IsCanonOf list (IsType m.types) → HasSifted m files left → IsCanonOf list (HasType files)
 sifted_canon m list files left is sifted = canon_same list (IsType m.types) (HasType files) is sifted.unites
 
-pub sifted_within : {A : Type 0} (m : MergeView) (files : List (List ℕ)) (left : List (LeftOut A)) → HasSifted m files left → Within (HasType files) m.limit
-sifted_within m files left sifted = within_same (IsType m.types) (HasType files) m.limit sifted.unites sifted.within
-
--- where no file is left out, all can be merged
-pub sifted_can : {A : Type 0} (m : MergeView) (files : List (List ℕ)) (left : List (LeftOut A)) → left ≡ [] → HasSifted m files left → CanMerge files m.limit
-sifted_can m files left none sifted = record {
-  accepted = λ i inside. elim (sifted.leaves.others i inside) [
-    | inl out ↦ absurd (omega (arith, out.1.1, ap length none))
-    | inr has ↦ has
-  ];
-  within = sifted_within m files left sifted;
+-- the files can be merged, but for those that are left out
+pub sifted_can : {A : Type 0} (must : ℕ → Type 0) (m : MergeView) (files : List (List ℕ)) (left : List (LeftOut A)) → AreSpared must left → HasSifted m files left → CanSift must files (length files) m.limit
+sifted_can must m files left spared sifted = record {
+  accepted = leaves_needed must files left sifted.leaves spared;
+  within = within_same (IsType m.types) (HasType files) m.limit sifted.unites sifted.within;
 }

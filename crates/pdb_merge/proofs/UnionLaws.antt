@@ -13,11 +13,9 @@ use Rattle.file_types.specs.Read.{IsAccepted}
 use Rattle.byte_io.specs.Inputs.{Give}
 use Rattle.byte_io.specs.declared.inputs.InputFault.{InputFault}
 use Rattle.pdb_merge.specs.Answer.{RefusesFiles}
-use Rattle.pdb_merge.specs.Fault.{NamesFault, merge_from_add}
+use Rattle.pdb_merge.specs.Fault.{NamesFault}
 use Rattle.pdb_merge.specs.Laws.{TypesOfFirst, TypesOfBoth, AnyOrder, RefusedInAnyOrder, RefusedAddNothing, OneWeight}
-use Rattle.pdb_merge.specs.Union.{FileHas, HasTypeBelow, HasType, AcceptedBelow, Weighs, Within, IsAddFault, CanMerge, CanMergeBelow, IsMergeFault, ReadsFirst, Unites}
-use Rattle.pdb_merge.specs.declared.fault.AddFault.{AddFault}
-use Rattle.pdb_merge.specs.declared.fault.AddFault.TheVariants as add
+use Rattle.pdb_merge.specs.Union.{FileHas, HasTypeBelow, HasType, AcceptedBelow, Weighs, Within, CanMerge, IsMergeFault, ReadsFirst, Unites}
 use Rattle.pdb_merge.specs.declared.fault.MergeFault.{MergeFault}
 use Rattle.pdb_merge.specs.declared.fault.MergeFault.TheVariants as merge
 use Rattle.file_types.proofs.ReadLaws.{one_list, accepted_unrefused}
@@ -100,28 +98,6 @@ one_accepted file types accepted = accepted_more (file ∷ []) 0 types accepted 
 
 -- ---- a list of files
 
-pub merged_below : (before files : List (List ℕ)) (k limit : ℕ) → Unites before files k → AcceptedBelow files k → Within (IsType before) limit → CanMergeBelow files k limit
-merged_below before files k limit unites accepted within = record { accepted = accepted; within = within_same (IsType before) (HasTypeBelow files k) limit unites within }
-
-pub all_merged : (before files : List (List ℕ)) (k limit : ℕ) → k ≡ length files → Unites before files k → AcceptedBelow files k → Within (IsType before) limit → CanMerge files limit
-all_merged before files k limit all unites accepted within =
-    record { accepted = rw (← all) accepted; within = rw (← all) (within_same (IsType before) (HasTypeBelow files k) limit unites within) }
-
--- the fault of a file that is added stops the merge
-pub hindered : {A : Type 0} (before files : List (List ℕ)) (k limit : ℕ) (inner : AddFault A) (outer : MergeFault A) → k < length files → Unites before files k → AcceptedBelow files k
-    → Within (IsType before) limit → outer ≡ merge_from_add k inner → IsAddFault before limit (get_or files k []) inner → IsMergeFault files limit outer
-hindered before files k limit (add.Refused fault) outer inside unites accepted within made hinders =
-    rw made (inside, merged_below before files k limit unites accepted within, hinders)
-hindered before files k limit (add.TooLarge heavy) outer inside unites accepted within made (types, has, weighs, more) =
-    rw made (
-      inside,
-      merged_below before files k limit unites accepted within,
-      accepted_more files k types has accepted,
-      weighs_same (λ t. IsType before t ⊎ IsType types t) (HasTypeBelow files (k + 1)) heavy (joined before types files k unites has) weighs,
-      more,
-    )
-hindered before files k limit add.Memory outer inside unites accepted within made hinders = rw made tt
-
 -- files that can be merged are not too large
 can_large : (A : Type 0) (files : List (List ℕ)) (limit file heavy : ℕ) → IsMergeFault {A = A} files limit (merge.TooLarge file heavy) → CanMerge files limit → ⊥
 can_large A files limit file heavy (inside, below, accepted, (l, lists, is), more) can =
@@ -137,16 +113,6 @@ stopped_alone {A = A} files limit (merge.Refused file fault) (inside, below, ref
     absurd (accepted_unrefused (get_or files file []) has.0 fault has.1 refused)
 stopped_alone {A = A} files limit (merge.TooLarge file heavy) stops can = absurd (can_large A files limit file heavy stops can)
 stopped_alone {A = A} files limit merge.Memory stops can = refl
-
--- a last file that can be merged with those before it is refused only when out of memory
-pub added_alone : {A : Type 0} (before files : List (List ℕ)) (k limit : ℕ) (inner : AddFault A) → k < length files → Unites before files k → AcceptedBelow files k
-    → Within (IsType before) limit → IsAddFault before limit (get_or files k []) inner → CanMerge files limit → inner ≡ add.Memory
-added_alone {A = A} before files k limit (add.Refused fault) inside unites accepted within hinders can =
-    let has = can.accepted k inside in
-    absurd (accepted_unrefused (get_or files k []) has.0 fault has.1 hinders)
-added_alone {A = A} before files k limit (add.TooLarge heavy) inside unites accepted within hinders can =
-    absurd (can_large A files limit k heavy (hindered {A = A} before files k limit (add.TooLarge heavy) (merge.TooLarge k heavy) inside unites accepted within refl hinders) can)
-added_alone {A = A} before files k limit add.Memory inside unites accepted within hinders can = refl
 
 -- ---- lists of the same files
 

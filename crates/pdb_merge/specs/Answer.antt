@@ -47,13 +47,9 @@ pub record RefusesReading {A : Type 0} (known : Option (List (Result (List ℕ) 
   pub found : (given : List (List ℕ)) → Give known given → AcceptedBelow given (length given)
       → fault ≡ merge.Memory
 
--- what a merge wrote: the bytes of its sink before and after, and what it returned
-abbrev pub WritesWith : Type 0 → Type 1
-WritesWith T = Option (List ℕ) → Option (List ℕ) → T → Type 0
-
--- what a merge wrote that returns the summary of the file
+-- what a merge wrote: the bytes of its sink before and after, and the summary of the file
 abbrev pub Writes : Type 1
-Writes = WritesWith Summary
+Writes = Option (List ℕ) → Option (List ℕ) → Summary → Type 0
 
 -- what a merge wrote before its sink broke: the bytes of the sink before and after
 abbrev pub WritesPart : Type 1
@@ -61,10 +57,10 @@ WritesPart = Option (List ℕ) → Option (List ℕ) → Type 0
 
 -- how a call that merges files into a sink answers: `wrote` says what it wrote for which files, and
 -- `part` what it wrote of that before the sink broke
-pub record MergesTo {A W T : Type 0} (known : Option (List (Result (List ℕ) InputFault)))
-    (limit : ℕ) (wrote : List (List ℕ) → WritesWith T) (part : List (List ℕ) → WritesPart)
+pub record MergesTo {A W : Type 0} (known : Option (List (Result (List ℕ) InputFault)))
+    (limit : ℕ) (wrote : List (List ℕ) → Writes) (part : List (List ℕ) → WritesPart)
     (taken : W → Option (List ℕ)) (is_broken : W → Bool) (before after : W)
-    (result : Result T (OutFault A)) : Type 0 where
+    (result : Result Summary (OutFault A)) : Type 0 where
   pub value : (given : List (List ℕ)) → Give known given →
       IfOk result (wrote given (taken before) (taken after))
   pub accepts : OnOk result (AcceptsFiles known limit)

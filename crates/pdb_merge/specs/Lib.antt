@@ -7,3 +7,6 @@ pub mod Answer
 pub mod Own
 pub mod Parts
 pub mod Sift
+pub mod Guid
+pub mod OfTypes
+pub mod Plan

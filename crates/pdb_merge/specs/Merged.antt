@@ -1,5 +1,5 @@
 -- The file that is written for types.
-use Rattle.std.specs.Prelude.{ℕ, ◌≡◌, ◌↔◌, List, [], ◌∷◌, ◌++◌, Option, length, IfSome}
+use Rattle.std.specs.Prelude.{ℕ, ◌≡◌, ◌↔◌, List, [], ◌∷◌, ◌++◌, Option, length}
 use Rattle.std.specs.List.{concat}
 use Rattle.std.specs.Io.KnownBytes.{Appends}
 use Rattle.msf_streams.specs.Image.{image}
@@ -11,7 +11,6 @@ use Rattle.closed_trees.specs.Tree.{Tree, IsTreeAt, IsType}
 use Rattle.canonical_list.specs.Finish.{IsCanonOf}
 use Rattle.file_types.specs.Read.{IsAccepted}
 use Rattle.pdb_merge.specs.Union.{HasType, SameTypes, Weighs, CanMerge}
-use Rattle.pdb_merge.specs.Merging.{AreMapsOf}
 use Rattle.pdb_merge.specs.declared.summary.Summary.{Summary}
 
 -- ---- the bytes of the file
@@ -107,19 +106,6 @@ pub record WrotePartAs (IsFile : List ℕ → List (List ℕ) → Type 0) (old n
 abbrev pub Wrote : List (List ℕ) → SettingsView → Option (List ℕ) → Option (List ℕ) → Summary
     → Type 0
 Wrote files settings old new summary = WroteAs (IsFileOf files settings) files old new summary
-
--- a sink took a file of the types of some files, of which `IsFile` holds, and the maps, if they are
--- kept, are those of the files into its records
-pub record WroteMapped (IsFile : List ℕ → List (List ℕ) → Type 0) (files : List (List ℕ))
-    (old new : Option (List ℕ)) (summary : Summary) (kept : Option (List (List ℕ))) : Type 0 where
-  pub wrote : WroteAs IsFile files old new summary
-  pub maps : IfSome kept (AreMapsOf files wrote.records)
-
--- the same, where a value has the maps, if it keeps them
-abbrev pub WroteWithMaps : {K : Type 0} → (List ℕ → List (List ℕ) → Type 0) → List (List ℕ)
-    → (K → Option (List (List ℕ))) → Option (List ℕ) → Option (List ℕ) → Summary × K → Type 0
-WroteWithMaps IsFile files maps_of old new (summary, kept) =
-    WroteMapped IsFile files old new summary (maps_of kept)
 
 -- a sink took the first bytes of that file, but not all of them
 abbrev pub WrotePart : List (List ℕ) → SettingsView → Option (List ℕ) → Option (List ℕ) → Type 0

@@ -1,13 +1,10 @@
 -- A merge in progress.
-use Rattle.std.specs.Prelude.{ℕ, ◌≡◌, ◌<◌, ◌⊎◌, ◌↔◌, List, [], Option, length, get_or, IfSome}
-use Rattle.byte_io.specs.At.{Bytes}
-use Rattle.msf_blocks.specs.Layout.{LayoutView, HasTexts}
+use Rattle.std.specs.Prelude.{ℕ, ◌≡◌, ◌<◌, ◌⊎◌, ◌↔◌, List, [], Option, length, get_or}
 use Rattle.closed_trees.specs.Tree.{Tree, IsType}
 use Rattle.canonical_list.specs.Numbers.{AreNumbers}
 use Rattle.type_table.specs.Maps.{IsMapped}
 use Rattle.type_table.specs.Merge.{StartsWith}
-use Rattle.file_types.specs.Read.{IsAccepted, HasTypes, TypesWereRead}
-use Rattle.pdb_merge.specs.Union.{AcceptedBelow, Unites, Within}
+use Rattle.file_types.specs.Read.{IsAccepted, HasTypes}
 
 -- records that have the types of the files so far, how many bytes the types may have together, and
 -- the maps of the files into the records, if they are kept
@@ -37,18 +34,7 @@ pub record AddsStream (before after : MergeView) (stream : List ℕ) : Type 0 wh
   pub has : HasTypes stream records
   pub added : Adds before after records
 
--- `after` has taken the types that reads gave of this layout
-pub record AddsRead (before after : MergeView) (bytes : Bytes) (layout : LayoutView) : Type 0 where
-  pub records : List (List ℕ)
-  pub were_read : TypesWereRead bytes layout records
-  pub added : Adds before after records
-
--- `after` has taken the types that reads gave: reads gave a layout, and types of it
-abbrev pub AddsTexts : MergeView → MergeView → Bytes → Type 0
-AddsTexts before after bytes =
-    (layout : LayoutView) × HasTexts bytes layout × AddsRead before after bytes layout
-
--- ---- all files so far
+-- ---- the maps
 
 -- the file is accepted, and its map has for each of its records the position of its type in the
 -- list
@@ -60,11 +46,3 @@ IsMapOf file list numbers =
 pub record AreMapsOf (files list maps : List (List ℕ)) : Type 0 where
   pub many : length maps ≡ length files
   pub each : (i : ℕ) → i < length files → IsMapOf (get_or files i []) list (get_or maps i [])
-
--- the merge has taken these files: each is accepted, the merge has just their types, and these are
--- within its limit; its maps are those of the files, if they are kept
-pub record HasTaken (merge : MergeView) (files : List (List ℕ)) : Type 0 where
-  pub accepted : AcceptedBelow files (length files)
-  pub unites : Unites merge.types files (length files)
-  pub within : Within (IsType merge.types) merge.limit
-  pub maps : IfSome merge.maps (AreMapsOf files merge.types)

@@ -9,10 +9,12 @@ use Rattle.file_types.specs.declared.fault.PdbFault.TheVariants as fault
 use Rattle.pdb_merge.specs.Fault.{NamesFault}
 use Rattle.pdb_merge.specs.Merged.{WroteAs}
 use Rattle.pdb_merge.specs.Merging.{MergeView, IsMapOf}
-use Rattle.pdb_merge.specs.Union.{HasType, HasTypeBelow, Unites, Weighs, Within, ReadsFirst}
+use Rattle.pdb_merge.specs.Union.{HasTypeBelow, Unites, Weighs, Within, ReadsFirst}
+use Rattle.run_options.specs.declared.on_refused.OnRefused.{OnRefused}
+use Rattle.run_options.specs.declared.on_refused.OnRefused.TheVariants.{Stop, Skip}
 use Rattle.pdb_merge.specs.declared.fault.MergeFault.{MergeFault}
 use Rattle.pdb_merge.specs.declared.fault.MergeFault.TheVariants as merge
-use Rattle.pdb_merge.specs.declared.merging.sift_files.LeftOut.{LeftOut}
+use Rattle.pdb_merge.specs.declared.sift.LeftOut.{LeftOut}
 use Rattle.pdb_merge.specs.declared.summary.Summary.{Summary}
 
 -- ---- the files that are left out
@@ -64,54 +66,71 @@ pub record HasSifted {A : Type 0} (merge : MergeView) (files : List (List ℕ))
   pub within : Within (IsType merge.types) merge.limit
   pub maps : IfSome merge.maps (AreMapsBut files left merge.types)
 
--- no file that is needed is left out
+-- a file that must not be left out: each of them, or one that is needed
+abbrev pub MustStay : OnRefused → (ℕ → Type 0) → ℕ → Type 0
+MustStay Stop needs file = Unit {0}
+MustStay Skip needs file = needs file
+
+-- no file that must stay is left out
 abbrev pub AreSpared : {A : Type 0} → (ℕ → Type 0) → List (LeftOut A) → Type 0
-AreSpared needs left = All (λ one. needs one.file → ⊥) left
+AreSpared must left = All (λ one. must one.file → ⊥) left
 
 -- the first `end` files were read, each of which was added to the merge or is left out
 pub record SiftsUpTo {A : Type 0} (known : Option (List (Result (List ℕ) InputFault)))
-    (needs : ℕ → Type 0) (end : ℕ) (merge : MergeView) (left : List (LeftOut A)) : Type 0 where
+    (must : ℕ → Type 0) (end : ℕ) (merge : MergeView) (left : List (LeftOut A)) : Type 0 where
   pub sifted : (files : List (List ℕ)) → Give known files → HasSifted merge (take end files) left
   pub listed : AreListed end left
-  pub spared : AreSpared needs left
+  pub spared : AreSpared must left
   pub read : IfSome known (λ each. CanRead each end)
   pub within : Within (IsType merge.types) merge.limit
 
--- ---- why nothing is merged
+-- ---- which files are merged, and why they are not
 
--- each file that is needed is accepted
-abbrev pub AcceptsNeeded : (ℕ → Type 0) → List (List ℕ) → Type 0
-AcceptsNeeded needs files = (i : ℕ) → i < length files → needs i → IsAcceptedAt files i
+-- each of the first `end` files that must stay is accepted
+abbrev pub AcceptsNeeded : (ℕ → Type 0) → List (List ℕ) → ℕ → Type 0
+AcceptsNeeded must files end = (i : ℕ) → i < end → must i → IsAcceptedAt files i
 
--- this is why the files are not merged, though those that are refused would be left out: one that
--- is needed is refused; or one of them is accepted, and with it the types have `bytes` bytes, more
--- than the limit; or memory ran out
+-- the first `end` files can be merged, but for those that are left out
+pub record CanSift (must : ℕ → Type 0) (files : List (List ℕ)) (end limit : ℕ) : Type 0 where
+  pub accepted : AcceptsNeeded must files end
+  pub within : Within (HasTypeBelow files end) limit
+
+-- the files of the inputs were merged, but for those that are left out
+pub record AcceptsSift (known : Option (List (Result (List ℕ) InputFault)))
+    (must : ℕ → Type 0) (limit : ℕ) : Type 0 where
+  -- every file was read
+  pub read : IfSome known (λ each. CanRead each (length each))
+  pub can : (given : List (List ℕ)) → Give known given → CanSift must given (length given) limit
+
+-- this is why the files are not merged: those before one of them can be, and this one must stay and
+-- has this fault; or it is accepted, and with it the types have `bytes` bytes, more than the limit;
+-- or memory ran out
 abbrev pub IsSiftFault : {A : Type 0} → (ℕ → Type 0) → List (List ℕ) → ℕ → MergeFault A → Type 0
-IsSiftFault needs files limit (merge.Refused file inner) =
-    (file < length files) × needs file × HasPdbFault (get_or files file []) inner
-IsSiftFault needs files limit (merge.TooLarge file bytes) =
-    (file < length files) × Within (HasTypeBelow files file) limit × IsAcceptedAt files file
+IsSiftFault must files limit (merge.Refused file inner) =
+    (file < length files) × must file × CanSift must files file limit
+    × HasPdbFault (get_or files file []) inner
+IsSiftFault must files limit (merge.TooLarge file bytes) =
+    (file < length files) × CanSift must files file limit × IsAcceptedAt files file
     × Weighs (HasTypeBelow files (file + 1)) bytes × (limit < bytes)
-IsSiftFault needs files limit merge.Memory = Unit {0}
-IsSiftFault needs files limit (merge.Input file inner) = ⊥
+IsSiftFault must files limit merge.Memory = Unit {0}
+IsSiftFault must files limit (merge.Input file inner) = ⊥
 
--- no file is refused for a fault of its own but one that is needed, and out of memory is never
+-- no file is refused for a fault of its own but one that must stay, and out of memory is never
 -- inside another fault
 abbrev pub IsOfSift : {A : Type 0} → (ℕ → Type 0) → MergeFault A → Type 0
-IsOfSift needs (merge.Refused file inner) = needs file × NamesFault (merge.Refused file inner)
-IsOfSift needs fault = NamesFault fault
+IsOfSift must (merge.Refused file inner) = must file × NamesFault (merge.Refused file inner)
+IsOfSift must fault = NamesFault fault
 
 -- the files are not merged, for this reason
 pub record RefusesSift {A : Type 0} (known : Option (List (Result (List ℕ) InputFault)))
-    (needs : ℕ → Type 0) (limit : ℕ) (fault : MergeFault A) : Type 0 where
-  pub first : (given : List (List ℕ)) → Give known given → IsSiftFault needs given limit fault
+    (must : ℕ → Type 0) (limit : ℕ) (fault : MergeFault A) : Type 0 where
+  pub first : (given : List (List ℕ)) → Give known given → IsSiftFault must given limit fault
   -- reading comes first: every file was read, or the fault is that of the first unread file
   pub reads : IfSome known (λ each. ReadsFirst each fault)
-  pub own : IsOfSift needs fault
-  -- where the needed files are accepted, and the types are within the limit, only out of memory
-  -- refuses the files
-  pub found : (given : List (List ℕ)) → Give known given → AcceptsNeeded needs given
-      → Within (HasType given) limit → fault ≡ merge.Memory
+  pub own : IsOfSift must fault
+  -- files that can be merged are refused only when out of memory
+  pub found : (given : List (List ℕ)) → Give known given
+      → CanSift must given (length given) limit → fault ≡ merge.Memory
 
 -- ---- what was written
 

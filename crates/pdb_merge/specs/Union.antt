@@ -1,13 +1,11 @@
 -- The types of a list of files, and when they can be merged.
 use Rattle.std.specs.Prelude.{ℕ, ◌≡◌, ◌≢◌, ◌+◌, ◌<◌, ◌≤◌, ◌⊎◌, ◌↔◌, List, [], Result, length, get_or}
 use Rattle.std.specs.List.{AllPairs, Contains}
-use Rattle.byte_io.specs.At.{Bytes}
 use Rattle.byte_io.specs.Inputs.{CanRead, IsFirstUnread}
 use Rattle.byte_io.specs.declared.inputs.InputFault.{InputFault}
 use Rattle.closed_trees.specs.Tree.{Tree, IsType}
 use Rattle.closed_trees.specs.Canon.{weight}
-use Rattle.msf_blocks.specs.Layout.{LayoutView, HasTexts}
-use Rattle.file_types.specs.Read.{IsAccepted, HasTypes, HasFaultOfTypes, TypesWereRead, HasPdbFault, HasPdbFaultRead, IsLayoutFaultRead}
+use Rattle.file_types.specs.Read.{IsAccepted, HasTypes, HasFaultOfTypes, HasPdbFault}
 use Rattle.pdb_merge.specs.declared.fault.AddFault.{AddFault}
 use Rattle.pdb_merge.specs.declared.fault.AddFault.TheVariants as add
 use Rattle.pdb_merge.specs.declared.fault.MergeFault.{MergeFault}
@@ -74,31 +72,6 @@ IsAddFaultOfStream before limit stream (add.TooLarge bytes) =
     (records : List (List ℕ)) × HasTypes stream records
     × Weighs (λ t. IsType before t ⊎ IsType records t) bytes × (limit < bytes)
 IsAddFaultOfStream before limit stream add.Memory = Unit {0}
-
--- this is why what reads gave of this layout is not added to the types of `before`: it has this
--- fault, or the union has `heavy` bytes, more than the limit, or memory ran out
-abbrev pub IsAddFaultRead : {A : Type 0} → List (List ℕ) → ℕ → Bytes → LayoutView → AddFault A
-    → Type 0
-IsAddFaultRead before limit bytes layout (add.Refused fault) = HasPdbFaultRead bytes layout fault
-IsAddFaultRead before limit bytes layout (add.TooLarge heavy) =
-    (records : List (List ℕ)) × TypesWereRead bytes layout records
-    × Weighs (λ t. IsType before t ⊎ IsType records t) heavy × (limit < heavy)
-IsAddFaultRead before limit bytes layout add.Memory = Unit {0}
-
--- reads gave bytes of a container, and its layout has this fault; or memory ran out
-abbrev pub IsLayoutAddFault : {A : Type 0} → Bytes → AddFault A → Type 0
-IsLayoutAddFault bytes (add.Refused fault) = IsLayoutFaultRead bytes fault
-IsLayoutAddFault bytes (add.TooLarge heavy) = ⊥
-IsLayoutAddFault bytes add.Memory = Unit {0}
-
--- this is why what reads gave is not added to the types of `before`: the layout has this fault, or
--- reads gave a layout without a fault and what they gave of its streams is not added for this
--- reason
-abbrev pub IsAddFaultOfTexts : {A : Type 0} → List (List ℕ) → ℕ → Bytes → AddFault A → Type 0
-IsAddFaultOfTexts before limit bytes fault =
-    IsLayoutAddFault bytes fault
-    ⊎ ((layout : LayoutView) × HasTexts bytes layout
-    × IsAddFaultRead before limit bytes layout fault)
 
 -- ---- a list of files
 

@@ -2,8 +2,8 @@
 //! hold.
 //!
 //! `arguments` takes the arguments from the system. `merge` runs the command of that name: `lists` reads
-//! the list of more inputs, `early` refuses files that can't be written, `map` writes its maps, and
-//! `report` prints the report on it. `hashes` makes the hashes of records. `hold` keeps files off the
+//! the list of more inputs, `early` refuses files that can't be written, and `report` prints the report
+//! on it. `hashes` makes the hashes of records. `hold` keeps files off the
 //! numbers of the standard streams, and `refusal` prints why a command was refused.
 //! The arguments are read by `command_line`, files are opened and created by `program_files`, and
 //! the commands are those of `pdb_commands`. This module joins these to the system: arguments, the
@@ -18,7 +18,6 @@ mod early;
 mod hashes;
 mod hold;
 mod lists;
-mod map;
 mod merge;
 mod refusal;
 mod report;

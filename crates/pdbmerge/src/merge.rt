@@ -2,20 +2,18 @@
 
 use crate::early::refuse_early;
 use crate::hashes::Hashes;
-use crate::map::write_map_file;
 use crate::refusal::{quoted, taken_by};
 use crate::report::{REPORT_LENGTH, print};
-use byte_io::Out;
+use byte_io::{Out, Sink};
 use command_line::Merging;
-use pdb_commands::{
-    RunFault, SiftedFile, merge_accepted, report_accepted, run_merge_by_types, run_merge_with,
-};
-use pdb_merge::{KeepMaps, LeftOut, NoMaps, TypeMaps};
+use pdb_commands::{RunFault, run_plan};
+use pdb_merge::{KeepMaps, LeftOut, NoMaps, Plan, TypeMaps};
 use program_files::{
-    FileId, InputFiles, NewFile, Place, Placed, ProgramFault, Progress, Said, TakenStreams,
-    are_file, place_both,
+    FileId, InputFiles, NewFile, NewFiles, Placed, ProgramFault, Progress, Said, TakenStreams,
+    are_file,
 };
-use run_options::GuidChoice;
+use run_options::OnRefused;
+use std::alloc::AllocError;
 use std::process::ExitCode;
 use std::rt::HostRuntime;
 
@@ -35,16 +33,8 @@ struct Job<'a> {
 /// Files that were written, but have not taken their places yet, and what is said of them.
 #[derive(Drop)]
 struct Written<'a> {
-    out: NewFile<'a, HostRuntime>,
-    map: Option<NewFile<'a, HostRuntime>>,
+    files: NewFiles<'a, HostRuntime>,
     report: Vec<u8>,
-    left_out: Vec<LeftOut>,
-}
-
-/// What a merge gives beside its file.
-#[derive(Drop)]
-struct Beside<K: Drop> {
-    maps: K,
     left_out: Vec<LeftOut>,
 }
 
@@ -60,118 +50,79 @@ fn inputs_of<'a>(job: &Job<'a>) -> InputFiles<'a, HostRuntime> {
     InputFiles::new(job.rt, &task.inputs, task.max_bytes, progress, job.said)
 }
 
-/// Merges those inputs that are accepted into a new file, and reports on it.
-#[inline(never)]
-fn merge_some<K: KeepMaps + Drop>(
-    job: &Job<'_>,
-    out: &mut NewFile<'_, HostRuntime>,
-    report: &mut Vec<u8>,
-    hasher: Hashes,
-    maps: K,
-) -> Result<Beside<K>, RunFault> {
-    let (alloc, task) = (job.rt.alloc(), job.task);
-    // A file that is left out would be lost where it is the one that is written.
-    let needed = are_file(job.rt, &FileId::of(job.rt, task.out.as_str()), &task.inputs)?;
-    let inputs = inputs_of(job).needing(&needed);
-    let done = merge_accepted(
-        alloc,
-        inputs,
-        &task.settings,
-        task.naming,
-        out,
-        hasher,
-        maps,
-    )?;
-    let SiftedFile {
-        summary,
-        maps,
-        left_out,
-    } = done;
-    let refused = u32::try_from(left_out.len()).unwrap_or(u32::MAX);
-    report_accepted(alloc, &summary, refused, &mut Out::new(report))?;
-    Ok(Beside { maps, left_out })
-}
-
-/// Merges all inputs into a new file, and reports on it.
-#[inline(never)]
-fn merge_all<K: KeepMaps + Drop>(
-    job: &Job<'_>,
-    out: &mut NewFile<'_, HostRuntime>,
-    report: &mut Vec<u8>,
-    hasher: Hashes,
-    maps: K,
-) -> Result<Beside<K>, RunFault> {
-    let (alloc, settings) = (job.rt.alloc(), &job.task.settings);
-    let (inputs, mut report) = (inputs_of(job), Out::new(report));
-    let maps = match job.task.naming {
-        GuidChoice::Given => {
-            run_merge_with(alloc, inputs, settings, out, &mut report, hasher, maps)?
-        }
-        GuidChoice::ByTypes => {
-            run_merge_by_types(alloc, inputs, settings, out, &mut report, hasher, maps)?
-        }
-    };
-    Ok(Beside {
-        maps,
-        left_out: Vec::new(alloc),
-    })
-}
-
-/// Merges inputs into a new file, which is stored then.
-fn merge_into<K: KeepMaps + Drop>(
-    job: &Job<'_>,
-    out: &mut NewFile<'_, HostRuntime>,
-    report: &mut Vec<u8>,
-    hasher: Hashes,
-    maps: K,
-) -> Result<Beside<K>, ProgramFault> {
-    let merged = if job.task.skips_refused {
-        merge_some(job, out, report, hasher, maps)
-    } else {
-        merge_all(job, out, report, hasher, maps)
-    };
-    if out.is_refused() {
-        return Err(out.refusal());
+/// How the inputs are merged.
+fn plan_of(task: &Merging) -> Plan {
+    Plan {
+        settings: task.settings,
+        guid: task.guid,
+        refused: task.refused,
     }
-    let beside = merged?;
-    out.store()?;
-    Ok(beside)
 }
 
-/// Merges inputs into a new file, and then writes the maps of the inputs where they are asked for.
+/// Which inputs are OUT. One that is left out would be lost there.
 #[inline(never)]
-fn write_files<'a>(
-    job: &Job<'a>,
-    out: &mut NewFile<'a, HostRuntime>,
-    report: &mut Vec<u8>,
-    hasher: Hashes,
-) -> Result<(Vec<LeftOut>, Option<NewFile<'a, HostRuntime>>), ProgramFault> {
+fn needed_by(job: &Job<'_>) -> Result<Vec<bool>, AllocError> {
     let (rt, task) = (job.rt, job.task);
-    let Some(path) = &task.map else {
-        let done = merge_into(job, out, report, hasher, NoMaps)?;
-        return Ok((done.left_out, None));
+    match task.refused {
+        OnRefused::Stop => Ok(Vec::new(rt.alloc())),
+        OnRefused::Skip => are_file(rt, &FileId::of(rt, task.out.as_str()), &task.inputs),
+    }
+}
+
+/// Merges inputs into a new file, and writes their maps and the report. Gives the inputs that were left
+/// out.
+#[inline(never)]
+fn merge_into<K: KeepMaps + Drop, M: Sink>(
+    job: &Job<'_>,
+    maps: K,
+    hasher: Hashes,
+    out: &mut NewFile<'_, HostRuntime>,
+    map: &mut M,
+    report: &mut Vec<u8>,
+) -> Result<Vec<LeftOut>, RunFault> {
+    let needed = needed_by(job)?;
+    let inputs = inputs_of(job).needing(&needed);
+    let (alloc, plan, mut report) = (job.rt.alloc(), plan_of(job.task), Out::new(report));
+    let merged = run_plan(alloc, inputs, &plan, maps, hasher, out, map, &mut report)?;
+    Ok(merged.left_out)
+}
+
+/// Merges inputs into new files, which are stored then. Gives the inputs that were left out.
+fn write_files(
+    job: &Job<'_>,
+    hasher: Hashes,
+    files: &mut NewFiles<'_, HostRuntime>,
+    report: &mut Vec<u8>,
+) -> Result<Vec<LeftOut>, ProgramFault> {
+    let alloc = job.rt.alloc();
+    let merged = match &mut files.map {
+        Some(map) => {
+            let maps = TypeMaps::new(alloc);
+            merge_into(job, maps, hasher, &mut files.out, map, report)
+        }
+        None => {
+            let mut nothing = Out::new(Vec::new(alloc));
+            merge_into(job, NoMaps, hasher, &mut files.out, &mut nothing, report)
+        }
     };
-    let done = merge_into(job, out, report, hasher, TypeMaps::new(rt.alloc()))?;
-    let (out, map) = (task.out.as_str(), path.as_str());
-    let file = write_map_file(rt, out, map, task.making, &done.maps, job.said)?;
-    Ok((done.left_out, Some(file)))
+    files.finish(merged)
 }
 
 /// Merges as [`write_files`] does. After a refusal nothing is left of files that have not taken their
 /// places.
 fn write<'a>(job: &Job<'a>, hasher: Hashes) -> Result<Written<'a>, ProgramFault> {
     let (rt, task) = (job.rt, job.task);
-    let mut out = NewFile::new(rt, task.out.as_str(), task.making, Place::Out, job.said);
+    let map = task.map.as_ref().map(|map| map.as_str());
+    let mut files = NewFiles::new(rt, task.out.as_str(), map, task.making, job.said);
     let mut report = Vec::with_capacity(rt.alloc(), REPORT_LENGTH)?;
-    match write_files(job, &mut out, &mut report, hasher) {
-        Ok((left_out, map)) => Ok(Written {
-            out,
-            map,
+    match write_files(job, hasher, &mut files, &mut report) {
+        Ok(left_out) => Ok(Written {
+            files,
             report,
             left_out,
         }),
         Err(fault) => {
-            out.abandon();
+            files.abandon();
             Err(fault)
         }
     }
@@ -213,11 +164,7 @@ fn finish(job: &Job<'_>, written: &mut Written<'_>) -> Result<(), ProgramFault> 
     }
     tell_left_out(job, &written.left_out);
     print(job.rt, &written.report, job.taken, job.said)?;
-    let placed = match &mut written.map {
-        Some(map) => place_both(&mut written.out, map)?,
-        None => written.out.take_place()?,
-    };
-    tell_placed(job, placed);
+    tell_placed(job, written.files.take_places()?);
     Ok(())
 }
 
@@ -229,10 +176,7 @@ fn merge_with(job: &Job<'_>, hasher: Hashes) -> Result<ExitCode, ProgramFault> {
         Ok(()) if written.left_out.is_empty() => Ok(ExitCode::SUCCESS),
         Ok(()) => Ok(ExitCode::from(LEFT_OUT)),
         Err(fault) => {
-            written.out.abandon();
-            if let Some(map) = &mut written.map {
-                map.abandon();
-            }
+            written.files.abandon();
             Err(fault)
         }
     }

@@ -1,4 +1,5 @@
 pub mod NumberLaws
+pub mod PlanLaws
 pub mod OffsetLaws
 pub mod HeaderLaws
 pub mod FaultLaws
@@ -6,5 +7,6 @@ pub mod DiffLaws
 pub mod InfoLaws
 pub mod LayoutLaws
 pub mod MapLaws
+pub mod MergeLaws
 pub mod ReferenceLaws
 pub mod TextLaws

@@ -5,7 +5,7 @@ use Rattle.uuid.specs.Parts.{zero_bytes}
 use Rattle.canonical_list.specs.Finish.{IsCanonOf}
 use Rattle.pdb_info.specs.Settings.{SettingsView, limit_of_records}
 use Rattle.pdb_merge.specs.Union.{HasType}
-use Rattle.types_guid.specs.Guid.{types_guid}
+use Rattle.pdb_merge.specs.Guid.{types_guid}
 use Rattle.pdbmerge_c.specs.declared.guid.Guid.{Guid}
 use Rattle.pdbmerge_c.specs.Merge.{bytes_of_files}
 

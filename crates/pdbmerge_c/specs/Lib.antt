@@ -5,6 +5,7 @@ pub mod Container
 pub mod Check
 pub mod Merge
 pub mod MergeMap
+pub mod MergePlan
 pub mod Guid
 pub mod Stream
 pub mod Info

@@ -9,6 +9,7 @@ use Rattle.pdb_merge.specs.Answer.{RefusesFiles}
 use Rattle.pdb_merge.specs.Fault.{merge_number, faulty_file}
 use Rattle.pdb_merge.specs.Union.{HasType, Weighs}
 use Rattle.pdb_merge.specs.declared.fault.MergeFault.{MergeFault}
+use Rattle.pdb_merge.specs.declared.fault.MergeFault.TheVariants as merge
 use Rattle.pdb_merge.specs.declared.fault.OutFault.{OutFault}
 use Rattle.pdb_merge.specs.declared.fault.OutFault.TheVariants as out
 use Rattle.pdbmerge_c.specs.declared.fault.Fault.{Fault}
@@ -67,15 +68,27 @@ pub record LacksRoom (IsFile : FileFor) (files : List (Bor (List ℕ))) (choices
   pub is_reported : IsReported IsFile files choices report file
   pub long : room < length file
 
+-- this is why files are not merged into memory: a fault that is such a reason, or memory ran out
+abbrev pub IsWhy : {A : Type 0} → (MergeFault A → Type 0) → OutFault A → Type 0
+IsWhy IsReason (out.Merge why) = IsReason why
+IsWhy IsReason _ = Unit {0}
+
+-- the reason that is told of it
+abbrev pub reason_of : {A : Type 0} → OutFault A → MergeFault A
+reason_of (out.Merge why) = why
+reason_of _ = merge.Memory
+
 -- this is why the files are not merged into memory: they are refused, or memory ran out
 abbrev pub IsRefusal : {A : Type 0} → List (Bor (List ℕ)) → SettingsView → OutFault A → Type 0
-IsRefusal files settings (out.Merge why) =
-    RefusesFiles (inputs_of files) (record_limit settings) why
-IsRefusal files settings _ = Unit {0}
+IsRefusal files settings why = IsWhy (RefusesFiles (inputs_of files) (record_limit settings)) why
+
+-- what is told is such a reason
+pub record TellsReason (IsReason : MergeFault Global → Type 0) (fault : Fault) : Type 0 where
+  pub why : MergeFault Global
+  pub is_fault : IsReason why
+  pub told : IsTold fault (merge_number why) (input_code (faulty_file why))
 
 -- what is told is why the files are refused
-pub record RefusesMerge (files : List (Bor (List ℕ))) (settings : SettingsView) (fault : Fault)
-    : Type 0 where
-  pub why : MergeFault Global
-  pub is_fault : RefusesFiles (inputs_of files) (record_limit settings) why
-  pub told : IsTold fault (merge_number why) (input_code (faulty_file why))
+abbrev pub RefusesMerge : List (Bor (List ℕ)) → SettingsView → Fault → Type 0
+RefusesMerge files settings fault =
+    TellsReason (RefusesFiles (inputs_of files) (record_limit settings)) fault

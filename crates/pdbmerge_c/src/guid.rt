@@ -12,10 +12,9 @@ use crate::merge::refuse_merge;
 use crate::seed::Seed;
 use crate::settings::MOST_BYTES;
 use pdb_info::Settings;
-use pdb_merge::{OutFault, merge_files};
+use pdb_merge::{OutFault, guid_of_types, merge_files};
 use std::alloc::Global;
 use std::hash::RandomState;
-use types_guid::guid_of_types;
 use uuid::Uuid;
 
 /// A GUID.

@@ -14,6 +14,8 @@
 //! - `pdbmerge_merge_map` does so too, and lists where each type of each file went.
 //! - `pdbmerge_merge_by_types` makes the GUID of the file of its types, and `pdbmerge_guid_of_types`
 //!   makes it alone, a [`Guid`].
+//! - `pdbmerge_merge_plan` merges by [`PlanChoices`]: it may leave out the files that are refused, each a
+//!   [`LeftOutFile`], and says how long its lists are, [`Totals`].
 //! - `pdbmerge_layout` reads the container of a file, a [`ContainerCounts`] and the sizes of its streams,
 //!   and `pdbmerge_blocks` lists the blocks of these streams. `pdbmerge_stream` copies a stream.
 //! - `pdbmerge_named_streams`, `pdbmerge_stream_names` and `pdbmerge_features` list what stream 1
@@ -42,10 +44,12 @@ mod guid;
 mod identify;
 mod info;
 mod layout;
+mod map_lists;
 mod members;
 mod merge;
 mod merge_by_types;
 mod merge_map;
+mod merge_plan;
 mod name;
 mod pair;
 mod records;
@@ -63,5 +67,6 @@ pub use guid::Guid;
 pub use identify::Identity;
 pub use layout::ContainerCounts;
 pub use merge::{Choices, Report};
+pub use merge_plan::{LeftOutFile, PlanChoices, Totals};
 pub use references::Reference;
 pub use seed::Seed;

@@ -1,13 +1,15 @@
 //! One file with the types of several.
 
-ghost use Rattle.std.specs.Prelude.{◌≡◌, ◌≢◌, ◌⊎◌, ◌<◌, ◌↔◌, [], Some, ℕ, List, length, IfOk, IfErr, IfSome};
-ghost use Rattle.std.specs.Borrow.{Bor};
-ghost use Rattle.pdb_info.specs.Settings.{SettingsView, record_limit};
-ghost use Rattle.pdb_merge.specs.Merged.{IsFileOf, WroteWithMaps};
+ghost use Rattle.std.specs.Prelude.{◌≡◌, ◌≢◌, ◌⊎◌, ◌<◌, ◌↔◌, [], Some, length, IfOk, IfErr, IfSome};
+ghost use Rattle.pdb_info.specs.Settings.{record_limit};
+ghost use Rattle.pdb_merge.specs.Fault.{faulty_file, merge_number};
+ghost use Rattle.pdb_merge.specs.Merged.{IsFileOf, WroteAs};
+ghost use Rattle.pdb_merge.specs.Plan.{IsFileFor};
+ghost use Rattle.pdb_merge.specs.Sift.{AreSpared, MustStay, RefusesSift, WroteSifted};
 ghost use Rattle.pdb_merge.specs.Union.{CanMerge};
-ghost use Rattle.pdbmerge_c.specs.Fault.{IsEnded, IsSaid, IsTold, no_number};
+ghost use Rattle.pdbmerge_c.specs.Fault.{IsEnded, IsSaid, IsTold, input_code, no_number};
 ghost use Rattle.pdbmerge_c.specs.Given.{Fills};
-ghost use Rattle.pdbmerge_c.specs.Merge.{AreAllowed, IsRefusal, Merges, LacksRoom, RefusesMerge, bytes_of_files, settings_of};
+ghost use Rattle.pdbmerge_c.specs.Merge.{AreAllowed, IsRefusal, IsWhy, Merges, LacksRoom, RefusesMerge, bytes_of_files, inputs_of, reason_of, settings_of};
 
 use crate::fault::{Fault, MEMORY, refuse};
 use crate::give::give;
@@ -15,7 +17,8 @@ use crate::seed::Seed;
 use crate::settings::{refuse_settings, settings_from};
 use byte_io::{Out, Sink};
 use pdb_info::Settings;
-use pdb_merge::{KeepMaps, NoMaps, OutFault, Summary, merge_to_with};
+use pdb_merge::{KeepMaps, Merged, NoMaps, OutFault, Plan, merge};
+use run_options::{GuidChoice, OnRefused};
 use std::alloc::Global;
 use std::hash::RandomState;
 
@@ -45,63 +48,84 @@ pub struct Report {
     pub bytes: u32,
 }
 
-/// A file that was merged, in memory, and what keeps the maps.
+/// A file that was merged, in memory, and what is said of it.
 #[derive(Drop)]
-pub(crate) struct Merged<K: KeepMaps + Drop> {
+pub(crate) struct InMemory<K: KeepMaps + Drop> {
     pub(crate) file: Out<Vec<u8>>,
-    pub(crate) summary: Summary,
-    pub(crate) maps: K,
+    pub(crate) merged: Merged<Global, K>,
 }
 
-/// Merges files into a file in memory. The sink is in memory, so `Write` means out of memory too.
+/// Merges files as a plan says into a file in memory. The sink is in memory, so `Write` means out of
+/// memory too.
 pub(crate) fn merge_in_memory<K: KeepMaps + Drop>(
     alloc: Global,
     files: &[&[u8]],
-    settings: &Settings,
+    plan: &Plan,
     seed: &Seed,
     maps: K,
-) -> Result<Merged<K>, OutFault>
-    ensures value { IfOk result (λ merged.
-        WroteWithMaps (IsFileOf (bytes_of_files files.now) settings.now) (bytes_of_files files.now)
-        K.maps (Some []) (⟦<Out<Vec<u8>> as Sink>⟧.taken merged.file)
-        (merged.summary, merged.maps)) }
-    ensures refuses { IfErr result (IsRefusal files.now settings.now) }
+) -> Result<InMemory<K>, OutFault>
+    ensures value { IfOk result (λ done.
+        WroteSifted (IsFileFor plan.now.guid (bytes_of_files files.now) plan.now.settings)
+        (bytes_of_files files.now) (Some []) (⟦<Out<Vec<u8>> as Sink>⟧.taken done.file)
+        done.merged.summary done.merged.left_out.items (K.maps done.merged.maps)) }
+    ensures spared { IfOk result (λ done.
+        AreSpared (MustStay plan.now.refused (λ _. ⊥)) done.merged.left_out.items) }
+    ensures refuses { IfErr result (IsWhy (RefusesSift (inputs_of files.now)
+        (MustStay plan.now.refused (λ _. ⊥)) (record_limit plan.now.settings))) }
 {
     let Ok(hasher) = RandomState::new(seed) else {
         return Err(OutFault::Memory);
     };
     let mut file = Out::new(Vec::new(alloc));
-    let (summary, maps) = merge_to_with(alloc, files, settings, &mut file, hasher, maps)?;
-    Ok(Merged {
-        file,
-        summary,
-        maps,
-    })
+    let merged = merge(alloc, files, plan, maps, hasher, &mut file)?;
+    Ok(InMemory { file, merged })
+}
+
+/// Merges files all of which must be accepted into a file in memory, whose GUID is that of the settings
+/// or made of its types.
+pub(crate) fn merge_all(
+    alloc: Global,
+    files: &[&[u8]],
+    settings: &Settings,
+    guid: GuidChoice,
+    seed: &Seed,
+) -> Result<InMemory<NoMaps>, OutFault>
+    ensures value { IfOk result (λ done.
+        WroteAs (IsFileFor guid (bytes_of_files files.now) settings.now) (bytes_of_files files.now)
+        (Some []) (⟦<Out<Vec<u8>> as Sink>⟧.taken done.file) done.merged.summary) }
+    ensures refuses { IfErr result (IsRefusal files.now settings.now) }
+{
+    let plan = Plan {
+        settings: *settings,
+        guid,
+        refused: OnRefused::Stop,
+    };
+    merge_in_memory(alloc, files, &plan, seed, NoMaps)
 }
 
 /// Copies a file that was merged to the front of `out`, and says what it has. `ROOM` where there is too
 /// little room: then `out` is as it was.
 pub(crate) fn give_merged<K: KeepMaps + Drop>(
-    merged: &Merged<K>,
+    done: &InMemory<K>,
     out: &mut [u8],
     report: &mut Report,
     fault: &mut Fault,
 ) -> u32
-    ensures types { report.new.types ≡ merged.now.summary.types }
-    ensures bytes { report.new.bytes ≡ merged.now.summary.bytes }
-    ensures long { IfSome (⟦<Out<Vec<u8>> as Sink>⟧.taken merged.now.file) (λ file.
+    ensures types { report.new.types ≡ done.now.merged.summary.types }
+    ensures bytes { report.new.bytes ≡ done.now.merged.summary.bytes }
+    ensures long { IfSome (⟦<Out<Vec<u8>> as Sink>⟧.taken done.now.file) (λ file.
         report.new.length ≡ length file) }
-    ensures status { IfSome (⟦<Out<Vec<u8>> as Sink>⟧.taken merged.now.file) (λ file.
+    ensures status { IfSome (⟦<Out<Vec<u8>> as Sink>⟧.taken done.now.file) (λ file.
         (result ≡ 0) ⊎ ((result ≡ 100) × (length out.old < length file))) }
-    ensures done { IfSome (⟦<Out<Vec<u8>> as Sink>⟧.taken merged.now.file) (λ file.
+    ensures done { IfSome (⟦<Out<Vec<u8>> as Sink>⟧.taken done.now.file) (λ file.
         result ≡ 0 → Fills file out.old out.new) }
     ensures kept { result ≢ 0 → out.new ≡ out.old }
     ensures told { IsTold fault.new result no_number }
     ensures ended { IsEnded fault.new }
 {
-    report.types = merged.summary.types;
-    report.bytes = merged.summary.bytes;
-    let file = merged.file.writer().as_slice();
+    report.types = done.merged.summary.types;
+    report.bytes = done.merged.summary.bytes;
+    let file = done.file.writer().as_slice();
     give(file, out, &mut report.length, fault)
 }
 
@@ -113,11 +137,8 @@ pub(crate) fn refuse_merge(fault: &mut Fault, why: &OutFault) -> u32
     ensures some { result ≢ 0 }
     ensures room { result ≢ 100 }
     ensures settings { result ≢ 101 }
-    ensures found { (files : List (Bor (List ℕ))) (settings : SettingsView) →
-        IsRefusal files settings why.now →
-        CanMerge (bytes_of_files files) (record_limit settings) → result ≡ 33 }
-    ensures refuses { (files : List (Bor (List ℕ))) (settings : SettingsView) →
-        IsRefusal files settings why.now → RefusesMerge files settings fault.new }
+    ensures reason { IsTold fault.new (merge_number (reason_of why.now))
+        (input_code (faulty_file (reason_of why.now))) }
 {
     match why {
         OutFault::Merge(why) => refuse(fault, why.number(), why.file(), why),
@@ -160,8 +181,8 @@ pub extern "C" fn pdbmerge_merge(
     let Some(settings) = settings_from(choices) else {
         return refuse_settings(fault, choices);
     };
-    match merge_in_memory(alloc, files, &settings, &choices.seed, NoMaps) {
-        Ok(merged) => give_merged(&merged, out, report, fault),
+    match merge_all(alloc, files, &settings, GuidChoice::Given, &choices.seed) {
+        Ok(done) => give_merged(&done, out, report, fault),
         Err(why) => refuse_merge(fault, &why),
     }
 }

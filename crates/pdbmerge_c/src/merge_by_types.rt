@@ -1,48 +1,17 @@
 //! One file with the types of several, whose GUID is made of these types.
 
-ghost use Rattle.std.specs.Prelude.{◌≡◌, ◌≢◌, ◌⊎◌, ◌↔◌, [], Some, length, IfOk, IfErr};
+ghost use Rattle.std.specs.Prelude.{◌≡◌, ◌≢◌, ◌⊎◌, ◌↔◌, length};
 ghost use Rattle.pdb_info.specs.Settings.{record_limit};
-ghost use Rattle.pdb_merge.specs.Merged.{WroteWithMaps};
+ghost use Rattle.pdb_merge.specs.OfTypes.{IsFileByTypes};
 ghost use Rattle.pdb_merge.specs.Union.{CanMerge};
-ghost use Rattle.types_guid.specs.Merge.{IsFileByTypes};
 ghost use Rattle.pdbmerge_c.specs.Fault.{IsEnded, IsSaid};
-ghost use Rattle.pdbmerge_c.specs.Merge.{AreAllowed, IsRefusal, Merges, LacksRoom, RefusesMerge, bytes_of_files, settings_of};
+ghost use Rattle.pdbmerge_c.specs.Merge.{AreAllowed, Merges, LacksRoom, RefusesMerge, bytes_of_files, settings_of};
 
 use crate::fault::Fault;
-use crate::merge::{Choices, Merged, Report, give_merged, refuse_merge};
-use crate::seed::Seed;
+use crate::merge::{Choices, Report, give_merged, merge_all, refuse_merge};
 use crate::settings::{refuse_settings, settings_from};
-use byte_io::{Out, Sink};
-use pdb_info::Settings;
-use pdb_merge::{KeepMaps, NoMaps, OutFault};
+use run_options::GuidChoice;
 use std::alloc::Global;
-use std::hash::RandomState;
-use types_guid::merge_by_types;
-
-/// Merges files into a file in memory, whose GUID is made of its types.
-fn merge_types_in_memory(
-    alloc: Global,
-    files: &[&[u8]],
-    settings: &Settings,
-    seed: &Seed,
-) -> Result<Merged<NoMaps>, OutFault>
-    ensures value { IfOk result (λ merged.
-        WroteWithMaps (IsFileByTypes (bytes_of_files files.now) settings.now)
-        (bytes_of_files files.now) (⟦<NoMaps as KeepMaps>⟧.maps) (Some [])
-        (⟦<Out<Vec<u8>> as Sink>⟧.taken merged.file) (merged.summary, merged.maps)) }
-    ensures refuses { IfErr result (IsRefusal files.now settings.now) }
-{
-    let Ok(hasher) = RandomState::new(seed) else {
-        return Err(OutFault::Memory);
-    };
-    let mut file = Out::new(Vec::new(alloc));
-    let (summary, maps) = merge_by_types(alloc, files, settings, &mut file, hasher, NoMaps)?;
-    Ok(Merged {
-        file,
-        summary,
-        maps,
-    })
-}
 
 /// Merges files as [`pdbmerge_merge`](crate::merge::pdbmerge_merge) does, but the GUID of the file is
 /// made of its types, and that of the settings is not used.
@@ -79,8 +48,8 @@ pub extern "C" fn pdbmerge_merge_by_types(
     let Some(settings) = settings_from(choices) else {
         return refuse_settings(fault, choices);
     };
-    match merge_types_in_memory(alloc, files, &settings, &choices.seed) {
-        Ok(merged) => give_merged(&merged, out, report, fault),
+    match merge_all(alloc, files, &settings, GuidChoice::OfTypes, &choices.seed) {
+        Ok(done) => give_merged(&done, out, report, fault),
         Err(why) => refuse_merge(fault, &why),
     }
 }

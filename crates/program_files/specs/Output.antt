@@ -1,6 +1,12 @@
 -- What a file that is created at its first write took.
-use Rattle.std.specs.Prelude.{ℕ, ◌≡◌, List, Option, None}
+use Rattle.std.specs.Prelude.{ℕ, ◌≡◌, Bool, false, List, Option, None}
 use Rattle.byte_io.specs.declared.sink.Out.{Out}
+use Rattle.pdb_commands.specs.declared.fault.RunFault.TheVariants.{Write}
+use Rattle.program_files.specs.declared.fault.MapFault.TheVariants as maps
+use Rattle.program_files.specs.declared.fault.ProgramFault.{ProgramFault}
+use Rattle.program_files.specs.declared.fault.ProgramFault.TheVariants.{Run, Create, Map}
+use Rattle.program_files.specs.declared.said.Place.{Place}
+use Rattle.program_files.specs.declared.said.Place.TheVariants as place
 use Rattle.program_files.specs.declared.output.State.{State}
 use Rattle.program_files.specs.declared.output.State.TheVariants.{Absent, Created, Refused}
 
@@ -27,3 +33,23 @@ abbrev pub IsUncreated : {F : Type 0} → State F → Type 0
 IsUncreated Absent = ⊥
 IsUncreated (Created out) = ⊥
 IsUncreated Refused = Unit {0}
+
+-- the file has all that was written to it, as far as the system tells
+abbrev pub IsWhole : {F : Type 0} → State F → Bool → Type 0
+IsWhole state broken = (IsUncreated state → ⊥) × (broken ≡ false)
+
+-- the fault of a file that could not be created
+abbrev pub create_fault : Place → ProgramFault
+create_fault place.Input = Create
+create_fault place.List = Create
+create_fault place.Out = Create
+create_fault place.Map = Map maps.Create
+create_fault place.StandardOutput = Create
+
+-- the fault of a file that is not written whole
+abbrev pub write_fault : Place → ProgramFault
+write_fault place.Input = Run Write
+write_fault place.List = Run Write
+write_fault place.Out = Run Write
+write_fault place.Map = Map maps.Write
+write_fault place.StandardOutput = Run Write

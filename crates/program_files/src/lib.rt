@@ -4,7 +4,10 @@
 //!   at its first read.
 //! - [`InputFiles`] are the inputs of a merge, one of which is open at a time. [`Progress`] tells how
 //!   many of them were read.
-//! - [`NewFile`] is a file that is created at its first write, in the way that `Making` of `run_options` says.
+//! - [`NewFile`] is a file that is created at its first write, in the way that `Making` of `run_options`
+//!   says, and [`NewFiles`] are those of a merge.
+//! - [`temporary_file`] says how the file is opened that takes the place of another, and [`Placed`] how
+//!   it took it.
 //! - [`FileId`] tells one file from another, and [`TakenStreams`] which standard streams are files that a
 //!   merge writes. A path that names a [`Stream`] stands for that stream ([`StandardStreams`]).
 //! - [`Said`] keeps what the system said when it refused a call, and [`Telling`] is a file that tells it.
@@ -33,6 +36,7 @@
 mod fault;
 mod files;
 mod inputs;
+mod new_files;
 mod output;
 mod progress;
 mod said;
@@ -44,10 +48,11 @@ mod taken;
 pub use fault::{MapFault, ProgramFault};
 pub use files::{Reading, WholeFile, open_within};
 pub use inputs::InputFiles;
-pub use output::{NewFile, place_both};
+pub use new_files::NewFiles;
+pub use output::NewFile;
 pub use progress::Progress;
 pub use said::{Place, Said, Telling};
 pub use same::{FileId, are_file, is_one_of};
-pub use spare::Placed;
+pub use spare::{Placed, temporary_file};
 pub use streams::{Giver, StandardStreams, Stream};
 pub use taken::TakenStreams;

@@ -1,11 +1,11 @@
 //! The file that the program writes.
 
-ghost use Rattle.std.specs.Prelude.{◌≡◌, ◌↔◌, ◌<◌, ◌≤◌, ◌⊎◌, IsTrue, IfErr, Err, length, take, true, false};
+ghost use Rattle.std.specs.Prelude.{◌≡◌, ◌↔◌, ◌<◌, ◌≤◌, ◌⊎◌, IsTrue, OnOk, IfErr, length, take, true, false};
 ghost use Rattle.std.specs.Io.KnownBytes.{Appends, Keeps};
 ghost use Rattle.pdb_commands.specs.declared.fault.RunFault.TheVariants.{Memory};
 ghost use Rattle.program_files.specs.declared.output.State.TheVariants.{Absent};
-ghost use Rattle.program_files.specs.declared.fault.ProgramFault.TheVariants.{Run, Create, Map};
-ghost use Rattle.program_files.specs.Output.{IsCreated, IsUncreated, TakesIfCreated, taken_of};
+ghost use Rattle.program_files.specs.declared.fault.ProgramFault.TheVariants.{Run};
+ghost use Rattle.program_files.specs.Output.{IsCreated, IsUncreated, IsWhole, TakesIfCreated, create_fault, taken_of, write_fault};
 
 use crate::fault::{MapFault, ProgramFault};
 use crate::said::{Place, Said, Telling};
@@ -35,6 +35,33 @@ fn open_over<R: Files>(rt: &R, path: &str) -> io::Result<R::File> {
 #[inline(never)]
 fn open_new<R: Files>(rt: &R, path: &str) -> io::Result<R::File> {
     File::create_new(rt, path)
+}
+
+/// The fault of a file that could not be created.
+fn create_fault(place: Place) -> ProgramFault
+    ensures { result ≡ create_fault place }
+{
+    match place {
+        Place::Map => ProgramFault::Map(MapFault::Create),
+        Place::Input | Place::List | Place::Out | Place::StandardOutput => ProgramFault::Create,
+    }
+}
+
+/// The fault of a file that is not written whole.
+fn write_fault(place: Place) -> ProgramFault
+    ensures { result ≡ write_fault place }
+{
+    match place {
+        Place::Map => ProgramFault::Map(MapFault::Write),
+        Place::Input | Place::List | Place::Out | Place::StandardOutput => {
+            ProgramFault::Run(RunFault::Write)
+        }
+    }
+}
+
+/// Why a file is not created at a path that leads to another one that is written.
+fn is_other_error() -> Error {
+    Error::new(ErrorKind::Unsupported, "the merge writes it")
 }
 
 /// Why a standard stream is not written as it is asked for.
@@ -83,6 +110,8 @@ pub struct NewFile<'a, R: Files> {
     path: &'a str,
     making: Making,
     place: Place,
+    /// The path of a file that this one must not be.
+    other: Option<&'a str>,
     said: &'a Said,
     state: State<Taker<'a, R::File>>,
     /// The name that the file has until it takes its place.
@@ -115,12 +144,14 @@ where
     ) -> NewFile<'a, R>
         ensures whole { ⟦<NewFile<'a, R> as Sink>⟧.is_broken result ≡ false }
         ensures absent { result.state ≡ Absent }
+        ensures place { result.place ≡ place }
     {
         NewFile {
             rt,
             path,
             making,
             place,
+            other: None,
             said,
             state: State::Absent,
             spare: None,
@@ -129,27 +160,62 @@ where
         }
     }
 
+    /// The same file. It is refused where its path leads to that of another file when it is created.
+    pub fn apart_from(self, other: &'a str) -> NewFile<'a, R>
+        ensures whole { ⟦<NewFile<'a, R> as Sink>⟧.is_broken result
+            ≡ ⟦<NewFile<'a, R> as Sink>⟧.is_broken self.entry }
+        ensures state { result.state ≡ self.entry.state }
+        ensures place { result.place ≡ self.entry.place }
+    {
+        NewFile {
+            other: Some(other),
+            ..self
+        }
+    }
+
     /// Whether the file could not be created.
-    pub fn is_refused(&self) -> bool
+    fn is_refused(&self) -> bool
         ensures { IsTrue result ↔ IsUncreated self.now.state }
     {
         matches!(&self.state, State::Refused)
     }
 
     /// Why the file could not be created.
-    pub fn refusal(&self) -> ProgramFault
-        ensures { (result ≡ Run Memory) ⊎ (result ≡ Create) }
+    fn refusal(&self) -> ProgramFault
+        ensures { (result ≡ Run Memory) ⊎ (result ≡ create_fault self.now.place) }
     {
         if self.lacks_memory {
             ProgramFault::Run(RunFault::Memory)
         } else {
-            ProgramFault::Create
+            create_fault(self.place)
         }
     }
 
-    /// Waits until the system has stored the file. `NotTaken` where the system could not store it:
-    /// no write shows this where a disk is across a network.
-    pub fn store(&self) -> Result<(), NotTaken>
+    /// Waits until the system has stored the file, unless it broke.
+    ///
+    /// The fault says why the file could not be created, or that it is not written whole: it broke, or
+    /// the system could not store it. No write shows the latter where a disk is across a network. A
+    /// file to which nothing was written has no fault.
+    pub fn finish(&self) -> Result<(), ProgramFault>
+        ensures refused { IsUncreated self.now.state → IfErr result (λ fault.
+            (fault ≡ Run Memory) ⊎ (fault ≡ create_fault self.now.place)) }
+        ensures written { (IsUncreated self.now.state → ⊥) →
+            IfErr result (λ fault. fault ≡ write_fault self.now.place) }
+        ensures whole { OnOk result (IsWhole self.now.state self.now.broken) }
+        ensures absent { self.now.state ≡ Absent → self.now.broken ≡ false →
+            IfErr result (λ _. ⊥) }
+    {
+        if self.is_refused() {
+            return Err(self.refusal());
+        }
+        if self.broken || self.store().is_err() {
+            return Err(write_fault(self.place));
+        }
+        Ok(())
+    }
+
+    /// Waits until the system has stored the file. `NotTaken` where the system could not store it.
+    fn store(&self) -> Result<(), NotTaken>
         ensures { IfErr result (λ _. IsCreated self.now.state) }
     {
         match &self.state {
@@ -161,21 +227,25 @@ where
         }
     }
 
-    /// Gives the file its path, if it has another name so far, and says whether that is stored. `Create`
-    /// where the system refuses that; nothing is left of the file then, and what was at the path is as
-    /// it was.
+    /// Gives the file its path, if it has another name so far, and says whether that is stored. Where the
+    /// system refuses that, nothing is left of the file, and what was at the path is as it was.
     pub fn take_place(&mut self) -> Result<Placed, ProgramFault>
-        ensures { IfErr result (λ fault. fault ≡ Create) }
+        ensures { IfErr result (λ fault. fault ≡ create_fault self.old.place) }
     {
         let Some(spare) = self.spare.take() else {
             return Ok(Placed::Stored);
         };
-        match self.put_in_place(&spare) {
+        let placed = if self.is_other() {
+            Err(is_other_error())
+        } else {
+            self.put_in_place(&spare)
+        };
+        match placed {
             Ok(placed) => Ok(placed),
             Err(error) => {
                 self.said.keep(self.place, &error);
                 spare.remove(self.rt);
-                Err(ProgramFault::Create)
+                Err(create_fault(self.place))
             }
         }
     }
@@ -198,11 +268,22 @@ where
         }
     }
 
+    /// Whether the path leads to the file that this one must not be.
+    fn is_other(&self) -> bool {
+        match self.other {
+            Some(other) => FileId::of(self.rt, self.path).is(self.rt, other),
+            None => false,
+        }
+    }
+
     /// Opens the file to be written, as it is to be made.
     fn open(&mut self) -> io::Result<Taker<'a, R::File>>
         ensures broken { self.new.broken ≡ self.old.broken }
         ensures state { self.new.state ≡ self.old.state }
     {
+        if self.is_other() {
+            return Err(is_other_error());
+        }
         let file = match (self.making, Stream::named(self.path)) {
             (Making::Overwrite, Some(stream)) => return self.open_stream(stream),
             (Making::Replace, Some(_)) => return Err(no_such_stream()),
@@ -231,6 +312,7 @@ where
 
     /// Creates the file, unless that was tried before. What a created file took stays.
     pub fn create(&mut self)
+        ensures tried { IsCreated self.new.state ⊎ IsUncreated self.new.state }
         ensures same { ⟦<NewFile<'a, R> as Sink>⟧.is_broken self.new
             ≡ ⟦<NewFile<'a, R> as Sink>⟧.is_broken self.old }
         ensures keeps { Keeps (⟦<NewFile<'a, R> as Sink>⟧.taken self.old)
@@ -278,28 +360,5 @@ where
             self.broken = true;
         }
         count
-    }
-}
-
-/// Puts the file of a merge in its place, and then the one for its maps. Where the first is refused,
-/// `Create`, nothing is done with the second. If the path of the second leads to the first now, or the
-/// system refuses it, `Map` says so, and nothing is left of the second.
-pub fn place_both<'a, R: Files + AllocGlobal + RandomSource + StandardStreams>(
-    out: &mut NewFile<'a, R>,
-    map: &mut NewFile<'a, R>,
-) -> Result<Placed, ProgramFault>
-where
-    R::File: AsFd + AsRawFd + FileExt,
-    ensures kind { IfErr result (λ fault. (fault ≡ Create) ⊎ (fault ≡ Map MapFault.Create)) }
-    ensures first { result ≡ Err Create → map.new ≡ map.old }
-{
-    let placed = out.take_place()?;
-    if FileId::of(map.rt, map.path).is(map.rt, out.path) {
-        map.abandon();
-        return Err(ProgramFault::Map(MapFault::Create));
-    }
-    match map.take_place() {
-        Ok(other) => Ok(placed.with(other)),
-        Err(_) => Err(ProgramFault::Map(MapFault::Create)),
     }
 }

@@ -1,6 +1,6 @@
 //! The temporary file of a merge, until it takes the place of OUT.
 
-ghost use Rattle.std.specs.Prelude.{◌≡◌, true};
+ghost use Rattle.std.specs.Prelude.{◌≡◌, ◌↔◌, true};
 ghost use Rattle.std.specs.Fs.{asks_create_new};
 
 use std::alloc::{AllocError, Global};
@@ -33,7 +33,9 @@ pub enum Placed {
 
 impl Placed {
     /// How two files took their places.
-    pub fn with(self, other: Placed) -> Placed {
+    pub fn with(self, other: Placed) -> Placed
+        ensures { result ≡ Placed.Stored ↔ ((self ≡ Placed.Stored) × (other ≡ Placed.Stored)) }
+    {
         match (self, other) {
             (Placed::Stored, Placed::Stored) => Placed::Stored,
             (Placed::Unstored, _) | (_, Placed::Unstored) => Placed::Unstored,
@@ -156,9 +158,9 @@ fn name_beside(alloc: Global, path: &str, number: u64) -> Result<String, AllocEr
     format!(in alloc; "{folder}.pdbmerge-{number:016x}")
 }
 
-/// How a temporary file is opened: it is not there yet, and no link is followed. `mode` are its rights
-/// at the most.
-fn temporary(mode: u32) -> OpenOptions
+/// How the temporary file of a merge is opened: it is not there yet, and no link is followed. `mode`
+/// are its rights at the most.
+pub fn temporary_file(mode: u32) -> OpenOptions
     ensures { asks_create_new result ≡ true }
 {
     let mut options = OpenOptions::new();
@@ -178,7 +180,7 @@ fn create_beside<R: Files + AllocGlobal + RandomSource>(
         let Ok(name) = name_beside(rt.alloc(), path, any_number(rt, number)) else {
             return Err(Error::from(ErrorKind::OutOfMemory));
         };
-        match temporary(mode).open(rt, name.as_str()) {
+        match temporary_file(mode).open(rt, name.as_str()) {
             Ok(file) => return Ok((name, file)),
             Err(error) if error.kind() == ErrorKind::AlreadyExists => {}
             Err(error) => return Err(error),

@@ -6,5 +6,5 @@ pub enum GuidChoice {
     /// The GUID of the settings.
     Given,
     /// The GUID of the types of the file. That of the settings is not used.
-    ByTypes,
+    OfTypes,
 }

@@ -1,7 +1,7 @@
 //! What a run of `pdbmerge` can be asked for, as values.
 //!
 //! [`Shown`] is a command that shows a file, [`Scope`] which types `diff` shows, [`Making`] how `merge` makes its
-//! file, and [`GuidChoice`] which GUID that file has.
+//! file, [`GuidChoice`] which GUID that file has, and [`OnRefused`] what becomes of an input that is refused.
 //!
 //! `command_line` reads these values, and the commands run by them. They stand in a crate of their own so that
 //! neither waits for the proofs of the other.
@@ -24,10 +24,12 @@
 
 mod guid_choice;
 mod making;
+mod on_refused;
 mod scope;
 mod shown;
 
 pub use guid_choice::GuidChoice;
 pub use making::Making;
+pub use on_refused::OnRefused;
 pub use scope::Scope;
 pub use shown::Shown;

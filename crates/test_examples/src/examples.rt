@@ -21,7 +21,7 @@ use output_words::{push_named, push_quoted};
 use packed_texts::PackedTexts;
 use pdb_commands::{run_check, run_shown};
 use pdb_info::{Info, Settings, guid_of};
-use pdb_merge::merge_to;
+use pdb_merge::{Plan, merge};
 use program_files::{Said, open_within};
 use record_set::RecordSet;
 use run_options::Shown;
@@ -36,7 +36,6 @@ use type_changes::push_changes;
 use type_difference::{Standing, compare};
 use type_table::{Canon, NoMaps, Table};
 use type_texts::push_type;
-use types_guid::guid_of_types;
 
 /// `byte_fields` reads little-endian numbers.
 #[test]
@@ -313,26 +312,13 @@ fn the_types_of_a_file(rt: HostRuntime) -> Result<(), Fail> {
 fn a_merge_of_two_files(rt: HostRuntime) -> Result<(), Fail> {
     let file = sample(rt.alloc())?;
     let settings = Settings::new(guid_of([0x11; 16]), 1, 1000, 4096).ok_or("no settings")?;
-    let mut merged = Vec::new(rt.alloc());
+    let mut bytes = Vec::new(rt.alloc());
+    let (plan, out) = (Plan::new(settings), &mut Out::new(&mut bytes));
     let files: [&[u8]; 2] = [&file, &file];
-    let summary = merge_to(
-        rt.alloc(),
-        files.as_slice(),
-        &settings,
-        &mut Out::new(&mut merged),
-        folding(),
-    )?;
-    assert_eq!(rt; summary.types, 2);
+    let merged = merge(rt.alloc(), files.as_slice(), &plan, NoMaps, folding(), out)?;
+    assert_eq!(rt; merged.summary.types, 2);
     let mut buffer = Buffer::new(rt.alloc());
-    assert_eq!(rt; read_types(rt.alloc(), &merged, &mut buffer)?.len(), 2);
-    Ok(())
-}
-
-/// `types_guid` makes a GUID of types: here of none.
-#[test]
-fn the_guid_of_no_types(rt: HostRuntime) -> Result<(), Fail> {
-    let guid = guid_of_types(&Canon::empty(rt.alloc())).to_string(rt.alloc())?;
-    assert_eq!(rt; guid.as_str(), "e3b0c442-98fc-8c14-9afb-f4c8996fb924");
+    assert_eq!(rt; read_types(rt.alloc(), &bytes, &mut buffer)?.len(), 2);
     Ok(())
 }
 

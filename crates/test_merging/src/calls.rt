@@ -8,13 +8,13 @@ use msf_blocks::{Out, Sink};
 use msf_streams::WriteFault;
 use pdb_info::Settings;
 use pdb_merge::{
-    AddFault, Buffer, Merge, MergeFault, OutFault, PdbFault, Summary, TypeMaps, merge_files,
-    merge_to, merge_to_with, read_types, write_merged,
+    Buffer, MergeFault, OutFault, PdbFault, Plan, Summary, TypeMaps, merge, merge_files, merge_to,
+    read_types, write_merged,
 };
 use std::alloc::{Allocator, Global};
 use std::hash::BuildHasher;
 use std::test::Fail;
-use type_table::{Canon, JoinFault};
+use type_table::Canon;
 
 /// The types of a file, through a buffer.
 pub fn types_of<'a, A: Allocator + Copy>(
@@ -55,16 +55,9 @@ pub fn merge_with_maps<S: BuildHasher + Drop, A: Allocator + Copy>(
     hasher: S,
 ) -> (Result<TypeMaps<A>, OutFault<A>>, Vec<u8>) {
     let mut file = Vec::new(memory);
-    let maps = TypeMaps::new(alloc);
-    match merge_to_with(
-        alloc,
-        files,
-        settings,
-        &mut Out::new(&mut file),
-        hasher,
-        maps,
-    ) {
-        Ok((_, maps)) => (Ok(maps), file),
+    let (plan, maps) = (Plan::new(*settings), TypeMaps::new(alloc));
+    match merge(alloc, files, &plan, maps, hasher, &mut Out::new(&mut file)) {
+        Ok(merged) => (Ok(merged.maps), file),
         Err(fault) => (Err(fault), file),
     }
 }
@@ -102,33 +95,6 @@ pub fn write_bytes<A: Allocator + Copy>(
     let mut file = Vec::new(memory);
     let answer = write_into(alloc, canon, settings, &mut Out::new(&mut file));
     (answer, file)
-}
-
-/// A merge that has taken no files.
-pub fn empty_merge<S: BuildHasher, A: Allocator + Copy>(
-    alloc: A,
-    limit: u32,
-    hasher: S,
-) -> Merge<S, A> {
-    Merge::new(alloc, limit, hasher)
-}
-
-/// Adds the types of a file to a merge, through a buffer.
-pub fn add<S: BuildHasher, A: Allocator + Copy>(
-    merge: &mut Merge<S, A>,
-    alloc: A,
-    file: &[u8],
-    buffer: &mut Buffer<A>,
-) -> Result<(), AddFault<A>> {
-    merge.add(alloc, file, buffer)
-}
-
-/// The canonical list of a merge.
-pub fn finish<S: BuildHasher, A: Allocator + Copy>(
-    alloc: A,
-    merge: &Merge<S, A>,
-) -> Result<Canon<A>, JoinFault> {
-    merge.finish(alloc)
 }
 
 /// The bytes of a list, copied into other memory.

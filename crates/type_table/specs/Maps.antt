@@ -8,6 +8,11 @@ pub record IsMap (numbers : List ℕ) : Type 0 where
   pub few : length numbers < 2 ^ 31
   pub small : AreBelow (2 ^ 31) numbers
 
+-- the maps that are kept
+abbrev pub kept_maps : Option (List (List ℕ)) → List (List ℕ)
+kept_maps (Some maps) = maps
+kept_maps None = []
+
 -- one more map, if they are kept
 abbrev pub with_map : Option (List (List ℕ)) → List ℕ → Option (List (List ℕ))
 with_map (Some maps) numbers = Some (maps ++ numbers ∷ [])

@@ -2,7 +2,7 @@
 
 ghost use Rattle.std.specs.Prelude.{◌≡◌, ◌↔◌, ◌<◌, ◌^◌, IsTrue, [], ℕ, List, Option, Some, None, length, get_or, IfOk, IfErr, IfSome};
 ghost use Rattle.closed_trees.specs.Depth.{AreBelow};
-ghost use Rattle.type_table.specs.Maps.{IsMap, with_map, followed_by, maps_followed_by};
+ghost use Rattle.type_table.specs.Maps.{IsMap, kept_maps, with_map, followed_by, maps_followed_by};
 
 use std::alloc::{AllocError, Allocator, Global};
 use std::marker::Model;
@@ -29,6 +29,15 @@ pub trait KeepMaps {
     fn follow(&mut self, numbers: &[u32])
         requires { AreBelow (2 ^ 31) numbers.now }
         ensures { maps self.new ≡ maps_followed_by (maps self.old) numbers.now };
+
+    /// How many inputs have a map: none, if they are not kept.
+    fn count(&self) -> usize
+        ensures { result ≡ length (kept_maps (maps self.now)) };
+
+    /// The map of the input at a position, from 0: of no records, where it has none.
+    fn map_of(&self, input: usize) -> &[u32]
+        ensures value { result.now ≡ get_or (kept_maps (maps self.now)) input [] }
+        ensures is_map { IsMap result.now };
 }
 
 /// Keeps no maps.
@@ -45,6 +54,14 @@ impl KeepMaps for NoMaps {
     }
 
     fn follow(&mut self, _numbers: &[u32]) {}
+
+    fn count(&self) -> usize {
+        0
+    }
+
+    fn map_of(&self, _input: usize) -> &[u32] {
+        &[]
+    }
 }
 
 /// The maps of inputs, in their order. A map takes four bytes for each record of its input.
@@ -132,6 +149,19 @@ impl<A: Allocator + Copy> KeepMaps for TypeMaps<A> {
     fn follow(&mut self, numbers: &[u32]) {
         for map in self.maps.iter_mut() {
             follow_map(map, numbers);
+        }
+    }
+
+    fn count(&self) -> usize {
+        self.len()
+    }
+
+    #[tactic(auto, using(std::proofs::lemmas::List::get_or_past))]
+    fn map_of(&self, input: usize) -> &[u32] {
+        if input < self.len() {
+            self.get(input)
+        } else {
+            &[]
         }
     }
 }

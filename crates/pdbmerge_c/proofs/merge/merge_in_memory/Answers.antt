@@ -5,4 +5,4 @@ use Rattle.pdbmerge_c.proofs.merge.merge_in_memory.Goals as goal
 pub returns-clause-value : goal.returns-clause-value
 returns-clause-value g c =
     let empty : c.new-file.result.writer.items ≡ [] = search rules in
-    rw empty at (c.in_ok-summary.ensures.value (bytes_of_files c.args.files.now) refl)
+    rw empty at (c.in_ok-merged.ensures.value (bytes_of_files c.args.files.now) refl)

@@ -1,9 +1,0 @@
-use Rattle.std.proofs.Common.{◌≡◌}
-use Rattle.pdb_merge.specs.Sift.{SiftsUpTo}
-use Rattle.pdb_merge.proofs.merging.sift_files.sift_files.Given as goal
-
-abbrev pub invariant-loop-input : goal.invariant-loop-input
-invariant-loop-input g l = record {
-  so_far : SiftsUpTo (g.I.Inputs.known l.files) (g.I.BoundedInputs.needs l.files) l.input l.merge l.left_out.items;
-  limit : l.merge.limit ≡ l.initial.merge.limit;
-}

@@ -1,3 +1,0 @@
-pub mod Guid
-pub mod Merge
-pub mod Sift
