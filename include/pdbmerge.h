@@ -42,7 +42,8 @@ enum {
     PDBMERGE_TOO_LARGE = 32, /* the types have more bytes together than the limit */
     PDBMERGE_MEMORY = 33,    /* malloc or realloc returned NULL */
     PDBMERGE_ROOM = 100,     /* there is too little room; the call says how much it takes */
-    PDBMERGE_SETTINGS = 101  /* the limit or the block size is none that a file can have; `text` says which */
+    PDBMERGE_SETTINGS = 101  /* no file can have the limit or the block size, or a choice of a plan is none;
+                                `text` says which */
 };
 
 /* The input of a fault that names none. */
@@ -161,6 +162,53 @@ uint32_t pdbmerge_merge_map(const pdbmerge_slice *files, size_t count,
 uint32_t pdbmerge_merge_by_types(const pdbmerge_slice *files, size_t count,
                                  const pdbmerge_settings *settings, uint8_t *out, size_t room,
                                  pdbmerge_report *report, pdbmerge_fault *fault);
+
+/* What a plan may choose. */
+enum {
+    PDBMERGE_GUID_GIVEN = 0,    /* the GUID of the file is that of the settings */
+    PDBMERGE_GUID_OF_TYPES = 1, /* it is made of the types, as pdbmerge_merge_by_types makes it */
+    PDBMERGE_STOP = 0,          /* a file that is refused ends the merge */
+    PDBMERGE_SKIP = 1,          /* it is left out */
+    PDBMERGE_NO_MAPS = 0,       /* no maps are listed */
+    PDBMERGE_MAPS = 1           /* the maps are listed, as pdbmerge_merge_map lists them */
+};
+
+/* How files are merged into one. */
+typedef struct pdbmerge_plan {
+    pdbmerge_settings settings;
+    uint32_t guid;    /* PDBMERGE_GUID_GIVEN or PDBMERGE_GUID_OF_TYPES */
+    uint32_t refused; /* PDBMERGE_STOP or PDBMERGE_SKIP */
+    uint32_t maps;    /* PDBMERGE_NO_MAPS or PDBMERGE_MAPS */
+} pdbmerge_plan;
+
+/* A file that was left out. */
+typedef struct pdbmerge_left_out {
+    uint64_t file;   /* its position, from 0 */
+    uint64_t number; /* the number of its first fault: pdbmerge_check of the file tells its text */
+} pdbmerge_left_out;
+
+/* How long the lists of a merge by a plan are; also after PDBMERGE_ROOM. */
+typedef struct pdbmerge_totals {
+    uint64_t indices;  /* how many type indices all maps have; 0 without maps */
+    uint64_t counts;   /* how many files have a map; 0 without maps */
+    uint64_t left_out; /* how many files were left out */
+} pdbmerge_totals;
+
+/* Merges as a plan says. With PDBMERGE_STOP and without maps this is pdbmerge_merge, or
+ * pdbmerge_merge_by_types. With PDBMERGE_SKIP a file that pdbmerge_check refuses is left out: the file that
+ * is written has exactly the types of the others, as if only these were given. `left_out` has the files that
+ * were left out, in their order. With PDBMERGE_MAPS `indices` and `counts` have what pdbmerge_merge_map
+ * lists; a file that was left out has a count of 0. Without maps they get nothing. Each room may be 0 where
+ * nothing is listed. `report` and `totals` are written after PDBMERGE_OK and after PDBMERGE_ROOM, which says
+ * that one of the four rooms is too little, and then none of the four is written to.
+ * Faults, in order: 101, for the limit, the block size, `guid`, `refused` or `maps`; those of pdbmerge_check,
+ * unless they are skipped, and 32, of the first file that has one; 33; 100. */
+uint32_t pdbmerge_merge_plan(const pdbmerge_slice *files, size_t count,
+                             const pdbmerge_plan *plan, uint8_t *out, size_t room,
+                             uint32_t *indices, size_t index_room,
+                             uint32_t *counts, size_t count_room,
+                             pdbmerge_left_out *left_out, size_t left_out_room,
+                             pdbmerge_report *report, pdbmerge_totals *totals, pdbmerge_fault *fault);
 
 /* A GUID. */
 typedef struct pdbmerge_guid {

@@ -27,6 +27,8 @@ struct results {
     uint64_t size, total;
     uint32_t numbers[NUMBERS];
     uint32_t maps[3];
+    pdbmerge_left_out left_out[3];
+    pdbmerge_totals totals;
     uint64_t offsets[1 << 12];
     pdbmerge_reference references[1 << 12];
     pdbmerge_difference differences[1 << 12];
@@ -146,6 +148,31 @@ static uint32_t run_merge_map_refused(struct results *to, pdbmerge_fault *fault)
 
 static uint32_t run_merge_map_room(struct results *to, pdbmerge_fault *fault) {
     return merge_map(2, 0, to, fault);
+}
+
+static uint32_t merge_plan(uint32_t refused, size_t left_out_room, struct results *to, pdbmerge_fault *fault) {
+    pdbmerge_plan plan = {settings_of(4096), PDBMERGE_GUID_OF_TYPES, refused, PDBMERGE_MAPS};
+    return pdbmerge_merge_plan(files, 3, &plan, to->out, sizeof to->out, to->numbers, NUMBERS, to->maps, 3,
+                               to->left_out, left_out_room, &to->report, &to->totals, fault);
+}
+
+static uint32_t run_merge_plan(struct results *to, pdbmerge_fault *fault) {
+    return merge_plan(PDBMERGE_SKIP, 3, to, fault);
+}
+
+static uint32_t run_merge_plan_refused(struct results *to, pdbmerge_fault *fault) {
+    return merge_plan(PDBMERGE_STOP, 3, to, fault);
+}
+
+static uint32_t run_merge_plan_room(struct results *to, pdbmerge_fault *fault) {
+    return merge_plan(PDBMERGE_SKIP, 0, to, fault);
+}
+
+/* Without maps nothing is listed but the file that is left out. */
+static uint32_t run_merge_plan_unmapped(struct results *to, pdbmerge_fault *fault) {
+    pdbmerge_plan plan = {settings_of(4096), PDBMERGE_GUID_GIVEN, PDBMERGE_SKIP, PDBMERGE_NO_MAPS};
+    return pdbmerge_merge_plan(files, 3, &plan, to->out, sizeof to->out, NULL, 0, NULL, 0,
+                               to->left_out, 3, &to->report, &to->totals, fault);
 }
 
 static uint32_t stream_of(uint32_t number, struct results *to, pdbmerge_fault *fault) {
@@ -272,6 +299,10 @@ static const struct call {
     {"merge by types", run_merge_by_types, PDBMERGE_OK},
     {"merge by types of a refused file", run_merge_by_types_refused, 34},
     {"merge by types without room", run_merge_by_types_room, PDBMERGE_ROOM},
+    {"merge by a plan", run_merge_plan, PDBMERGE_OK},
+    {"merge by a plan without maps", run_merge_plan_unmapped, PDBMERGE_OK},
+    {"merge by a plan of a refused file", run_merge_plan_refused, 34},
+    {"merge by a plan without room for what is left out", run_merge_plan_room, PDBMERGE_ROOM},
     {"GUID of types", run_guid_of_types, PDBMERGE_OK},
     {"GUID of types of a refused file", run_guid_of_types_refused, 34},
     {"stream", run_stream, PDBMERGE_OK},

@@ -56,6 +56,18 @@ static void print_others(void) {
     FIELD(pdbmerge_report, length, 0);
     FIELD(pdbmerge_report, types, 8);
     FIELD(pdbmerge_report, bytes, 12);
+    SIZE(pdbmerge_plan, 56);
+    FIELD(pdbmerge_plan, settings, 0);
+    FIELD(pdbmerge_plan, guid, 44);
+    FIELD(pdbmerge_plan, refused, 48);
+    FIELD(pdbmerge_plan, maps, 52);
+    SIZE(pdbmerge_left_out, 16);
+    FIELD(pdbmerge_left_out, file, 0);
+    FIELD(pdbmerge_left_out, number, 8);
+    SIZE(pdbmerge_totals, 24);
+    FIELD(pdbmerge_totals, indices, 0);
+    FIELD(pdbmerge_totals, counts, 8);
+    FIELD(pdbmerge_totals, left_out, 16);
     SIZE(pdbmerge_guid, 16);
     FIELD(pdbmerge_guid, bytes, 0);
     SIZE(pdbmerge_reference, 8);

@@ -63,6 +63,31 @@ static void hold_file(const struct merged *merged, const pdbmerge_slice *files, 
     free(out);
 }
 
+/* A merge by a plan with a made GUID gives the same maps, and the file of a merge by types. */
+static void hold_plan(const struct merged *merged, const pdbmerge_slice *files, size_t count) {
+    pdbmerge_plan plan = {settings_of(4096), PDBMERGE_GUID_OF_TYPES, PDBMERGE_SKIP, PDBMERGE_MAPS};
+    struct merged made = {allocate(MOST), allocate(MOST * sizeof(uint32_t)), {0}, 0, {0, 0, 0}};
+    pdbmerge_totals totals;
+    pdbmerge_report report;
+    pdbmerge_fault fault;
+    uint8_t *out = allocate(MOST);
+    uint32_t number = pdbmerge_merge_plan(files, count, &plan, made.file, MOST, made.indices, MOST, made.counts, FILES,
+                                          NULL, 0, &made.report, &totals, &fault);
+    hold("a plan with maps", number, PDBMERGE_OK);
+    hold("its total of indices", totals.indices, merged->total);
+    hold("its total of counts", totals.counts, count);
+    hold("how many files it leaves out", totals.left_out, 0);
+    hold("its indices", memcmp(made.indices, merged->indices, totals.indices * sizeof *made.indices) == 0, 1);
+    hold("its counts", memcmp(made.counts, merged->counts, sizeof made.counts) == 0, 1);
+    number = pdbmerge_merge_by_types(files, count, &plan.settings, out, MOST, &report, &fault);
+    hold("a merge by types", number, PDBMERGE_OK);
+    hold("the report of the plan", memcmp(&report, &made.report, sizeof report) == 0, 1);
+    hold("the bytes of the plan", memcmp(out, made.file, report.length) == 0, 1);
+    free(out);
+    free(made.file);
+    free(made.indices);
+}
+
 /* The type index to which a map leads from another one. Those of simple types stay. */
 static uint32_t followed(const uint32_t *map, uint32_t count, uint32_t index) {
     if (index < FIRST_INDEX)
@@ -113,6 +138,7 @@ static void hold_maps(const pdbmerge_slice *files) {
     struct types types = types_of((pdbmerge_slice){merged.file, merged.report.length});
     const uint32_t *map = merged.indices;
     hold_file(&merged, files, FILES);
+    hold_plan(&merged, files, FILES);
     hold("the types of the file", types.count, merged.report.types);
     for (size_t at = 0; at < FILES; at++) {
         hold_map(files[at], map, merged.counts[at], &types);
@@ -127,6 +153,7 @@ static void hold_no_files(void) {
     struct merged merged = merge(NULL, 0);
     hold("the total of no files", merged.total, 0);
     hold_file(&merged, NULL, 0);
+    hold_plan(&merged, NULL, 0);
 }
 
 int main(int argc, char **argv) {

@@ -112,7 +112,7 @@ static uint32_t into_merge_by_types(void *out, size_t room, uint64_t *size, pdbm
 }
 
 /* Enough room for each part of a merge with maps. */
-enum { FILE_ROOM = 1 << 20, INDEX_ROOM = 1 << 16, COUNT_ROOM = 2 };
+enum { FILE_ROOM = 1 << 20, INDEX_ROOM = 1 << 16, COUNT_ROOM = 3 };
 
 /* The rooms of a merge with maps: of the file, of the type indices and of the counts. */
 struct rooms {
@@ -191,6 +191,106 @@ static uint32_t into_counts(void *out, size_t room, uint64_t *size, pdbmerge_fau
     to.count_room = room;
     *size = 2;
     return merge_map_into(to, out, &report, &total, fault);
+}
+
+/* Enough room for the files that a plan leaves out. */
+enum { LEFT_OUT_ROOM = 3 };
+
+/* The rooms of a merge by a plan: those of a merge with maps, and that of the files that are left out. */
+struct plan_rooms {
+    struct rooms maps;
+    pdbmerge_left_out *left_out;
+    size_t left_out_room;
+};
+
+/* Memory that is enough for each part, and has the pattern. */
+static struct plan_rooms enough_for_plan(void) {
+    static pdbmerge_left_out left_out[LEFT_OUT_ROOM];
+    memset(left_out, PATTERN, sizeof left_out);
+    return (struct plan_rooms){enough(), left_out, LEFT_OUT_ROOM};
+}
+
+/* Whether the memory that was enough has the pattern. */
+static int plan_untouched(struct plan_rooms to, const void *given) {
+    return all_untouched(to.maps, given)
+        && (to.left_out == given
+            || is_untouched((uint8_t *)to.left_out, 0, LEFT_OUT_ROOM * sizeof *to.left_out));
+}
+
+/* What a merge by a plan says beside its fault. */
+struct plan_results {
+    pdbmerge_report report;
+    pdbmerge_totals totals;
+};
+
+static uint32_t merge_plan(const pdbmerge_slice *files, size_t count, const pdbmerge_plan *plan,
+                           struct plan_rooms to, struct plan_results *results, pdbmerge_fault *fault) {
+    return pdbmerge_merge_plan(files, count, plan, to.maps.out, to.maps.room, to.maps.indices, to.maps.index_room,
+                               to.maps.counts, to.maps.count_room, to.left_out, to.left_out_room,
+                               &results->report, &results->totals, fault);
+}
+
+/* The plan to leave out what is refused, with a made GUID and with maps. */
+static pdbmerge_plan skipping(void) {
+    pdbmerge_plan plan = {settings_of(4096), PDBMERGE_GUID_OF_TYPES, PDBMERGE_SKIP, PDBMERGE_MAPS};
+    return plan;
+}
+
+/* The second of three files is refused. The report and the totals are looked at as well: those of a merge with
+ * enough room. Where one part has too little, the other three are as before. */
+static uint32_t merge_plan_into(struct plan_rooms to, const void *given, struct plan_results *results,
+                                pdbmerge_fault *fault) {
+    static struct plan_results whole;
+    pdbmerge_plan plan = skipping();
+    pdbmerge_slice files[3] = {first, cycle, second};
+    memset(results, 0, sizeof *results);
+    uint32_t number = merge_plan(files, 3, &plan, to, results, fault);
+    if (whole.report.length == 0)
+        whole = *results;
+    hold("the report and the totals of a plan", memcmp(results, &whole, sizeof whole) == 0, 1);
+    if (number != PDBMERGE_OK)
+        hold("the other rooms of a plan are as before", plan_untouched(to, given), 1);
+    return number;
+}
+
+static uint32_t into_planned_file(void *out, size_t room, uint64_t *size, pdbmerge_fault *fault) {
+    struct plan_rooms to = enough_for_plan();
+    struct plan_results results;
+    to.maps.out = out;
+    to.maps.room = room;
+    uint32_t number = merge_plan_into(to, out, &results, fault);
+    *size = results.report.length;
+    return number;
+}
+
+static uint32_t into_planned_indices(void *out, size_t room, uint64_t *size, pdbmerge_fault *fault) {
+    struct plan_rooms to = enough_for_plan();
+    struct plan_results results;
+    to.maps.indices = out;
+    to.maps.index_room = room;
+    uint32_t number = merge_plan_into(to, out, &results, fault);
+    *size = results.totals.indices;
+    return number;
+}
+
+static uint32_t into_planned_counts(void *out, size_t room, uint64_t *size, pdbmerge_fault *fault) {
+    struct plan_rooms to = enough_for_plan();
+    struct plan_results results;
+    to.maps.counts = out;
+    to.maps.count_room = room;
+    uint32_t number = merge_plan_into(to, out, &results, fault);
+    *size = results.totals.counts;
+    return number;
+}
+
+static uint32_t into_left_out(void *out, size_t room, uint64_t *size, pdbmerge_fault *fault) {
+    struct plan_rooms to = enough_for_plan();
+    struct plan_results results;
+    to.left_out = out;
+    to.left_out_room = room;
+    uint32_t number = merge_plan_into(to, out, &results, fault);
+    *size = results.totals.left_out;
+    return number;
 }
 
 /* Enough room for what all records of the first file name, and for their counts. */
@@ -277,6 +377,10 @@ static const struct row {
     {"file of a merge with maps", into_mapped_file, 1},
     {"indices of maps", into_indices, sizeof(uint32_t)},
     {"counts of maps", into_counts, sizeof(uint32_t)},
+    {"file of a plan", into_planned_file, 1},
+    {"indices of a plan", into_planned_indices, sizeof(uint32_t)},
+    {"counts of a plan", into_planned_counts, sizeof(uint32_t)},
+    {"files that a plan leaves out", into_left_out, sizeof(pdbmerge_left_out)},
 };
 
 /* Whether memory holds the pattern from one place to another. */
@@ -588,6 +692,23 @@ static void hold_refused_maps(const pdbmerge_slice *files, size_t count, pdbmerg
     hold("its total is as before", total, 7);
 }
 
+/* So has a merge by a plan that stops, with each of its other choices. */
+static void hold_refused_plan(const pdbmerge_slice *files, size_t count, pdbmerge_settings settings,
+                              const pdbmerge_fault *wanted) {
+    for (uint32_t choices = 0; choices < 4; choices++) {
+        pdbmerge_plan plan = {settings, choices % 2, PDBMERGE_STOP, choices / 2};
+        struct plan_rooms to = enough_for_plan();
+        struct plan_results results;
+        pdbmerge_fault fault;
+        memset(&results, PATTERN, sizeof results);
+        uint32_t number = merge_plan(files, count, &plan, to, &results, &fault);
+        hold("a merge by a plan that is refused", number, wanted->number);
+        hold("its fault", memcmp(&fault, wanted, sizeof fault) == 0, 1);
+        hold("its rooms are as before", plan_untouched(to, NULL), 1);
+        hold("its report and totals are as before", is_untouched((uint8_t *)&results, 0, sizeof results), 1);
+    }
+}
+
 /* So has a merge by types. */
 static void hold_refused_by_types(const pdbmerge_slice *files, size_t count, pdbmerge_settings settings,
                                   const pdbmerge_fault *wanted) {
@@ -629,6 +750,7 @@ static pdbmerge_fault refused(const pdbmerge_slice *files, size_t count, pdbmerg
     hold("out is as before", is_untouched(out, 0, sizeof out), 1);
     hold("the report is as before", is_untouched((uint8_t *)&report, 0, sizeof report), 1);
     hold_refused_maps(files, count, settings, &fault);
+    hold_refused_plan(files, count, settings, &fault);
     hold_refused_by_types(files, count, settings, &fault);
     if (wanted < PDBMERGE_TOO_LARGE || wanted == 34)
         hold_refused_guid(files, count, &fault);
@@ -692,6 +814,109 @@ static void hold_guid_of_nothing(void) {
     hold_fault("the GUID of no files", &fault, PDBMERGE_OK, "");
     hold("its bytes", memcmp(guid.bytes, NO_TYPES, sizeof NO_TYPES) == 0, 1);
     free(out);
+}
+
+/* ---- Merges by a plan */
+
+/* What is left out makes no difference to the file, nor to the maps of the other files. */
+static void hold_skipped(void) {
+    static uint8_t out[FILE_ROOM];
+    static uint32_t indices[INDEX_ROOM], counts[COUNT_ROOM];
+    pdbmerge_plan plan = skipping();
+    pdbmerge_slice files[3] = {first, cycle, second}, others[2] = {first, second};
+    struct plan_rooms to = enough_for_plan();
+    struct plan_results results;
+    pdbmerge_report report;
+    pdbmerge_fault fault;
+    uint64_t total = 0;
+    hold("a plan that skips", merge_plan(files, 3, &plan, to, &results, &fault), PDBMERGE_OK);
+    hold_fault("a plan that skips", &fault, PDBMERGE_OK, "");
+    hold("how many files have a map", results.totals.counts, 3);
+    hold("how many files are left out", results.totals.left_out, 1);
+    hold("the file that is left out", to.left_out[0].file, 1);
+    hold("the number of its fault", to.left_out[0].number, 34);
+    uint32_t number = pdbmerge_merge_map(others, 2, &plan.settings, out, sizeof out, indices, INDEX_ROOM,
+                                         counts, COUNT_ROOM, &report, &total, &fault);
+    hold("the maps of the others", number, PDBMERGE_OK);
+    hold("their total", results.totals.indices, total);
+    hold("their indices", memcmp(to.maps.indices, indices, total * sizeof *indices) == 0, 1);
+    hold("the first count", to.maps.counts[0], counts[0]);
+    hold("the count of the file that is left out", to.maps.counts[1], 0);
+    hold("the last count", to.maps.counts[2], counts[1]);
+    number = pdbmerge_merge_by_types(others, 2, &plan.settings, out, sizeof out, &report, &fault);
+    hold("a merge of the others by types", number, PDBMERGE_OK);
+    hold("its report", memcmp(&report, &results.report, sizeof report) == 0, 1);
+    hold("its bytes", memcmp(out, to.maps.out, report.length) == 0, 1);
+}
+
+/* Where nothing is listed, each room but that of the file may be NULL. The file is that of a merge. */
+static void hold_plain_plan(void) {
+    static uint8_t out[FILE_ROOM];
+    pdbmerge_plan plan = {settings_of(4096), PDBMERGE_GUID_GIVEN, PDBMERGE_STOP, PDBMERGE_NO_MAPS};
+    pdbmerge_slice files[2] = {first, second};
+    struct plan_rooms to = {{enough().out, FILE_ROOM, NULL, 0, NULL, 0}, NULL, 0};
+    struct plan_results results;
+    pdbmerge_report report;
+    pdbmerge_fault fault;
+    memset(&results, PATTERN, sizeof results);
+    hold("a plan without lists", merge_plan(files, 2, &plan, to, &results, &fault), PDBMERGE_OK);
+    hold("its total of indices", results.totals.indices, 0);
+    hold("its total of counts", results.totals.counts, 0);
+    hold("how many files it leaves out", results.totals.left_out, 0);
+    hold("the same merge", pdbmerge_merge(files, 2, &plan.settings, out, sizeof out, &report, &fault), PDBMERGE_OK);
+    hold("its report", memcmp(&report, &results.report, sizeof report) == 0, 1);
+    hold("its bytes", memcmp(out, to.maps.out, report.length) == 0, 1);
+}
+
+/* Where every file is left out the file has no types. What is too large is not left out. */
+static void hold_all_skipped(void) {
+    pdbmerge_plan plan = skipping();
+    pdbmerge_slice files[3] = {cycle, {NULL, 0}, first};
+    struct plan_rooms to = enough_for_plan();
+    struct plan_results results;
+    pdbmerge_identity identity;
+    pdbmerge_fault fault;
+    hold("a plan that skips all files", merge_plan(files, 2, &plan, to, &results, &fault), PDBMERGE_OK);
+    hold("its types", results.report.types, 0);
+    hold("how many files it leaves out", results.totals.left_out, 2);
+    hold("the first of them", to.left_out[0].file, 0);
+    hold("its fault", to.left_out[0].number, 34);
+    hold("the second of them", to.left_out[1].file, 1);
+    hold("its fault", to.left_out[1].number, 1);
+    hold("what identifies it", pdbmerge_identify(to.maps.out, results.report.length, &identity, &fault), PDBMERGE_OK);
+    hold("its GUID", memcmp(identity.guid, NO_TYPES, sizeof NO_TYPES) == 0, 1);
+    plan.settings.limit = 24;
+    hold("a plan with a low limit", merge_plan(files, 3, &plan, to, &results, &fault), PDBMERGE_TOO_LARGE);
+    hold("the file that is too large", fault.input, 2);
+    hold("its text", strncmp(fault.text, "file 2: 32 TooLarge bytes ", 26), 0);
+}
+
+/* A plan with such a choice is refused, and nothing but the fault is written. */
+static void hold_refused_choice(pdbmerge_plan plan, const char *text) {
+    pdbmerge_slice bad = {NULL, 0};
+    struct plan_rooms to = enough_for_plan();
+    struct plan_results results;
+    pdbmerge_fault fault;
+    memset(&results, PATTERN, sizeof results);
+    hold(text, merge_plan(&bad, 1, &plan, to, &results, &fault), PDBMERGE_SETTINGS);
+    hold_fault(text, &fault, PDBMERGE_SETTINGS, text);
+    hold("its rooms are as before", plan_untouched(to, NULL), 1);
+    hold("its report and totals are as before", is_untouched((uint8_t *)&results, 0, sizeof results), 1);
+}
+
+/* The first choice that is wrong is named, in the order of the fields. */
+static void hold_choices(void) {
+    pdbmerge_plan plan = skipping();
+    plan.maps = 2;
+    hold_refused_choice(plan, "101 Settings maps 2");
+    plan.refused = UINT32_MAX;
+    hold_refused_choice(plan, "101 Settings refused 4294967295");
+    plan.guid = 7;
+    hold_refused_choice(plan, "101 Settings guid 7");
+    plan.settings.block_size = 100;
+    hold_refused_choice(plan, "101 Settings block_size 100");
+    plan.settings.limit = (1u << 30) + 1;
+    hold_refused_choice(plan, "101 Settings limit 1073741825");
 }
 
 /* No files have no types, and each block size and limit can be had. */
@@ -778,6 +1003,10 @@ int main(int argc, char **argv) {
     hold_settings();
     hold_no_files();
     hold_guid_of_nothing();
+    hold_skipped();
+    hold_plain_plan();
+    hold_all_skipped();
+    hold_choices();
     hold_long_texts();
     return finish("room");
 }

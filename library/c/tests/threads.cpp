@@ -71,6 +71,20 @@ Answer mapped(const pdbmerge_slice *files, size_t count) {
     return answer_of(number, indices, number == PDBMERGE_OK ? total : 0);
 }
 
+// The first file, and one of no bytes, which is left out.
+Answer planned(const pdbmerge_slice *files) {
+    const pdbmerge_slice given[2] = {files[0], {nullptr, 0}};
+    const pdbmerge_plan plan = {settings_of(4096), PDBMERGE_GUID_OF_TYPES, PDBMERGE_SKIP, PDBMERGE_NO_MAPS};
+    std::vector<uint8_t> out(1 << 20);
+    pdbmerge_left_out left_out[2];
+    pdbmerge_totals totals{};
+    pdbmerge_report report;
+    pdbmerge_fault fault;
+    const uint32_t number = pdbmerge_merge_plan(given, 2, &plan, out.data(), out.size(), nullptr, 0, nullptr, 0,
+                                                left_out, 2, &report, &totals, &fault);
+    return answer_of(number, out, number == PDBMERGE_OK ? report.length : 0);
+}
+
 Answer identified(pdbmerge_slice file) {
     pdbmerge_identity identity{};
     pdbmerge_fault fault;
@@ -173,6 +187,7 @@ std::vector<Answer> all_answers(const pdbmerge_slice *files) {
             merged(files, 2),
             mapped(files, 2),
             merged_by(pdbmerge_merge_by_types, files, 2),
+            planned(files),
             guid_of(files, 2),
             stream_of(files[0], 2),
             list_of(pdbmerge_named_streams, info),

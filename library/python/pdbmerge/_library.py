@@ -85,6 +85,27 @@ class Report(c.Structure):
     _fields_ = [('length', c.c_uint64), ('types', c.c_uint32), ('bytes', c.c_uint32)]
 
 
+class Plan(c.Structure):
+    settings: Settings
+    guid: int
+    refused: int
+    maps: int
+    _fields_ = [('settings', Settings), ('guid', c.c_uint32), ('refused', c.c_uint32), ('maps', c.c_uint32)]
+
+
+class LeftOut(c.Structure):
+    file: int
+    number: int
+    _fields_ = [('file', c.c_uint64), ('number', c.c_uint64)]
+
+
+class Totals(c.Structure):
+    indices: int
+    counts: int
+    left_out: int
+    _fields_ = [('indices', c.c_uint64), ('counts', c.c_uint64), ('left_out', c.c_uint64)]
+
+
 class Guid(c.Structure):
     bytes: c.Array[c.c_uint8]
     _fields_ = [('bytes', c.c_uint8 * 16)]
@@ -133,6 +154,10 @@ _merging = (c.POINTER(Slice), c.c_size_t, c.POINTER(Settings), *_bytes)
 merge = _declared('pdbmerge_merge', *_merging, c.POINTER(Report), _fault)
 merge_by_types = _declared('pdbmerge_merge_by_types', *_merging, c.POINTER(Report), _fault)
 merge_map = _declared('pdbmerge_merge_map', *_merging, *_words, *_words, c.POINTER(Report), _size, _fault)
+merge_plan = _declared(
+    'pdbmerge_merge_plan', c.POINTER(Slice), c.c_size_t, c.POINTER(Plan), *_bytes, *_words, *_words,
+    c.POINTER(LeftOut), c.c_size_t, c.POINTER(Report), c.POINTER(Totals), _fault
+)
 guid_of_types = _declared(
     'pdbmerge_guid_of_types', c.POINTER(Slice), c.c_size_t, c.POINTER(Seed), c.POINTER(Guid), _fault
 )

@@ -30,6 +30,9 @@ fn main() {
     show!(pdbmerge_counts: records bytes levels);
     show!(pdbmerge_settings: guid age limit block_size seed);
     show!(pdbmerge_report: length types bytes);
+    show!(pdbmerge_plan: settings guid refused maps);
+    show!(pdbmerge_left_out: file number);
+    show!(pdbmerge_totals: indices counts left_out);
     show!(pdbmerge_guid: bytes);
     show!(pdbmerge_reference: place index);
     show!(pdbmerge_difference: input index origin);

@@ -15,8 +15,21 @@ pub const PDBMERGE_TOO_LARGE: u32 = 32;
 pub const PDBMERGE_MEMORY: u32 = 33;
 /// There is too little room; the call says how much it takes.
 pub const PDBMERGE_ROOM: u32 = 100;
-/// The limit or the block size is none that a file can have; the text says which.
+/// No file can have the limit or the block size, or a choice of a plan is none; the text says which.
 pub const PDBMERGE_SETTINGS: u32 = 101;
+
+/// The GUID of the file is that of the settings.
+pub const PDBMERGE_GUID_GIVEN: u32 = 0;
+/// The GUID of the file is made of its types.
+pub const PDBMERGE_GUID_OF_TYPES: u32 = 1;
+/// A file that is refused ends the merge.
+pub const PDBMERGE_STOP: u32 = 0;
+/// A file that is refused is left out.
+pub const PDBMERGE_SKIP: u32 = 1;
+/// No maps are listed.
+pub const PDBMERGE_NO_MAPS: u32 = 0;
+/// The maps are listed.
+pub const PDBMERGE_MAPS: u32 = 1;
 
 /// The input of a fault that names none.
 pub const PDBMERGE_NO_INPUT: u64 = u64::MAX;
@@ -123,6 +136,42 @@ pub struct pdbmerge_report {
     pub bytes: u32,
 }
 
+/// How files are merged into one.
+#[repr(C)]
+#[derive(Clone, Copy, Debug)]
+pub struct pdbmerge_plan {
+    /// What the file is to have.
+    pub settings: pdbmerge_settings,
+    /// [`PDBMERGE_GUID_GIVEN`] or [`PDBMERGE_GUID_OF_TYPES`].
+    pub guid: u32,
+    /// [`PDBMERGE_STOP`] or [`PDBMERGE_SKIP`].
+    pub refused: u32,
+    /// [`PDBMERGE_NO_MAPS`] or [`PDBMERGE_MAPS`].
+    pub maps: u32,
+}
+
+/// A file that was left out.
+#[repr(C)]
+#[derive(Clone, Copy, Debug, Default)]
+pub struct pdbmerge_left_out {
+    /// Its position, from 0.
+    pub file: u64,
+    /// The number of its first fault.
+    pub number: u64,
+}
+
+/// How long the lists of a merge by a plan are.
+#[repr(C)]
+#[derive(Clone, Copy, Debug, Default)]
+pub struct pdbmerge_totals {
+    /// How many type indices all maps have.
+    pub indices: u64,
+    /// How many files have a map.
+    pub counts: u64,
+    /// How many files were left out.
+    pub left_out: u64,
+}
+
 /// A GUID.
 #[repr(C)]
 #[derive(Clone, Copy, Debug, Default)]
@@ -163,6 +212,9 @@ const _: () = {
     assert!(size_of::<pdbmerge_counts>() == 12);
     assert!(size_of::<pdbmerge_settings>() == 44);
     assert!(size_of::<pdbmerge_report>() == 16);
+    assert!(size_of::<pdbmerge_plan>() == 56);
+    assert!(size_of::<pdbmerge_left_out>() == 16);
+    assert!(size_of::<pdbmerge_totals>() == 24);
     assert!(size_of::<pdbmerge_guid>() == 16);
     assert!(size_of::<pdbmerge_reference>() == 8);
     assert!(size_of::<pdbmerge_difference>() == 12);
@@ -243,6 +295,24 @@ extern "C" {
         out: *mut u8,
         room: usize,
         report: *mut pdbmerge_report,
+        fault: *mut pdbmerge_fault,
+    ) -> u32;
+
+    /// Merges as a plan says: it may leave out the files that are refused.
+    pub fn pdbmerge_merge_plan(
+        files: *const pdbmerge_slice,
+        count: usize,
+        plan: *const pdbmerge_plan,
+        out: *mut u8,
+        room: usize,
+        indices: *mut u32,
+        index_room: usize,
+        counts: *mut u32,
+        count_room: usize,
+        left_out: *mut pdbmerge_left_out,
+        left_out_room: usize,
+        report: *mut pdbmerge_report,
+        totals: *mut pdbmerge_totals,
         fault: *mut pdbmerge_fault,
     ) -> u32;
 
