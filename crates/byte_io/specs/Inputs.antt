@@ -30,3 +30,30 @@ is_opened_broken is_broken (At input) = is_broken input
 -- an input that was opened has these bytes
 abbrev pub HasBytes : {F : Type 0} → (F → Bytes) → Opened F → List ℕ → Type 0
 HasBytes bytes opened given = opened_bytes bytes opened ≡ stable given
+
+-- what may come of opening an input, and of reading it to its end
+pub record Outcomes : Type 1 where
+  -- opening it may give these bytes
+  pub opens : Bytes → Type 0
+  -- reading it may give these bytes
+  pub gives : List ℕ → Type 0
+  -- either may be refused with this fault
+  pub refuses : InputFault → Type 0
+
+-- an input in memory gives its bytes, and is never refused
+abbrev pub in_memory : List ℕ → Outcomes
+in_memory file =
+    record {
+      opens = λ bytes. bytes ≡ stable file;
+      gives = λ given. given ≡ file;
+      refuses = λ fault. ⊥;
+    }
+
+-- nothing is told of what may come of an input
+abbrev pub untold : Outcomes
+untold =
+    record {
+      opens = λ bytes. Unit {0};
+      gives = λ file. Unit {0};
+      refuses = λ fault. Unit {0};
+    }

@@ -1,7 +1,7 @@
 //! Several inputs, which are read one after the other.
 
-ghost use Rattle.std.specs.Prelude.{◌≡◌, ◌⊎◌, ◌<◌, ℕ, List, Option, Some, Result, Ok, Err, length, map, slice_get, IfOk, IfErr, IfSome};
-ghost use Rattle.byte_io.specs.Inputs.{HasBytes, is_opened_broken, opened_bytes};
+ghost use Rattle.std.specs.Prelude.{◌≡◌, ◌⊎◌, ◌<◌, ℕ, List, Option, Some, Result, Ok, Err, [], length, map, get_or, slice_get, IfOk, IfErr, IfSome};
+ghost use Rattle.byte_io.specs.Inputs.{HasBytes, in_memory, is_opened_broken, opened_bytes};
 ghost use Rattle.byte_io.specs.declared.input.ReadFault.TheVariants as reads;
 ghost use Rattle.byte_io.specs.Fault.{input_number};
 
@@ -76,10 +76,14 @@ impl<'a, F: ReadAt> Lend<'a> for Opened<'a, F> {
 /// A slice of slices has the bytes of its inputs in memory. The inputs of a program are files. The
 /// bytes of a file are not known to contracts, which then claim nothing about them.
 pub trait Inputs {
+    ghost use Rattle.byte_io.specs.Inputs.{Outcomes};
     ghost use Rattle.byte_io.specs.declared.inputs.InputFault.{InputFault};
 
     /// What reading each input gives, its bytes or a fault, where this is known.
     ghost known: { Self → Option (List (Result (List ℕ) InputFault)) };
+
+    /// What may come of opening or reading the input at a position, whether it is known or not.
+    ghost outcomes: { Self → ℕ → Outcomes };
 
     /// An input that is read by position.
     type File: ReadAt + Drop;
@@ -96,6 +100,8 @@ pub trait Inputs {
         buffer: &'a mut Vec<u8, A>,
     ) -> Result<&'a [u8], InputFault>
         requires inside { IfSome (known self.now) (λ each. input < length each) }
+        ensures gives { IfOk result (λ bytes. (Self.outcomes self.now input).gives bytes.now) }
+        ensures refuses { IfErr result (Self.outcomes self.now input).refuses }
         ensures value { IfSome (known self.now) (λ each.
             IfOk result (λ bytes. slice_get each input ≡ Some (Ok bytes.now))) }
         ensures fault { IfSome (known self.now) (λ each. IfErr result (λ fault.
@@ -109,6 +115,9 @@ pub trait Inputs {
         buffer: &'a mut Vec<u8, A>,
     ) -> Result<Opened<'a, Self::File>, InputFault>
         requires inside { IfSome (known self.now) (λ each. input < length each) }
+        ensures opens { IfOk result (λ opened.
+            (Self.outcomes self.now input).opens (opened_bytes Self.File.bytes opened)) }
+        ensures refuses { IfErr result (Self.outcomes self.now input).refuses }
         ensures value { IfSome (known self.now) (λ each. IfOk result (λ opened.
             (bytes : List ℕ) × (slice_get each input ≡ Some (Ok bytes))
             × HasBytes Self.File.bytes opened bytes)) }
@@ -126,6 +135,8 @@ pub trait Inputs {
 
 impl<'f> Inputs for &'f [&'f [u8]] {
     ghost known = { λ s. Some (map Ok (map (λ file. file.now) s.now)) };
+
+    ghost outcomes = { λ s i. in_memory (get_or (map (λ file. file.now) s.now) i []) };
 
     type File = &'f [u8];
 

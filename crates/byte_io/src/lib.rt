@@ -12,6 +12,7 @@
 //!   [`Lend`] its bytes, where they are in memory.
 //! - [`Inputs`] are several inputs that are read one after the other. An input is [`Opened`] to be
 //!   read by position, or read to its end.
+//! - [`Limited`] is why a part is not read, where its length is limited.
 //!
 //! What is proved: a sink took just the bytes that its calls say, in order. After [`NotTaken`] it
 //! took a proper prefix of the bytes. A sink or a source that broke stays broken. None of this says
@@ -35,6 +36,7 @@ mod at;
 mod fault;
 mod input;
 mod inputs;
+mod limited;
 mod sink;
 mod source;
 
@@ -42,5 +44,6 @@ pub use at::{AtFault, Lend, ReadAt, Seeking, read_more, read_over};
 pub use fault::NotTaken;
 pub use input::{ReadFault, read_all, read_into, skip_all};
 pub use inputs::{InputFault, Inputs, Opened};
+pub use limited::Limited;
 pub use sink::{Out, Sink, put_all};
 pub use source::{In, Source};

@@ -1,6 +1,7 @@
 //! The files of a case, as the inputs of a merge.
 
 ghost use Rattle.std.specs.Prelude.{None};
+ghost use Rattle.byte_io.specs.Inputs.{untold};
 
 use byte_io::{InputFault, Inputs, Opened};
 use pdb_merge::BoundedInputs;
@@ -29,6 +30,8 @@ impl<'f> Positioned<'f> {
 
 impl<'f> Inputs for Positioned<'f> {
     ghost known = { λ _. None };
+
+    ghost outcomes = { λ _ _. untold };
 
     type File = &'f [u8];
 

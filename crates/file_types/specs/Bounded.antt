@@ -2,8 +2,8 @@
 use Rattle.std.specs.Prelude.{ℕ, ◌≤◌, ◌⊎◌}
 use Rattle.byte_io.specs.At.{Bytes}
 use Rattle.msf_blocks.specs.Layout.{LayoutView, GivesLongDirectory, HasTexts, ListsLongStream}
-use Rattle.file_types.specs.declared.bounded.BoundedFault.{BoundedFault}
-use Rattle.file_types.specs.declared.bounded.BoundedFault.TheVariants.{TooLong, Of}
+use Rattle.byte_io.specs.declared.limited.Limited.{Limited}
+use Rattle.byte_io.specs.declared.limited.Limited.TheVariants.{TooLong, Of}
 use Rattle.file_types.specs.declared.fault.PdbFault.{PdbFault}
 
 -- neither the directory nor stream 2 has more bytes than the limit
@@ -19,7 +19,7 @@ GivesLongPart limit bytes =
     ⊎ ((layout : LayoutView) × HasTexts bytes layout × ListsLongStream limit 2 layout)
 
 -- this is why such a file is refused: a part is too long, or it has a fault of the file
-abbrev pub IsBoundedFault : {A : Type 0} → ℕ → Bytes → (PdbFault A → Type 0) → BoundedFault A
-    → Type 0
+abbrev pub IsBoundedFault : {A : Type 0} → ℕ → Bytes → (PdbFault A → Type 0)
+    → Limited (PdbFault A) → Type 0
 IsBoundedFault limit bytes Refuses TooLong = GivesLongPart limit bytes
 IsBoundedFault limit bytes Refuses (Of fault) = Refuses fault

@@ -11,26 +11,17 @@ ghost use Rattle.file_types.specs.Read.{StreamWasRead, HasPdbFaultRead, HasFault
 use crate::buffer::Buffer;
 use crate::fault::PdbFault;
 use crate::read::lent_stream_of;
-use byte_io::{AtFault, Lend, ReadAt};
-use msf_blocks::{Layout, WithinFault};
-use std::alloc::{Allocator, Global};
+use byte_io::{AtFault, Lend, Limited, ReadAt};
+use msf_blocks::Layout;
+use std::alloc::Allocator;
 use tpi_records::TPI_STREAM;
-
-/// Why the types of a file are not read, where its parts are limited.
-#[derive(Debug, PartialEq, Eq, Drop)]
-pub enum BoundedFault<A: Allocator = Global> {
-    /// The directory or stream 2 has more bytes than the limit allows.
-    TooLong,
-    /// The file has this fault.
-    Of(PdbFault<A>),
-}
 
 /// Reads the layout of a file whose directory and stream 2 may have at most `limit` bytes each.
 fn layout_within<R: ReadAt, A: Allocator + Copy>(
     alloc: A,
     input: &mut R,
     limit: u32,
-) -> Result<Layout<A>, AtFault<BoundedFault<A>>>
+) -> Result<Layout<A>, AtFault<Limited<PdbFault<A>>>>
     ensures reads { Reads R.bytes R.is_broken input.old input.new result }
     ensures small { IfKnown (R.bytes input.old) AreBytes }
     ensures texts { IfOk result (HasTexts (R.bytes input.old)) }
@@ -38,17 +29,15 @@ fn layout_within<R: ReadAt, A: Allocator + Copy>(
     ensures refused { IfErr result (IfOf (IsBoundedFault limit (R.bytes input.old) (λ fault.
         IsLayoutFaultRead (R.bytes input.old) fault ⊎ (fault ≡ PdbFault.Memory)))) }
     ensures memory { IfErr result (IfOf (λ fault.
-        fault ≡ BoundedFault.Of PdbFault.Memory →
+        fault ≡ Limited.Of PdbFault.Memory →
         IfKnown (R.bytes input.old) (λ file. first_failing (layout_checks file) ≡ None))) }
 {
     match Layout::read_within(alloc, input, limit) {
-        Ok(layout) if layout.is_longer(TPI_STREAM, limit) => Err(AtFault::Of(
-            BoundedFault::TooLong,
-        )),
+        Ok(layout) if layout.is_longer(TPI_STREAM, limit) => Err(AtFault::Of(Limited::TooLong)),
         Ok(layout) => Ok(layout),
-        Err(AtFault::Of(WithinFault::TooLong)) => Err(AtFault::Of(BoundedFault::TooLong)),
-        Err(AtFault::Of(WithinFault::Of(fault))) => {
-            Err(AtFault::Of(BoundedFault::Of(PdbFault::from(fault))))
+        Err(AtFault::Of(Limited::TooLong)) => Err(AtFault::Of(Limited::TooLong)),
+        Err(AtFault::Of(Limited::Of(fault))) => {
+            Err(AtFault::Of(Limited::Of(PdbFault::from(fault))))
         }
         Err(AtFault::Read) => Err(AtFault::Read),
     }
@@ -68,7 +57,7 @@ pub fn read_stream_within<'a, 'b: 'a, R: Lend<'b>, A: Allocator + Copy>(
     input: &mut R,
     limit: u32,
     buffer: &'a mut Buffer<A>,
-) -> Result<&'a [u8], AtFault<BoundedFault<A>>>
+) -> Result<&'a [u8], AtFault<Limited<PdbFault<A>>>>
     ensures reads { Reads R.bytes R.is_broken input.old input.new result }
     ensures small { IfKnown (R.bytes input.old) AreBytes }
     ensures texts { IfOk result (λ stream.
@@ -79,13 +68,13 @@ pub fn read_stream_within<'a, 'b: 'a, R: Lend<'b>, A: Allocator + Copy>(
         ⊎ (fault ≡ PdbFault.Memory)))) }
     // Out of memory comes only where the container has no fault.
     ensures memory { IfErr result (IfOf (λ fault.
-        fault ≡ BoundedFault.Of PdbFault.Memory →
+        fault ≡ Limited.Of PdbFault.Memory →
         IfKnown (R.bytes input.old) (λ file. first_failing (layout_checks file) ≡ None))) }
 {
     let layout = layout_within(alloc, input, limit)?;
     match lent_stream_of(input, &layout, buffer) {
         Ok(stream) => Ok(stream),
-        Err(AtFault::Of(fault)) => Err(AtFault::Of(BoundedFault::Of(fault))),
+        Err(AtFault::Of(fault)) => Err(AtFault::Of(Limited::Of(fault))),
         Err(AtFault::Read) => Err(AtFault::Read),
     }
 }

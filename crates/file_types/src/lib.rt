@@ -5,9 +5,8 @@
 //! stream 2 holds type records, and the records are types: each names only simple types and records
 //! of the file, and no record leads into a cycle.
 //!
-//! - [`read_types`] reads the types of a file in memory, and [`read_types_at`] those of any file,
-//!   by position: of the file only its directory and the blocks of its TPI stream. They are lent
-//!   from the file if its bytes are in memory and the blocks of its TPI stream are consecutive.
+//! - [`read_types`] reads the types of a file in memory: of the file only its directory and the
+//!   blocks of its TPI stream. They are lent from the file if these blocks are consecutive.
 //!   Otherwise they are lent from a [`Buffer`], which the caller passes. The caller may pass the
 //!   same buffer for the next file.
 //! - [`read_records_of`] and [`read_types_of`] read the type records and the types where the layout
@@ -42,9 +41,7 @@ mod fault;
 pub mod laws;
 mod read;
 
-pub use bounded::{BoundedFault, read_stream_within};
+pub use bounded::read_stream_within;
 pub use buffer::Buffer;
 pub use fault::PdbFault;
-pub use read::{
-    check_types, read_records_of, read_stream, read_types, read_types_at, read_types_of,
-};
+pub use read::{check_types, read_records_of, read_stream, read_types, read_types_of};

@@ -189,7 +189,7 @@ fn types_at<'a, 'b: 'a, R: Lend<'b>, A: Allocator + Copy>(
 /// The faults are those of [`read_types`], in the same order, and `AtFault::Read` where a read
 /// failed. `Memory` comes only where the container has no fault. The old bytes of the buffer have no
 /// effect, and its space is used again. After a fault the buffer may be used again.
-pub fn read_types_at<'a, 'b: 'a, R: Lend<'b>, A: Allocator + Copy>(
+fn read_types_at<'a, 'b: 'a, R: Lend<'b>, A: Allocator + Copy>(
     alloc: A,
     input: &mut R,
     buffer: &'a mut Buffer<A>,

@@ -6,8 +6,8 @@ use Rattle.byte_fields.specs.Check.{first_failing, Refuses}
 use Rattle.msf_superblock.proofs.FrontLaws.{superblock_holds}
 use Rattle.msf_blocks.proofs.LayoutLaws.{superblock_fault}
 use Rattle.msf_superblock.specs.Superblock.{Fields, IsSuperblock, superblock_checks}
-use Rattle.msf_blocks.specs.declared.fault.WithinFault.{WithinFault}
-use Rattle.msf_blocks.specs.declared.fault.WithinFault.TheVariants as within
+use Rattle.byte_io.specs.declared.limited.Limited.{Limited}
+use Rattle.byte_io.specs.declared.limited.Limited.TheVariants as within
 use Rattle.byte_io.specs.At.{map_of, Bytes, IfKnown, IfOf}
 use Rattle.byte_io.specs.declared.at.AtFault.{AtFault}
 use Rattle.byte_io.specs.declared.at.AtFault.TheVariants as at
@@ -29,7 +29,7 @@ layout_wants bytes (Err (at.Of fault)) small first = λ file is layout has. elim
 -- ---- with a limit on the directory
 
 -- what holds of each fault of a container holds of it as a fault within a limit
-pub of_within : (P : MsfFault → Type 0) (Q : WithinFault → Type 0) (fault : AtFault MsfFault) → ((inner : MsfFault) → P inner → Q (within.Of inner)) → IfOf P fault → IfOf Q (map_of within.Of fault)
+pub of_within : (P : MsfFault → Type 0) (Q : Limited MsfFault → Type 0) (fault : AtFault MsfFault) → ((inner : MsfFault) → P inner → Q (within.Of inner)) → IfOf P fault → IfOf Q (map_of within.Of fault)
 of_within P Q at.Read each is = tt
 of_within P Q (at.Of inner) each is = each inner is
 

@@ -8,8 +8,8 @@ use Rattle.msf_superblock.specs.Superblock.{Fields, IsSuperblock, HasFront, Fron
 use Rattle.msf_blocks.specs.Directory.{Listed, bytes_of, IsListed, IsDirectory, ListsStreams, HasContents, DirectoryRefuses, directory_contents, directory_block_checks, length_checks, stream_checks}
 use Rattle.msf_superblock.specs.declared.fault.MsfFault.{MsfFault}
 use Rattle.msf_superblock.specs.declared.fault.MsfFault.TheVariants.{Memory}
-use Rattle.msf_blocks.specs.declared.fault.WithinFault.{WithinFault}
-use Rattle.msf_blocks.specs.declared.fault.WithinFault.TheVariants as within
+use Rattle.byte_io.specs.declared.limited.Limited.{Limited}
+use Rattle.byte_io.specs.declared.limited.Limited.TheVariants as within
 
 -- contracts see a layout as the values of the superblock and the list of streams
 pub record LayoutView : Type 0 where
@@ -82,13 +82,13 @@ GivesLongDirectory limit bytes =
     × ((fields : Fields) × HasFront bytes fields × (limit < fields.directory_bytes))
 
 -- this is the first fault of the file: after the superblock comes the length of the directory
-abbrev pub HasWithinFault : ℕ → List ℕ → WithinFault → Type 0
+abbrev pub HasWithinFault : ℕ → List ℕ → Limited MsfFault → Type 0
 HasWithinFault limit file within.TooLong = HasLongDirectory limit file
 HasWithinFault limit file (within.Of fault) =
     (HasLongDirectory limit file → ⊥) × Refuses Memory (first_failing (layout_checks file)) fault
 
 -- what reads gave has this fault
-abbrev pub TextsRefuseWithin : ℕ → Bytes → WithinFault → Type 0
+abbrev pub TextsRefuseWithin : ℕ → Bytes → Limited MsfFault → Type 0
 TextsRefuseWithin limit bytes within.TooLong = GivesLongDirectory limit bytes
 TextsRefuseWithin limit bytes (within.Of fault) = TextsRefuse bytes fault
 

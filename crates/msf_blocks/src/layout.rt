@@ -12,8 +12,7 @@ ghost use Rattle.msf_blocks.specs.Stream.{listed_of};
 
 use crate::directory::{Directory, bytes_of};
 use crate::directory_at::read_contents;
-use crate::fault::WithinFault;
-use byte_io::{AtFault, ReadAt};
+use byte_io::{AtFault, Limited, ReadAt};
 use msf_superblock::{MsfFault, Superblock};
 use std::alloc::{Allocator, Global};
 use std::marker::Model;
@@ -114,12 +113,12 @@ impl<A: Allocator + Copy> Layout<A> {
 }
 
 /// A fault of a container whose directory is not too long.
-fn within(fault: AtFault<MsfFault>) -> AtFault<WithinFault>
-    ensures { result ≡ map_of WithinFault.Of fault }
+fn within(fault: AtFault<MsfFault>) -> AtFault<Limited<MsfFault>>
+    ensures { result ≡ map_of Limited.Of fault }
 {
     match fault {
         AtFault::Read => AtFault::Read,
-        AtFault::Of(fault) => AtFault::Of(WithinFault::Of(fault)),
+        AtFault::Of(fault) => AtFault::Of(Limited::Of(fault)),
     }
 }
 
@@ -196,7 +195,7 @@ impl<A: Allocator + Copy> Layout<A> {
         alloc: A,
         input: &mut R,
         limit: u32,
-    ) -> Result<Layout<A>, AtFault<WithinFault>>
+    ) -> Result<Layout<A>, AtFault<Limited<MsfFault>>>
         ensures reads { Reads R.bytes R.is_broken input.old input.new result }
         ensures small { IfKnown (R.bytes input.old) AreBytes }
         ensures value { IfOk result (λ layout.
@@ -212,7 +211,7 @@ impl<A: Allocator + Copy> Layout<A> {
             Err(fault) => return Err(within(fault)),
         };
         if limit < superblock.directory_bytes() {
-            return Err(AtFault::Of(WithinFault::TooLong));
+            return Err(AtFault::Of(Limited::TooLong));
         }
         match layout_behind(alloc, input, superblock) {
             Ok(layout) => Ok(layout),

@@ -42,7 +42,6 @@
 mod blocks;
 mod directory;
 mod directory_at;
-mod fault;
 mod free_map;
 pub mod laws;
 mod layout;
@@ -52,7 +51,6 @@ mod without_memory;
 pub use blocks::read_blocks;
 pub use byte_io::{In, NotTaken, Out, Sink, Source, put_all};
 pub use directory::{block_map_bytes, directory_bytes};
-pub use fault::WithinFault;
 pub use free_map::{fill_map_block, free_bit, free_blocks, free_blocks_at};
 pub use layout::Layout;
 pub use msf_superblock::{

@@ -13,9 +13,9 @@ ghost use Rattle.pdb_merge.specs.Union.{AcceptedBelow, IsReadingFaultAt, ReadsFi
 
 use crate::bounded::BoundedInputs;
 use crate::fault::{AddFault, MergeFault};
-use byte_io::{AtFault, InputFault, Inputs, Lend, ReadFault};
+use byte_io::{AtFault, InputFault, Inputs, Lend, Limited, ReadFault};
 use checked_types::Types;
-use file_types::{BoundedFault, Buffer, PdbFault, check_types, read_stream_within};
+use file_types::{Buffer, PdbFault, check_types, read_stream_within};
 use std::alloc::{Allocator, Global};
 
 /// The bytes of one input, and those of its TPI stream where they can't be lent.
@@ -168,11 +168,11 @@ fn read_with<'a, 'b: 'a, I: BoundedInputs, R: Lend<'b>, A: Allocator + Copy>(
 {
     match read_stream_within(alloc, reader, inputs.limit(), buffer) {
         Ok(stream) => Ok(stream),
-        Err(AtFault::Of(BoundedFault::TooLong)) => {
+        Err(AtFault::Of(Limited::TooLong)) => {
             let fault = InputFault::Read(ReadFault::TooLong);
             Err(AtFault::Of(OwnFault::Unread(fault)))
         }
-        Err(AtFault::Of(BoundedFault::Of(fault))) => {
+        Err(AtFault::Of(Limited::Of(fault))) => {
             Err(AtFault::Of(OwnFault::Of(AddFault::from(fault))))
         }
         Err(AtFault::Read) => Err(AtFault::Read),

@@ -1,6 +1,7 @@
 //! Merges of files that are read by position: a read that fails, and refused memory.
 
 ghost use Rattle.std.specs.Prelude.{None};
+ghost use Rattle.byte_io.specs.Inputs.{untold};
 
 use super::calls::copied;
 use byte_io::{InputFault, Inputs, Opened};
@@ -33,6 +34,8 @@ impl<'p> Parts<'p> {
 
 impl<'p> Inputs for Parts<'p> {
     ghost known = { λ _. None };
+
+    ghost outcomes = { λ _ _. untold };
 
     type File = Positions<'p>;
 
