@@ -5,5 +5,6 @@ pub mod MapsLaws
 pub mod MembersLaws
 pub mod MergeLaws
 pub mod ShowLaws
+pub mod ShownLaws
 pub mod TypesLaws
 pub mod PlanLaws

@@ -1,58 +1,24 @@
--- A command whose read by position failed.
-use Rattle.std.proofs.Common.{true, false, ◌≡◌, ◌⊎◌, ℕ, ◌-◌, ◌^◌, ◌≤◌, Bool, List, Option, arith, refl, ap, ◌∙◌, inl, inr}
+-- What a command makes of a file.
+use Rattle.std.proofs.Common.{◌≡◌, ◌⊎◌, ℕ, ◌≤◌, Bool, List, Option, refl, ap, ◌∙◌, inl, inr}
 use Rattle.std.specs.Prelude.{Result, Ok, Err, IfOk, IfErr}
-use Rattle.std.proofs.lemmas.Bool.{cases_lt}
 use Rattle.byte_fields.specs.Bytes.{AreBytes}
 use Rattle.byte_io.specs.At.{Bytes, IfKnown, IfOf}
 use Rattle.byte_io.specs.Input.{GivesAll}
 use Rattle.byte_io.specs.declared.at.AtFault.{AtFault}
 use Rattle.byte_io.specs.declared.at.AtFault.TheVariants as at
-use Rattle.byte_io.specs.declared.input.ReadFault.TheVariants as reads
 use Rattle.msf_blocks.specs.Layout.{LayoutView, HasLayout, HasWithinFault, TextsRefuse, TextsRefuseWithin}
 use Rattle.msf_superblock.specs.declared.fault.MsfFault.{MsfFault}
 use Rattle.msf_superblock.specs.declared.fault.MsfFault.TheVariants as msf
-use Rattle.msf_blocks.specs.declared.fault.WithinFault.{WithinFault}
-use Rattle.msf_blocks.specs.declared.fault.WithinFault.TheVariants as within
+use Rattle.byte_io.specs.declared.limited.Limited.{Limited}
+use Rattle.byte_io.specs.declared.limited.Limited.TheVariants as within
 use Rattle.msf_blocks.proofs.AtLayoutLaws.{short_directory}
 use Rattle.file_types.specs.Fault.{pdb_from_msf}
 use Rattle.file_types.specs.declared.fault.PdbFault.{PdbFault}
 use Rattle.pdb_commands.specs.Fault.{run_from_pdb}
-use Rattle.pdb_commands.specs.Show.{Answers, AnswersAt, GivesRefused, IfOfFile, IsByPosition, IsByWhole, IsOfText, PrintsPart, RefusesBounded, RefusesKnown, RefusesUnlaid, ShowsBounded, ShowsKnown}
+use Rattle.pdb_commands.specs.Show.{Answers, GivesRefused, IfOfFile, IsOfText, PrintsPart, RefusesBounded, RefusesKnown, RefusesUnlaid, ShowsBounded, ShowsKnown}
 use Rattle.pdb_commands.specs.Streams.{RefusesLayout}
 use Rattle.pdb_commands.specs.declared.fault.RunFault.{RunFault}
-use Rattle.pdb_commands.specs.declared.fault.RunFault.TheVariants.{Read, Memory, Write}
-
--- what holds after it: the reader is broken, its length is within the limit, and nothing was written
-pub record Failed {W : Type 0} (limit : ℕ) (bytes : Bytes) (broken : Bool) (before after : W) : Type 0 where
-  pub breaks : broken ≡ true
-  pub within : bytes.told ≤ limit
-  pub untouched : after ≡ before
-
-at_read : {A W T : Type 0} (Shows : List ℕ → List ℕ → Type 0) (Refuses : List ℕ → RunFault A → Type 0) (ShowsRead : Bytes → LayoutView → List ℕ → Type 0) (RefusesRead : Bytes → LayoutView → RunFault A → Type 0) (limit : ℕ) (bytes : Bytes) (broken : Bool) (taken : W → Option (List ℕ)) (is_broken : W → Bool) (before after : W)
-    → AnswersAt {T = T} Shows Refuses ShowsRead RefusesRead limit bytes broken taken is_broken before after (Err (Read reads.Read)) → Failed limit bytes broken before after
-at_read {A = A} Shows Refuses ShowsRead RefusesRead limit bytes broken taken is_broken before after answers = record {
-  breaks = answers.read;
-  within = elim (cases_lt limit bytes.told) [ inl lt ↦ (let bad = answers.long lt in absurd cc) | inr le ↦ le ];
-  untouched = elim answers.untouched [ inl bad ↦ absurd cc | inr same ↦ same ];
-}
-
-pub failed : {A W T : Type 0} (Shows : List ℕ → List ℕ → Type 0) (Refuses : List ℕ → RunFault A → Type 0) (ShowsRead : Bytes → LayoutView → List ℕ → Type 0) (RefusesRead : Bytes → LayoutView → RunFault A → Type 0) (limit : ℕ) (bytes : Bytes) (broken : Bool) (taken : W → Option (List ℕ)) (is_broken : W → Bool) (before after : W)
-    (result : Result T (RunFault A)) → result ≡ Err (Read reads.Read) → AnswersAt Shows Refuses ShowsRead RefusesRead limit bytes broken taken is_broken before after result → Failed limit bytes broken before after
-failed {T = T} Shows Refuses ShowsRead RefusesRead limit bytes broken taken is_broken before after result is answers =
-    at_read {T = T} Shows Refuses ShowsRead RefusesRead limit bytes broken taken is_broken before after (rw is at answers)
-
--- any other answer is no read that failed
-pub not_read : {A T : Type 0} (answer : Result T (RunFault A)) → (answer ≡ Err (Read reads.Read) → ⊥) → IfErr answer (λ fault. fault ≡ Read reads.Read → ⊥)
-not_read (Ok done) never = tt
-not_read (Err fault) never = λ is. never (ap (λ f. Err f) is)
-
--- where no read by position failed, the answer is the one by position
-pub by_position : {A W S T : Type 0} (Shows : List ℕ → List ℕ → Type 0) (Refuses : List ℕ → RunFault A → Type 0) (ShowsRead : Bytes → LayoutView → List ℕ → Type 0) (RefusesRead : Bytes → LayoutView → RunFault A → Type 0) (limit : ℕ) (bytes : Bytes) (broken : Bool)
-    (left : S → Option (List ℕ)) (whole_broken : S → Bool) (whole : S) (taken : W → Option (List ℕ)) (is_broken : W → Bool) (before after : W) (answer : Result T (RunFault A)) (unread : Bool) → unread ≡ false → (unread ≡ false → answer ≡ Err (Read reads.Read) → ⊥)
-    → AnswersAt Shows Refuses ShowsRead RefusesRead limit bytes broken taken is_broken before after answer
-    → IsByPosition Shows Refuses ShowsRead RefusesRead limit bytes broken whole whole taken is_broken before after answer ⊎ IsByWhole Shows Refuses limit bytes broken left whole_broken whole whole taken is_broken before after answer
-by_position Shows Refuses ShowsRead RefusesRead limit bytes broken left whole_broken whole taken is_broken before after answer unread is never answers =
-    inl (record { answers = answers; reads = not_read answer (never is); unread = refl })
+use Rattle.pdb_commands.specs.declared.fault.RunFault.TheVariants.{Open, Read, Memory, Write}
 
 -- ---- a limit on the directory
 
@@ -91,12 +57,13 @@ texts_refused bytes msf.Memory inner outer is made refused = inr (made ∙ ap ru
 texts_refused bytes fault inner outer is made refused = inl (rw (made, is) (refused, λ memory. cc))
 
 -- the fault of a layout whose directory is within the limit
-pub refused_of : (limit : ℕ) (bytes : Bytes) (fault : WithinFault) (inner : MsfFault) → fault ≡ within.Of inner → TextsRefuseWithin limit bytes fault → TextsRefuse bytes inner
+pub refused_of : (limit : ℕ) (bytes : Bytes) (fault : Limited MsfFault) (inner : MsfFault) → fault ≡ within.Of inner → TextsRefuseWithin limit bytes fault → TextsRefuse bytes inner
 refused_of limit bytes fault inner is refused = rw is at refused
 
 -- ---- an answer in weaker words
 
 of_file_more : {A : Type 0} (P Q : RunFault A → Type 0) (fault : RunFault A) → (P fault → Q fault) → IfOfFile P fault → IfOfFile Q fault
+of_file_more P Q Open more is = tt
 of_file_more P Q (Read fault) more is = tt
 of_file_more P Q Memory more is = tt
 of_file_more P Q Write more is = tt
@@ -135,6 +102,7 @@ pub text_refused : {A W T : Type 0} (Shows : List ℕ → List ℕ → Type 0)
     → Refuses file fault ⊎ (fault ≡ Memory) → IsOfText fault
     → Answers {T = T} Shows Refuses limit left_before left_after broken taken is_broken before before
     (Err fault)
+text_refused Shows Refuses limit left_before left_after broken taken is_broken before file Open gives is pure = absurd pure
 text_refused Shows Refuses limit left_before left_after broken taken is_broken before file (Read fault) gives is pure = absurd pure
 text_refused Shows Refuses limit left_before left_after broken taken is_broken before file Write gives is pure = absurd pure
 text_refused Shows Refuses limit left_before left_after broken taken is_broken before file Memory gives is pure = record {
@@ -154,14 +122,3 @@ text_refused Shows Refuses limit left_before left_after broken taken is_broken b
   untouched = inr refl;
 }
 text_refused Shows Refuses limit left_before left_after broken taken is_broken before file fault gives (inr want) pure = absurd cc
-
--- ---- the greatest number of four bytes is no limit on the directory
-
-pub shows_unbounded : (Shows : List ℕ → List ℕ → Type 0) (file text : List ℕ)
-    → ShowsBounded (2 ^ 32 - 1) Shows file text → Shows file text
-shows_unbounded Shows file text shows = shows.1
-
-pub refuses_unbounded : {A : Type 0} (Refuses : List ℕ → RunFault A → Type 0) (file : List ℕ)
-    (fault : RunFault A) → RefusesBounded (2 ^ 32 - 1) Refuses file fault → Refuses file fault
-refuses_unbounded Refuses file fault (inl (is, long)) = absurd (omega (arith, long.limited))
-refuses_unbounded Refuses file fault (inr (short, own)) = own

@@ -8,6 +8,8 @@ use Rattle.pdb_merge.specs.declared.fault.MergeFault.TheVariants as merges
 use Rattle.pdb_merge.specs.declared.fault.OutFault.{OutFault}
 use Rattle.pdb_merge.specs.declared.fault.OutFault.TheVariants as outs
 use Rattle.byte_io.specs.declared.input.ReadFault.{ReadFault}
+use Rattle.byte_io.specs.declared.inputs.InputFault.{InputFault}
+use Rattle.byte_io.specs.declared.inputs.InputFault.TheVariants as inputs
 use Rattle.byte_io.specs.declared.input.ReadFault.TheVariants as reads
 use Rattle.std.specs.Prelude.{ℕ}
 use Rattle.byte_io.specs.Fault.{read_number}
@@ -16,12 +18,17 @@ use Rattle.pdb_info.specs.Fault.{info_number}
 use Rattle.file_types.specs.Fault.{pdb_number}
 use Rattle.pdb_merge.specs.Fault.{merge_number}
 use Rattle.pdb_commands.specs.declared.fault.RunFault.{RunFault}
-use Rattle.pdb_commands.specs.declared.fault.RunFault.TheVariants.{Read, TooLong, Info, Pdb, Merge, NoRecord, Leaf, Memory, Write}
+use Rattle.pdb_commands.specs.declared.fault.RunFault.TheVariants.{Open, Read, TooLong, Info, Pdb, Merge, NoRecord, Leaf, Memory, Write}
 
 -- a fault of reading
 abbrev pub run_from_read : {A : Type 0} → ReadFault → RunFault A
 run_from_read reads.Memory = Memory
 run_from_read fault = Read fault
+
+-- a file that was not opened or not read
+abbrev pub run_from_input : {A : Type 0} → InputFault → RunFault A
+run_from_input inputs.Open = Open
+run_from_input (inputs.Read fault) = run_from_read fault
 
 -- a fault of the info stream
 abbrev pub run_from_info : {A : Type 0} → InfoFault → RunFault A
@@ -38,6 +45,12 @@ abbrev pub run_from_merge : {A : Type 0} → MergeFault A → RunFault A
 run_from_merge merges.Memory = Memory
 run_from_merge fault = Merge fault
 
+-- a fault of merging, of a command with one input, which is not counted
+abbrev pub run_from_one : {A : Type 0} → MergeFault A → RunFault A
+run_from_one (merges.Input file fault) = run_from_input fault
+run_from_one (merges.Refused file fault) = run_from_pdb fault
+run_from_one fault = run_from_merge fault
+
 -- a fault of merging, or of writing the file
 abbrev pub run_from_out : {A : Type 0} → OutFault A → RunFault A
 run_from_out (outs.Merge fault) = run_from_merge fault
@@ -46,6 +59,7 @@ run_from_out outs.Write = Write
 
 -- the number of a fault
 abbrev pub run_number : {A : Type 0} → RunFault A → ℕ
+run_number Open = 40
 run_number (Read fault) = read_number fault
 run_number TooLong = 38
 run_number (Pdb fault) = pdb_number fault

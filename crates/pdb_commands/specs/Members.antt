@@ -1,13 +1,18 @@
 -- What the command `members` writes.
-use Rattle.std.specs.Prelude.{ℕ, ◌≡◌, List, [], ◌∷◌, map, Option, Result}
+use Rattle.std.specs.Prelude.{ℕ, ◌≡◌, ◌≢◌, ◌⊎◌, List, [], ◌∷◌, length, map, Option, Result, Err, OnOk, IfErr, IfSome}
 use Rattle.std.specs.List.{concat}
 use Rattle.std.specs.Io.KnownBytes.{Appends}
-use Rattle.byte_io.specs.Inputs.{Give}
+use Rattle.byte_io.specs.Inputs.{CanRead, Give}
 use Rattle.byte_io.specs.declared.inputs.InputFault.{InputFault}
 use Rattle.closed_trees.specs.Tree.{Tree}
 use Rattle.closed_trees.specs.Types.{AreTypes}
 use Rattle.msf_streams.specs.Put.{AppendsPart}
 use Rattle.file_types.specs.Read.{IsAccepted}
+use Rattle.pdb_merge.specs.Answer.{RefusesReading}
+use Rattle.pdb_merge.specs.declared.fault.MergeFault.{MergeFault}
+use Rattle.pdb_commands.specs.Fault.{run_from_one}
+use Rattle.pdb_commands.specs.declared.fault.RunFault.{RunFault}
+use Rattle.pdb_commands.specs.declared.fault.RunFault.TheVariants.{Memory, Write}
 use Rattle.type_texts.specs.Asked.{AreTrees, answered, shown_texts}
 use Rattle.type_texts.specs.declared.asked.Asked.{Asked}
 
@@ -35,3 +40,20 @@ abbrev pub ShowedMembersPart : Option (List (Result (List ℕ) InputFault)) → 
     → List Asked → Option (List ℕ) → Option (List ℕ) → Type 0
 ShowedMembersPart known asked found old new =
     (text : List ℕ) × ShowsMembers known asked found text × AppendsPart old new text
+
+-- the input is refused with this fault, as in a merge, or memory runs out; the fault does not count
+-- the input
+abbrev pub RefusesOne : {A : Type 0} → Option (List (Result (List ℕ) InputFault)) → RunFault A
+    → Type 0
+RefusesOne {A = A} known fault =
+    (fault ≡ Memory)
+    ⊎ ((inner : MergeFault A) × (fault ≡ run_from_one inner) × RefusesReading known inner)
+
+-- how a command answers that reads the types of its one input, and then writes a text
+pub record AnswersOne {A W T : Type 0} (known : Option (List (Result (List ℕ) InputFault)))
+    (before after : W) (result : Result T (RunFault A)) : Type 0 where
+  pub read : OnOk result (IfSome known (λ each. CanRead each (length each)))
+  pub refuses : IfErr result (λ fault. (fault ≡ Write) ⊎ RefusesOne known fault)
+  -- something may have been written only after the input was read
+  pub late : result ≡ Err Write → IfSome known (λ each. CanRead each (length each))
+  pub untouched : IfErr result (λ fault. fault ≢ Write → after ≡ before)

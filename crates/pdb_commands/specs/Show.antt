@@ -4,16 +4,19 @@ use Rattle.std.specs.Prelude.{ℕ, ◌≡◌, ◌<◌, ◌≤◌, ◌⊎◌, Boo
 use Rattle.std.specs.Io.KnownBytes.{Appends}
 use Rattle.byte_fields.specs.Bytes.{AreBytes}
 use Rattle.byte_fields.specs.Check.{first_failing}
-use Rattle.byte_io.specs.At.{Bytes, IfKnown, stable}
+use Rattle.byte_io.specs.At.{Bytes, stable}
 use Rattle.byte_io.specs.Input.{GivesAll, IsNotRead, HasGiven}
 use Rattle.byte_io.specs.declared.input.ReadFault.{ReadFault}
-use Rattle.byte_io.specs.declared.input.ReadFault.TheVariants as reads
+use Rattle.byte_io.specs.Inputs.{Outcomes, is_opened_broken, opened_bytes}
+use Rattle.byte_io.specs.declared.inputs.Opened.{Opened}
+use Rattle.byte_io.specs.declared.inputs.InputFault.{InputFault}
 use Rattle.msf_blocks.specs.Layout.{LayoutView, GivesLongDirectory, HasLayout, HasLongDirectory, HasTexts, layout_checks}
 use Rattle.msf_superblock.specs.declared.fault.MsfFault.{MsfFault}
 use Rattle.file_types.specs.declared.fault.PdbFault.TheVariants.{Msf}
+use Rattle.pdb_commands.specs.Fault.{run_from_input}
 use Rattle.pdb_commands.specs.Streams.{RefusesLayout}
 use Rattle.pdb_commands.specs.declared.fault.RunFault.{RunFault}
-use Rattle.pdb_commands.specs.declared.fault.RunFault.TheVariants.{Read, TooLong, Pdb, Memory, Write}
+use Rattle.pdb_commands.specs.declared.fault.RunFault.TheVariants.{Open, Read, TooLong, Pdb, Memory, Write}
 
 -- the source gave a file, and the sink took the text that shows it
 abbrev pub Prints : (List ℕ → List ℕ → Type 0) → ℕ → Option (List ℕ) → Option (List ℕ)
@@ -43,6 +46,7 @@ IfRead P _ = Unit {0}
 
 -- if the fault is one of the file, P holds of it
 abbrev pub IfOfFile : {A : Type 0} → (RunFault A → Type 0) → RunFault A → Type 0
+IfOfFile P Open = Unit {0}
 IfOfFile P (Read fault) = Unit {0}
 IfOfFile P Memory = Unit {0}
 IfOfFile P Write = Unit {0}
@@ -50,6 +54,7 @@ IfOfFile P fault = P fault
 
 -- a fault that making the text can have
 abbrev pub IsOfText : {A : Type 0} → RunFault A → Type 0
+IsOfText Open = ⊥
 IsOfText (Read fault) = ⊥
 IsOfText Write = ⊥
 IsOfText _ = Unit {0}
@@ -85,28 +90,6 @@ RefusesBounded limit Refuses file fault =
 
 -- ---- a file that is read by position
 
--- the sink took the text that shows the file, which is at most `limit` bytes long
-abbrev pub PrintsAt : (List ℕ → List ℕ → Type 0) → ℕ → List ℕ → Option (List ℕ) → Option (List ℕ)
-    → Type 0
-PrintsAt Shows limit file taken_before taken_after =
-    (text : List ℕ) × (length file ≤ limit) × Shows file text
-    × Appends taken_before taken_after text
-
--- the sink took the first bytes of the text that shows the file, but not all of them
-abbrev pub PrintsPartAt : (List ℕ → List ℕ → Type 0) → ℕ → List ℕ → Option (List ℕ)
-    → Option (List ℕ) → Type 0
-PrintsPartAt Shows limit file taken_before taken_after =
-    (text : List ℕ) × (count : ℕ) × (length file ≤ limit) × Shows file text × (count < length text)
-    × Appends taken_before taken_after (take count text)
-
--- this is why a file is not read: a read failed, or it says that it has more bytes than the limit
--- allows, which is true where its bytes are known
-abbrev pub IsNotReadAt : Bytes → Bool → ℕ → ReadFault → Type 0
-IsNotReadAt bytes broken limit reads.Read = broken ≡ true
-IsNotReadAt bytes broken limit reads.TooLong =
-    (limit < bytes.told) × IfKnown bytes (λ file. limit < length file)
-IsNotReadAt bytes broken limit reads.Memory = ⊥
-
 -- reads gave a layout whose directory is within the limit, and this is the text of what they gave
 abbrev pub IsOfTexts : ℕ → (Bytes → LayoutView → List ℕ → Type 0) → Bytes → List ℕ → Type 0
 IsOfTexts limit ShowsRead bytes text =
@@ -121,44 +104,6 @@ IsFaultOfTexts limit RefusesRead bytes fault =
     ((fault ≡ TooLong) × GivesLongDirectory limit bytes)
     ⊎ (RefusesLayout bytes fault
     ⊎ ((layout : LayoutView) × HasTexts bytes layout × RefusesRead bytes layout fault))
-
--- the sink took such a text
-abbrev pub PrintsRead : ℕ → (Bytes → LayoutView → List ℕ → Type 0) → Bytes → Option (List ℕ)
-    → Option (List ℕ) → Type 0
-PrintsRead limit ShowsRead bytes taken_before taken_after =
-    (text : List ℕ) × IsOfTexts limit ShowsRead bytes text × Appends taken_before taken_after text
-
--- the sink took the first bytes of such a text, but not all of them
-abbrev pub PrintsPartRead : ℕ → (Bytes → LayoutView → List ℕ → Type 0) → Bytes → Option (List ℕ)
-    → Option (List ℕ) → Type 0
-PrintsPartRead limit ShowsRead bytes taken_before taken_after =
-    (text : List ℕ) × (count : ℕ) × IsOfTexts limit ShowsRead bytes text × (count < length text)
-    × Appends taken_before taken_after (take count text)
-
--- how a command that reads by position answers. If the bytes of the file are known, it prints the
--- text that shows the file, or it is refused by the file's length or by its first fault.
--- Memory runs out only if the length of such a file is within the limit. A sink that breaks took
--- the first bytes of the text. After any other refusal the sink is as it was.
--- Even if the bytes are not known, a length above the limit is refused first, what is printed is
--- the text of what reads gave, and a fault is one of what they gave
-pub record AnswersAt {A W T : Type 0} (Shows : List ℕ → List ℕ → Type 0)
-    (Refuses : List ℕ → RunFault A → Type 0) (ShowsRead : Bytes → LayoutView → List ℕ → Type 0)
-    (RefusesRead : Bytes → LayoutView → RunFault A → Type 0) (limit : ℕ) (bytes : Bytes)
-    (broken : Bool) (taken : W → Option (List ℕ)) (is_broken : W → Bool) (before after : W)
-    (result : Result T (RunFault A)) : Type 0 where
-  pub value :
-      OnOk result (IfKnown bytes (λ file. PrintsAt Shows limit file (taken before) (taken after)))
-  pub texts : OnOk result (PrintsRead limit ShowsRead bytes (taken before) (taken after))
-  pub long : limit < bytes.told → IfErr result (λ fault. fault ≡ Read reads.TooLong)
-  pub within : OnOk result (bytes.told ≤ limit)
-  pub read : IfErr result (IfRead (IsNotReadAt bytes broken limit))
-  pub first : IfErr result (IfOfFile (λ fault. IfKnown bytes (λ file. Refuses file fault)))
-  pub refused : IfErr result (IfOfFile (IsFaultOfTexts limit RefusesRead bytes))
-  pub memory : IfErr result (λ fault. fault ≡ Memory → IfKnown bytes (λ file. length file ≤ limit))
-  pub write : IfErr result (λ fault. fault ≡ Write → (is_broken after ≡ true)
-      × PrintsPartRead limit ShowsRead bytes (taken before) (taken after)
-      × IfKnown bytes (λ file. PrintsPartAt Shows limit file (taken before) (taken after)))
-  pub untouched : IfErr result (λ fault. (fault ≡ Write) ⊎ (after ≡ before))
 
 -- ---- what each command has to show
 
@@ -181,26 +126,15 @@ RefusesUnlaid Refuses =
     (file : List ℕ) (fault : MsfFault) → AreBytes file
     → first_failing (layout_checks file) ≡ Some fault → Refuses file (Pdb (Msf fault))
 
--- ---- a file that is read by position, and whole where a read by position fails
+-- ---- an input that is opened
 
--- the command answers by position, no read failed, and the file was not read whole
-pub record IsByPosition {A W S T : Type 0} (Shows : List ℕ → List ℕ → Type 0)
-    (Refuses : List ℕ → RunFault A → Type 0) (ShowsRead : Bytes → LayoutView → List ℕ → Type 0)
-    (RefusesRead : Bytes → LayoutView → RunFault A → Type 0) (limit : ℕ) (bytes : Bytes)
-    (broken : Bool) (whole_before whole_after : S) (taken : W → Option (List ℕ))
-    (is_broken : W → Bool) (before after : W) (result : Result T (RunFault A)) : Type 0 where
-  pub answers : AnswersAt Shows Refuses ShowsRead RefusesRead limit bytes broken
-      taken is_broken before after result
-  pub reads : IfErr result (λ fault. fault ≡ Read reads.Read → ⊥)
-  pub unread : whole_after ≡ whole_before
+-- the input was opened, and a read of it failed
+abbrev pub HasFailed : {F : Type 0} → Outcomes → (F → Bytes) → (F → Bool) → Type 0
+HasFailed {F = F} outcomes bytes is_broken =
+    (opened : Opened F) × outcomes.opens (opened_bytes bytes opened)
+    × (is_opened_broken is_broken opened ≡ true)
 
--- a read by position failed, and the command answers as it does for the whole file
-pub record IsByWhole {A W S T : Type 0} (Shows : List ℕ → List ℕ → Type 0)
-    (Refuses : List ℕ → RunFault A → Type 0) (limit : ℕ) (bytes : Bytes) (broken : Bool)
-    (left : S → Option (List ℕ)) (whole_broken : S → Bool) (whole_before whole_after : S)
-    (taken : W → Option (List ℕ)) (is_broken : W → Bool) (before after : W)
-    (result : Result T (RunFault A)) : Type 0 where
-  pub breaks : broken ≡ true
-  pub within : bytes.told ≤ limit
-  pub answers : Answers Shows Refuses limit (left whole_before) (left whole_after)
-      (whole_broken whole_after) taken is_broken before after result
+-- the input was refused with this fault as it was opened or read
+abbrev pub IsUnread : {A : Type 0} → Outcomes → RunFault A → Type 0
+IsUnread outcomes fault =
+    (inner : InputFault) × outcomes.refuses inner × (fault ≡ run_from_input inner)

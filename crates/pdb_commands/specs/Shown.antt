@@ -1,16 +1,21 @@
 -- What the commands that show a file print and refuse, with a limit on the stream that they read.
-use Rattle.std.specs.Prelude.{ℕ, ◌≡◌, ◌<◌, ◌-◌, ◌^◌, ◌⊎◌, List, Option, Some, None, slice_get}
-use Rattle.byte_io.specs.At.{Bytes}
+use Rattle.std.specs.Prelude.{ℕ, ◌≡◌, ◌<◌, ◌≤◌, ◌-◌, ◌^◌, ◌⊎◌, Bool, List, length, Option, Some, None, slice_get}
+use Rattle.std.specs.Io.KnownBytes.{Appends}
+use Rattle.byte_io.specs.At.{Bytes, stable}
+use Rattle.byte_io.specs.Inputs.{Outcomes}
+use Rattle.byte_io.specs.declared.input.ReadFault.TheVariants as reads
+use Rattle.msf_streams.specs.Put.{AppendsPart}
 use Rattle.msf_blocks.specs.Directory.{Listed, bytes_of}
 use Rattle.msf_blocks.specs.Layout.{LayoutView, HasLayout, ListsLongStream}
 use Rattle.pdb_commands.specs.Check.{ShowsChecked, ShowsCheckedRead, RefusesCheck, RefusesCheckRead}
 use Rattle.pdb_commands.specs.Info.{ShowsInfoWithin, ShowsInfoRead, RefusesInfoWithin, RefusesInfoRead}
 use Rattle.pdb_commands.specs.Record.{ShowsRecord, ShowsRecordRead, RefusesRecord, RefusesRecordRead}
 use Rattle.pdb_commands.specs.Records.{ShowsRecords, ShowsRecordsRead, RefusesRecords, RefusesRecordsRead}
+use Rattle.pdb_commands.specs.Show.{HasFailed, IsFaultOfTexts, IsOfTexts, IsUnread, RefusesBounded, ShowsBounded}
 use Rattle.pdb_commands.specs.Streams.{ShowsStreams, ShowsStreamsRead, RefusesStreams, RefusesStreamsRead}
 use Rattle.pdb_commands.specs.Types.{ShowsTypes, ShowsTypesRead, RefusesTypes, RefusesTypesRead}
 use Rattle.pdb_commands.specs.declared.fault.RunFault.{RunFault}
-use Rattle.pdb_commands.specs.declared.fault.RunFault.TheVariants.{TooLong}
+use Rattle.pdb_commands.specs.declared.fault.RunFault.TheVariants.{Read, TooLong, Memory}
 use Rattle.run_options.specs.declared.shown.Shown.{Shown}
 use Rattle.run_options.specs.declared.shown.Shown.TheVariants as shown
 
@@ -105,3 +110,75 @@ abbrev pub RefusesWithinRead : {A : Type 0} → Shown → ℕ → Bytes → Layo
 RefusesWithinRead command limit bytes layout fault =
     ((fault ≡ TooLong) × ListsTooLong command limit layout)
     ⊎ ((ListsTooLong command limit layout → ⊥) × RefusesItRead command limit bytes layout fault)
+
+-- ---- an input that is opened
+
+-- the command prints this text for this file, which is within the limit
+abbrev pub ShowsOpened : Shown → ℕ → List ℕ → List ℕ → Type 0
+ShowsOpened command limit file text =
+    (length file ≤ limit) × ShowsBounded limit (ShowsWithin command limit) file text
+
+-- the command refuses this file with this fault: the file is longer than the limit, else it is the
+-- command's own; or memory runs out
+unfoldable pub RefusesOpened : {A : Type 0} → Shown → ℕ → List ℕ → RunFault A → Type 0
+RefusesOpened command limit file fault =
+    ((fault ≡ Read reads.TooLong) × (limit < length file))
+    ⊎ ((length file ≤ limit)
+    × (RefusesBounded limit (RefusesWithin command limit) file fault ⊎ (fault ≡ Memory)))
+
+-- the command prints this text of what reads gave, whose length is within the limit
+abbrev pub ShowsGiven : Shown → ℕ → Bytes → List ℕ → Type 0
+ShowsGiven command limit bytes text =
+    (bytes.told ≤ limit) × IsOfTexts limit (ShowsWithinRead command limit) bytes text
+
+-- the command refuses what reads gave with this fault, in the same order
+abbrev pub RefusesGiven : {A : Type 0} → Shown → ℕ → Bytes → RunFault A → Type 0
+RefusesGiven command limit bytes fault =
+    ((fault ≡ Read reads.TooLong) × (limit < bytes.told))
+    ⊎ ((bytes.told ≤ limit)
+    × (IsFaultOfTexts limit (RefusesWithinRead command limit) bytes fault ⊎ (fault ≡ Memory)))
+
+-- this text is that of what opening an input gave
+unfoldable pub ShowsPart : Shown → ℕ → Outcomes → List ℕ → Type 0
+ShowsPart command limit outcomes text =
+    (bytes : Bytes) × outcomes.opens bytes × ShowsGiven command limit bytes text
+
+-- this text is that of what reading an input to its end gave
+unfoldable pub ShowsWhole : Shown → ℕ → Outcomes → List ℕ → Type 0
+ShowsWhole command limit outcomes text =
+    (file : List ℕ) × outcomes.gives file × ShowsGiven command limit (stable file) text
+
+-- the input can't be opened, or this is the fault of what opening it gave
+unfoldable pub RefusesPart : {A : Type 0} → Shown → ℕ → Outcomes → RunFault A → Type 0
+RefusesPart command limit outcomes fault =
+    IsUnread outcomes fault
+    ⊎ ((bytes : Bytes) × outcomes.opens bytes × RefusesGiven command limit bytes fault)
+
+-- the input can't be read, or this is the fault of what reading it to its end gave
+unfoldable pub RefusesWhole : {A : Type 0} → Shown → ℕ → Outcomes → RunFault A → Type 0
+RefusesWhole command limit outcomes fault =
+    IsUnread outcomes fault
+    ⊎ ((file : List ℕ) × outcomes.gives file × RefusesGiven command limit (stable file) fault)
+
+-- this text is that of what opening an input gave; or, where a read of that failed, of the whole
+abbrev pub ShowsInput : {F : Type 0} → Shown → ℕ → Outcomes → (F → Bytes) → (F → Bool) → List ℕ
+    → Type 0
+ShowsInput command limit outcomes bytes_of is_broken text =
+    ShowsPart command limit outcomes text
+    ⊎ (HasFailed outcomes bytes_of is_broken × ShowsWhole command limit outcomes text)
+
+-- this is the fault of opening an input, or of what that gave; or, where a read of that failed, of
+-- the whole
+abbrev pub RefusesInput : {F A : Type 0} → Shown → ℕ → Outcomes → (F → Bytes) → (F → Bool)
+    → RunFault A → Type 0
+RefusesInput command limit outcomes bytes_of is_broken fault =
+    RefusesPart command limit outcomes fault
+    ⊎ (HasFailed outcomes bytes_of is_broken × RefusesWhole command limit outcomes fault)
+
+-- a sink took a text of which this holds
+abbrev pub Printed : (List ℕ → Type 0) → Option (List ℕ) → Option (List ℕ) → Type 0
+Printed P before after = (text : List ℕ) × P text × Appends before after text
+
+-- a sink took the first bytes of a text of which this holds, but not all of them
+abbrev pub PrintedPart : (List ℕ → Type 0) → Option (List ℕ) → Option (List ℕ) → Type 0
+PrintedPart P before after = (text : List ℕ) × P text × AppendsPart before after text

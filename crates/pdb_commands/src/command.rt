@@ -4,13 +4,13 @@ ghost use Rattle.std.specs.Prelude.{◌≡◌, ◌⊎◌, ℕ, List, IfOk, IfErr
 ghost use Rattle.byte_fields.specs.Bytes.{AreBytes};
 ghost use Rattle.byte_io.specs.At.{Bytes, IfKnown, IfOf, Reads};
 ghost use Rattle.msf_blocks.specs.Layout.{HasLayout};
-ghost use Rattle.pdb_commands.specs.Show.{Answers, AnswersAt, IsOfText, IsOfTexts, IsFaultOfTexts, RefusesBounded, ShowsBounded};
+ghost use Rattle.pdb_commands.specs.Show.{Answers, IsOfText, IsOfTexts, IsFaultOfTexts, RefusesBounded, ShowsBounded};
 ghost use Rattle.pdb_commands.specs.declared.fault.RunFault.{RunFault};
 
 use crate::fault::RunFault;
-use byte_io::{AtFault, ReadAt, ReadFault, Sink, Source, put_all, read_all};
+use byte_io::{AtFault, Limited, ReadAt, Sink, Source, put_all, read_all};
 use file_types::PdbFault;
-use msf_blocks::{Layout, WithinFault};
+use msf_blocks::Layout;
 use std::alloc::Allocator;
 
 /// The text of a command, or why there is none.
@@ -58,7 +58,7 @@ pub trait Show<A: Allocator + Copy> {
 
 /// Makes the whole text of a file that is read by position. Its layout is read once, and its
 /// directory may have at most `limit` bytes.
-fn text_at<C: Show<A>, R: ReadAt, A: Allocator + Copy>(
+pub fn text_at<C: Show<A>, R: ReadAt, A: Allocator + Copy>(
     alloc: A,
     command: &C,
     input: &mut R,
@@ -79,8 +79,8 @@ fn text_at<C: Show<A>, R: ReadAt, A: Allocator + Copy>(
 {
     let layout = match Layout::read_within(alloc, input, limit) {
         Ok(layout) => layout,
-        Err(AtFault::Of(WithinFault::TooLong)) => return Err(AtFault::Of(RunFault::TooLong)),
-        Err(AtFault::Of(WithinFault::Of(fault))) => {
+        Err(AtFault::Of(Limited::TooLong)) => return Err(AtFault::Of(RunFault::TooLong)),
+        Err(AtFault::Of(Limited::Of(fault))) => {
             return Err(AtFault::Of(RunFault::from(PdbFault::from(fault))));
         }
         Err(AtFault::Read) => return Err(AtFault::Read),
@@ -88,55 +88,19 @@ fn text_at<C: Show<A>, R: ReadAt, A: Allocator + Copy>(
     command.text_of(alloc, input, &layout)
 }
 
-/// Runs a command by position: reads what it needs of the input, makes the whole text, then writes
-/// the text.
-///
-/// `limit` is the greatest number of bytes that the input may have, and its directory. The faults
-/// come in this order: `TooLong`, if the input says that it has more bytes; those of the superblock;
-/// `TooLong`, if it says that the directory has more bytes; those of the command for this file, and
-/// `Read` where a read failed; and `Write`, where the sink did not take the whole text. After
-/// `Write` the sink is broken and took the first bytes of the text. After any other fault it took
-/// nothing.
-pub fn run_at<C: Show<A>, R: ReadAt, W: Sink, A: Allocator + Copy>(
-    alloc: A,
-    command: &C,
-    input: &mut R,
-    limit: u32,
-    out: &mut W,
-) -> Result<(), RunFault<A>>
-    ensures { AnswersAt (ShowsBounded limit (C.shows command.now))
-        (RefusesBounded limit (C.refuses command.now)) (C.shows_read command.now)
-        (C.refuses_read command.now) limit (R.bytes input.old)
-        (R.is_broken input.new) W.taken W.is_broken out.old out.new result }
-{
-    if u64::from(limit) < input.len() {
-        return Err(RunFault::Read(ReadFault::TooLong));
-    }
-    let text = match text_at(alloc, command, input, limit) {
-        Ok(text) => text,
-        Err(AtFault::Of(fault)) => return Err(fault),
-        Err(AtFault::Read) => return Err(RunFault::Read(ReadFault::Read)),
-    };
-    put_all(out, text.as_bytes())?;
-    Ok(())
-}
-
-/// Makes the whole text of a file in memory, whose directory may have at most `bound` bytes.
+/// Makes the whole text of a file in memory, with no limit on its directory.
 fn text_in<C: Show<A>, A: Allocator + Copy>(
     alloc: A,
     command: &C,
     file: &[u8],
-    bound: u32,
 ) -> Result<String<A>, RunFault<A>>
-    ensures value { IfOk result (λ text.
-        ShowsBounded bound (C.shows command.now) file.now (string_bytes text)) }
+    ensures value { IfOk result (λ text. C.shows command.now file.now (string_bytes text)) }
     ensures first { IfErr result (λ fault.
-        RefusesBounded bound (C.refuses command.now) file.now fault
-        ⊎ (fault ≡ RunFault.Memory)) }
+        C.refuses command.now file.now fault ⊎ (fault ≡ RunFault.Memory)) }
     ensures pure { IfErr result IsOfText }
 {
     let mut input = file;
-    match text_at(alloc, command, &mut input, bound) {
+    match text_at(alloc, command, &mut input, u32::MAX) {
         Ok(text) => Ok(text),
         Err(AtFault::Of(fault)) => Err(fault),
         Err(AtFault::Read) => unreachable!(),
@@ -145,30 +109,10 @@ fn text_in<C: Show<A>, A: Allocator + Copy>(
 
 /// Runs a command: reads the whole input, makes the whole text, then writes the text.
 ///
-/// `limit` is the greatest number of bytes that the input may have, and `bound` that of its
-/// directory. The faults come in this order: those of reading; those of the superblock; `TooLong`,
-/// if it says that the directory has more bytes; those of the command for this file; and `Write`,
-/// where the sink did not take the whole text. After `Write` the sink is broken and took the first
-/// bytes of the text. After any other fault it took nothing.
-pub fn run_bounded<C: Show<A>, R: Source, W: Sink, A: Allocator + Copy>(
-    alloc: A,
-    command: &C,
-    input: &mut R,
-    limit: u32,
-    bound: u32,
-    out: &mut W,
-) -> Result<(), RunFault<A>>
-    ensures { Answers (ShowsBounded bound (C.shows command.now))
-        (RefusesBounded bound (C.refuses command.now)) limit (R.left input.old) (R.left input.new)
-        (R.is_broken input.new) W.taken W.is_broken out.old out.new result }
-{
-    let file = read_all(alloc, input, limit)?;
-    let text = text_in(alloc, command, &file, bound)?;
-    put_all(out, text.as_bytes())?;
-    Ok(())
-}
-
-/// Runs a command, as [`run_bounded`] does, with no limit on the directory.
+/// `limit` is the greatest number of bytes that the input may have. The faults come in this order:
+/// those of reading; those of the command for this file; and `Write`, where the sink did not take
+/// the whole text. After `Write` the sink is broken and took the first bytes of the text. After any
+/// other fault it took nothing.
 pub fn run<C: Show<A>, R: Source, W: Sink, A: Allocator + Copy>(
     alloc: A,
     command: &C,
@@ -179,5 +123,8 @@ pub fn run<C: Show<A>, R: Source, W: Sink, A: Allocator + Copy>(
     ensures { Answers (C.shows command.now) (C.refuses command.now) limit (R.left input.old)
         (R.left input.new) (R.is_broken input.new) W.taken W.is_broken out.old out.new result }
 {
-    run_bounded(alloc, command, input, limit, u32::MAX, out)
+    let file = read_all(alloc, input, limit)?;
+    let text = text_in(alloc, command, &file)?;
+    put_all(out, text.as_bytes())?;
+    Ok(())
 }

@@ -1,10 +1,10 @@
 //! Why a command is refused.
 
 ghost use Rattle.std.specs.Prelude.{◌≡◌};
-ghost use Rattle.pdb_commands.specs.Fault.{run_from_read, run_from_info, run_from_pdb, run_from_merge, run_from_out, run_number};
+ghost use Rattle.pdb_commands.specs.Fault.{run_from_input, run_from_one, run_from_read, run_from_info, run_from_pdb, run_from_merge, run_from_out, run_number};
 ghost use Rattle.pdb_commands.specs.declared.fault.RunFault.TheVariants.{Memory, Write};
 
-use byte_io::{NotTaken, ReadFault};
+use byte_io::{InputFault, NotTaken, ReadFault};
 use cv_leaves::LeafFault;
 use file_types::PdbFault;
 use pdb_info::InfoFault;
@@ -17,6 +17,9 @@ use thiserror::Error;
 /// Out of memory is always `Memory`: a fault inside another variant is never out of memory.
 #[derive(Debug, PartialEq, Eq, Drop, Error)]
 pub enum RunFault<A: Allocator = Global> {
+    /// The input cannot be opened.
+    #[error("40 Open")]
+    Open,
     /// The input was not read to its end.
     #[error("{0}")]
     Read(ReadFault),
@@ -47,11 +50,23 @@ pub enum RunFault<A: Allocator = Global> {
 }
 
 impl<A: Allocator> RunFault<A> {
+    /// The fault of a command with one input, which is not counted.
+    pub(crate) fn of_one(fault: MergeFault<A>) -> RunFault<A>
+        ensures { result ≡ run_from_one fault }
+    {
+        match fault {
+            MergeFault::Input { fault, .. } => RunFault::from(fault),
+            MergeFault::Refused { fault, .. } => RunFault::from(fault),
+            MergeFault::TooLarge { .. } | MergeFault::Memory => RunFault::from(fault),
+        }
+    }
+
     /// The number of the fault, which stands in its text.
     pub fn number(&self) -> u32
         ensures { result ≡ run_number self.now }
     {
         match self {
+            RunFault::Open => 40,
             RunFault::Read(fault) => fault.number(),
             RunFault::TooLong => 38,
             RunFault::Pdb(fault) => fault.number(),
@@ -88,6 +103,17 @@ impl<A: Allocator> From<ReadFault> for RunFault<A> {
         match fault {
             ReadFault::Memory => RunFault::Memory,
             fault => RunFault::Read(fault),
+        }
+    }
+}
+
+impl<A: Allocator> From<InputFault> for RunFault<A> {
+    ghost from_gives = { λ inner fault. fault ≡ run_from_input inner };
+
+    fn from(fault: InputFault) -> RunFault<A> {
+        match fault {
+            InputFault::Open => RunFault::Open,
+            InputFault::Read(fault) => RunFault::from(fault),
         }
     }
 }

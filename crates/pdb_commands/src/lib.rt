@@ -1,10 +1,10 @@
 //! The commands of `pdbmerge`, each as a function from bytes to bytes.
 //!
-//! Most commands show a file: [`run_shown_file`] runs each of them. It reads by position, and only
-//! what the command needs; where a read by position fails, it reads the whole file. It makes the
-//! whole text, and then writes it into a [`Sink`](byte_io::Sink). [`run_shown_at`] reads by position
-//! alone, and [`run_shown`] reads a [`Source`](byte_io::Source) to its end, as do [`run_records`],
-//! [`run_record`], [`run_types`], [`run_check`], [`run_info`] and [`run_streams`].
+//! Most commands show a file: [`run_shown`] runs each of them. It opens the one input, and reads by
+//! position only what the command needs; where a read by position fails, it reads the whole input.
+//! It makes the whole text, and then writes it into a [`Sink`](byte_io::Sink). [`run_records`],
+//! [`run_record`], [`run_types`], [`run_check`], [`run_info`] and [`run_streams`] read a
+//! [`Source`](byte_io::Source) to its end.
 //!
 //! [`run_plan`] writes one file with the types of several files, the maps of these files into it if
 //! they are kept, and a report on it. A plan says what becomes of a file that is refused; [`run_merge`]
@@ -16,15 +16,13 @@
 //! may its directory, the stream that is read, and the names of streams. The whole text is made before
 //! any of it is written. The faults of reading come first, then the command's own faults, and last
 //! `36 Write`: the sink did not take the whole text. After `36 Write` the sink is broken and took the
-//! first bytes of the text. After any other refusal nothing was written. By position `38 TooLong` comes
-//! first where the input says that it has more than `limit` bytes, and `37 Read` where a read that is
-//! needed fails.
+//! first bytes of the text. After any other refusal nothing was written.
 //!
 //! What is proved: the text that is written is the text of the file (`Shows..` of
 //! `specs/`), byte for byte. A refusal is the first fault of reading or of the file. What the sink
-//! took after a refusal is proved too. By position this is proved for files whose bytes are known,
-//! such as slices. For every file it is proved that a length above the limit is refused first, and
-//! that the text or the fault is that of bytes that reads gave (`ShowsItRead`, `RefusesItRead`).
+//! took after a refusal is proved too. This is proved of files whose bytes are known, such as slices.
+//! Of every input it is proved that the text or the fault is that of what opening it gave; or, where
+//! a read of that failed, of what reading it to its end gave (`AnswersInput`).
 //!
 //! The module `command` runs the commands that show a file. Each command has a module of its own.
 //! The crate `command_texts` makes the texts.
@@ -79,7 +77,7 @@ pub use members::run_members;
 pub use merge::run_plan;
 pub use record::run_record;
 pub use records::run_records;
-pub use shown::{run_shown, run_shown_at, run_shown_file};
+pub use shown::run_shown;
 pub use streams::run_streams;
 pub use type_texts::{Asked, Found, Query};
 pub use types::run_types;

@@ -2,10 +2,7 @@
 
 ghost use Rattle.std.specs.Prelude.{◌≡◌, ◌≢◌, true, Err, OnOk, IfOk, IfErr, IfSome, length};
 ghost use Rattle.byte_io.specs.Inputs.{CanRead};
-ghost use Rattle.pdb_merge.specs.Answer.{RefusesReading};
-ghost use Rattle.pdb_merge.specs.declared.fault.MergeFault.{MergeFault};
-ghost use Rattle.pdb_commands.specs.Members.{ShowsMembers, ShowedMembers, ShowedMembersPart};
-ghost use Rattle.pdb_commands.specs.Merge.{AnswersReading, IsOfMerging};
+ghost use Rattle.pdb_commands.specs.Members.{AnswersOne, RefusesOne, ShowsMembers, ShowedMembers, ShowedMembersPart};
 
 use crate::fault::RunFault;
 use byte_io::{Sink, put_all};
@@ -23,13 +20,14 @@ fn members_text<I: BoundedInputs, A: Allocator + Copy>(
     ensures value { IfOk result (λ text.
         ShowsMembers (I.known inputs.now) asked.old asked.new text.items) }
     ensures read { OnOk result (IfSome (I.known inputs.now) (λ each. CanRead each (length each))) }
-    ensures own { IfErr result (λ fault. IsOfMerging fault × (fault ≢ RunFault.Write)) }
-    ensures refuses { IfErr result (λ fault.
-        (inner : MergeFault A) → fault ≡ RunFault.Merge inner →
-        RefusesReading (I.known inputs.now) inner) }
+    ensures refuses { IfErr result (RefusesOne (I.known inputs.now)) }
+    ensures unwritten { IfErr result (λ fault. fault ≢ RunFault.Write) }
 {
     let mut buffer = InputBuffer::new(alloc);
-    let mut types = read_input_types(alloc, inputs, 0, &mut buffer)?;
+    let mut types = match read_input_types(alloc, inputs, 0, &mut buffer) {
+        Ok(types) => types,
+        Err(fault) => return Err(RunFault::of_one(fault)),
+    };
     types.index(alloc)?;
     find_asked(&types, asked);
     let mut text = Vec::new(alloc);
@@ -45,7 +43,7 @@ fn members_text<I: BoundedInputs, A: Allocator + Copy>(
 /// nothing is asked for, all definitions are shown.
 ///
 /// The input is opened, read and checked as in [`run_diff`](crate::run_diff), and refused with the
-/// same faults, in the same order. The whole text is made before any of it is written. After
+/// same faults, in the same order, which do not count it. The whole text is made before any of it is written. After
 /// `Write` the sink is broken and took the first bytes of the text. After any other fault it took
 /// nothing.
 pub fn run_members<I: BoundedInputs, W: Sink, A: Allocator + Copy>(
@@ -55,7 +53,7 @@ pub fn run_members<I: BoundedInputs, W: Sink, A: Allocator + Copy>(
     out: &mut W,
 ) -> Result<(), RunFault<A>>
     requires one { IfSome (I.known inputs.now) (λ each. length each ≡ 1) }
-    ensures answers { AnswersReading (I.known inputs.now) out.old out.new result }
+    ensures answers { AnswersOne (I.known inputs.now) out.old out.new result }
     ensures value { OnOk result (ShowedMembers (I.known inputs.now) asked.old asked.new
         (W.taken out.old) (W.taken out.new)) }
     ensures write { result ≡ Err RunFault.Write →

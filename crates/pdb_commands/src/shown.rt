@@ -1,22 +1,23 @@
 //! The commands that show a file, with a limit on what they read.
 
-ghost use Rattle.std.specs.Prelude.{◌≡◌, ◌⊎◌, true, false, Err, OnOk, IfOk, IfErr, string_bytes};
+ghost use Rattle.std.specs.Prelude.{◌≡◌, ◌≢◌, ◌⊎◌, true, ℕ, List, [], ◌∷◌, length, Err, OnOk, IfOk, IfErr, IfSome, string_bytes};
 ghost use Rattle.byte_fields.specs.Bytes.{AreBytes};
 ghost use Rattle.byte_io.specs.At.{IfKnown, IfOf, Reads};
+ghost use Rattle.byte_io.specs.Inputs.{Give};
 ghost use Rattle.msf_blocks.specs.Layout.{HasLayout};
 ghost use Rattle.pdb_commands.specs.Known.{within_refused, within_shown, within_unlaid};
-ghost use Rattle.pdb_commands.specs.Show.{Answers, AnswersAt, IsByPosition, IsByWhole, IsOfText, RefusesBounded, ShowsBounded};
-ghost use Rattle.pdb_commands.specs.Shown.{ListsTooLong, RefusesItRead, RefusesWithin, RefusesWithinRead, ShowsItRead, ShowsWithin, ShowsWithinRead, stream_of};
+ghost use Rattle.pdb_commands.specs.Show.{HasFailed, IsOfText};
+ghost use Rattle.pdb_commands.specs.Shown.{ListsTooLong, Printed, PrintedPart, RefusesGiven, RefusesInput, RefusesOpened, RefusesPart, RefusesWhole, ShowsGiven, ShowsInput, ShowsOpened, ShowsPart, ShowsWhole, RefusesItRead, RefusesWithin, RefusesWithinRead, ShowsItRead, ShowsWithin, ShowsWithinRead, stream_of};
 
 use crate::check::ShowCheck;
-use crate::command::{Show, Text, run_at, run_bounded};
+use crate::command::{Show, Text, text_at};
 use crate::fault::RunFault;
 use crate::info::ShowInfo;
 use crate::record::ShowRecord;
 use crate::records::ShowRecords;
 use crate::streams::ShowStreams;
 use crate::types::ShowTypes;
-use byte_io::{ReadAt, ReadFault, Sink, Source};
+use byte_io::{AtFault, Inputs, ReadAt, ReadFault, Sink, put_all};
 use msf_blocks::Layout;
 use pdb_info::INFO_STREAM;
 use run_options::Shown;
@@ -109,83 +110,138 @@ impl<A: Allocator + Copy> Show<A> for Within {
     ghost refuses_layout = { λ c. within_unlaid c.command c.limit };
 }
 
-/// Runs a command that shows a file, as the command's own call does, with more limits.
+impl Within {
+    /// Makes the whole text of an input that is read by position. `TooLong` comes first, if the
+    /// input says that it has more bytes than the limit allows.
+    #[tactic(auto, unfolding(crate::specs::Shown::RefusesOpened))]
+    fn text_of_opened<R: ReadAt, A: Allocator + Copy>(&self, alloc: A, input: &mut R) -> Text<A>
+        ensures value { IfOk result (λ text. IfKnown (R.bytes input.old) (λ file.
+            ShowsOpened self.now.command self.now.limit file (string_bytes text))) }
+        ensures texts { IfOk result (λ text.
+            ShowsGiven self.now.command self.now.limit (R.bytes input.old) (string_bytes text)) }
+        ensures first { IfErr result (IfOf (λ fault. IfKnown (R.bytes input.old) (λ file.
+            RefusesOpened self.now.command self.now.limit file fault))) }
+        ensures refused { IfErr result (IfOf
+            (RefusesGiven self.now.command self.now.limit (R.bytes input.old))) }
+        ensures unwritten { IfErr result (IfOf (λ fault. fault ≢ RunFault.Write)) }
+        ensures reads { Reads R.bytes R.is_broken input.old input.new result }
+    {
+        if u64::from(self.limit) < input.len() {
+            return Err(AtFault::Of(RunFault::Read(ReadFault::TooLong)));
+        }
+        text_at(alloc, self, input, self.limit)
+    }
+
+    /// Opens the first input, and makes its whole text of what the command needs of it.
+    #[tactic(auto, unfolding(crate::specs::Shown::ShowsPart, crate::specs::Shown::RefusesPart))]
+    fn text_of_part<I: Inputs, A: Allocator + Copy>(&self, alloc: A, inputs: &I) -> Text<A>
+        requires { IfSome (I.known inputs.now) (λ each. length each ≡ 1) }
+        ensures value { (file : List ℕ) → Give (I.known inputs.now) (file ∷ []) →
+            IfOk result (λ text.
+            ShowsOpened self.now.command self.now.limit file (string_bytes text)) }
+        ensures texts { IfOk result (λ text. ShowsPart self.now.command self.now.limit
+            (I.outcomes inputs.now 0) (string_bytes text)) }
+        ensures first { (file : List ℕ) → Give (I.known inputs.now) (file ∷ []) →
+            IfErr result (IfOf (λ fault. fault ≢ RunFault.Memory →
+            RefusesOpened self.now.command self.now.limit file fault)) }
+        ensures refused { IfErr result (IfOf
+            (RefusesPart self.now.command self.now.limit (I.outcomes inputs.now 0))) }
+        ensures unwritten { IfErr result (IfOf (λ fault. fault ≢ RunFault.Write)) }
+        ensures failed { IfErr result (λ fault. fault ≡ AtFault.Read →
+            HasFailed (I.outcomes inputs.now 0) I.File.bytes I.File.is_broken) }
+    {
+        let mut buffer = Vec::new(alloc);
+        let mut opened = match inputs.open(0, &mut buffer) {
+            Ok(opened) => opened,
+            Err(fault) => return Err(AtFault::Of(RunFault::from(fault))),
+        };
+        self.text_of_opened(alloc, &mut opened)
+    }
+
+    /// Reads the first input to its end, and makes its whole text.
+    #[tactic(auto, unfolding(crate::specs::Shown::ShowsWhole, crate::specs::Shown::RefusesWhole))]
+    fn text_of_whole<I: Inputs, A: Allocator + Copy>(
+        &self,
+        alloc: A,
+        inputs: &I,
+    ) -> Result<String<A>, RunFault<A>>
+        requires { IfSome (I.known inputs.now) (λ each. length each ≡ 1) }
+        ensures value { (file : List ℕ) → Give (I.known inputs.now) (file ∷ []) →
+            IfOk result (λ text.
+            ShowsOpened self.now.command self.now.limit file (string_bytes text)) }
+        ensures texts { IfOk result (λ text. ShowsWhole self.now.command self.now.limit
+            (I.outcomes inputs.now 0) (string_bytes text)) }
+        ensures first { (file : List ℕ) → Give (I.known inputs.now) (file ∷ []) →
+            IfErr result (λ fault. fault ≢ RunFault.Memory →
+            RefusesOpened self.now.command self.now.limit file fault) }
+        ensures refused { IfErr result
+            (RefusesWhole self.now.command self.now.limit (I.outcomes inputs.now 0)) }
+        ensures unwritten { IfErr result (λ fault. fault ≢ RunFault.Write) }
+    {
+        let mut buffer = Vec::new(alloc);
+        let mut file = inputs.read(0, &mut buffer)?;
+        match self.text_of_opened(alloc, &mut file) {
+            Ok(text) => Ok(text),
+            Err(AtFault::Of(fault)) => Err(fault),
+            Err(AtFault::Read) => unreachable!(),
+        }
+    }
+}
+
+/// Runs a command that shows the one input, and reads of it what the command needs. If a read by
+/// position fails, the input is read to its end. The whole text is made before any of it is written.
 ///
 /// The input may have at most `limit` bytes, and so may its directory, the stream that the command
 /// reads whole, and the names that `Info` prints together. This stream is stream 1 for `Info`, none
-/// for `Streams`, and stream 2 for all others. Past the limit the fault is `TooLong`: of the
-/// directory after the faults of the superblock and before all others; of the stream where the
-/// container is sound, before any fault of the streams; of the names where the info stream is sound.
-/// Each comes before anything is reserved for it. `u32::MAX` is no limit: everything is then as in
-/// the command's own call.
-pub fn run_shown<R: Source, W: Sink, A: Allocator + Copy>(
-    alloc: A,
-    command: Shown,
-    input: &mut R,
-    limit: u32,
-    out: &mut W,
-) -> Result<(), RunFault<A>>
-    ensures { Answers (ShowsBounded limit (ShowsWithin command limit))
-        (RefusesBounded limit (RefusesWithin command limit)) limit (R.left input.old)
-        (R.left input.new) (R.is_broken input.new) W.taken W.is_broken out.old out.new result }
-{
-    run_bounded(alloc, &Within { command, limit }, input, limit, limit, out)
-}
-
-/// Runs a command that shows a file by position, as [`run_shown`] does for a whole file, with the
-/// same limits. `TooLong` comes first, if the input says that it has more than `limit` bytes.
-/// `Read` comes where a read that is needed fails.
-pub fn run_shown_at<R: ReadAt, W: Sink, A: Allocator + Copy>(
-    alloc: A,
-    command: Shown,
-    input: &mut R,
-    limit: u32,
-    out: &mut W,
-) -> Result<(), RunFault<A>>
-    ensures { AnswersAt (ShowsBounded limit (ShowsWithin command limit))
-        (RefusesBounded limit (RefusesWithin command limit))
-        (ShowsWithinRead command limit) (RefusesWithinRead command limit) limit
-        (R.bytes input.old) (R.is_broken input.new) W.taken
-        W.is_broken out.old out.new result }
-{
-    run_at(alloc, &Within { command, limit }, input, limit, out)
-}
-
-/// Whether a command was refused because a read failed.
-fn is_unread<A: Allocator>(answer: &Result<(), RunFault<A>>) -> bool
-    ensures yes { result ≡ true → answer.now ≡ Err (RunFault.Read ReadFault.Read) }
-    ensures no { result ≡ false → answer.now ≡ Err (RunFault.Read ReadFault.Read) → ⊥ }
-{
-    matches!(answer, Err(RunFault::Read(ReadFault::Read)))
-}
-
-/// Runs a command that shows a file by position. If a read by position fails, the command runs
-/// again, on the whole file, which is read from its start. Nothing was written before that.
+/// for `Streams`, and stream 2 for all others. `u32::MAX` is no limit.
 ///
-/// `input` and `whole` are the same file. If no read by position fails, the answer is that of
-/// [`run_shown_at`]. Otherwise it is that of [`run_shown`].
-#[tactic(auto, using(crate::proofs::ShowLaws::by_position))]
-pub fn run_shown_file<R: ReadAt, S: Source, W: Sink, A: Allocator + Copy>(
+/// The faults come in this order: those of opening the input; `TooLong`, if it says that it has more
+/// bytes; those of the superblock; `TooLong` of the directory; the others of the container; `TooLong`
+/// of the stream; those of the command for this file, with `TooLong` of the names where the info
+/// stream is sound; those of reading the whole input, where a read by position failed; and `Write`,
+/// where the sink did not take the whole text. Nothing is reserved for what is too long. After
+/// `Write` the sink is broken and took the first bytes of the text. After any other fault it took
+/// nothing.
+pub fn run_shown<I: Inputs, W: Sink, A: Allocator + Copy>(
     alloc: A,
     command: Shown,
-    input: &mut R,
-    whole: &mut S,
+    inputs: &I,
     limit: u32,
     out: &mut W,
 ) -> Result<(), RunFault<A>>
-    ensures { IsByPosition (ShowsBounded limit (ShowsWithin command limit))
-        (RefusesBounded limit (RefusesWithin command limit)) (ShowsWithinRead command limit)
-        (RefusesWithinRead command limit) limit
-        (R.bytes input.old) (R.is_broken input.new) whole.old
-        whole.new W.taken W.is_broken out.old out.new result
-        ⊎ IsByWhole (ShowsBounded limit (ShowsWithin command limit))
-        (RefusesBounded limit (RefusesWithin command limit)) limit
-        (R.bytes input.old) (R.is_broken input.new) S.left
-        S.is_broken whole.old whole.new W.taken W.is_broken out.old out.new result }
+    requires one { IfSome (I.known inputs.now) (λ each. length each ≡ 1) }
+    ensures value { (file : List ℕ) → Give (I.known inputs.now) (file ∷ []) →
+        OnOk result (Printed (ShowsOpened command limit file) (W.taken out.old) (W.taken out.new)) }
+    // Even if the input is not known, this is the text of what opening or reading it gave.
+    ensures texts { OnOk result (Printed
+        (ShowsInput command limit (I.outcomes inputs.now 0) I.File.bytes I.File.is_broken)
+        (W.taken out.old) (W.taken out.new)) }
+    ensures first { (file : List ℕ) → Give (I.known inputs.now) (file ∷ []) →
+        IfErr result (λ fault. fault ≢ RunFault.Write → fault ≢ RunFault.Memory →
+        RefusesOpened command limit file fault) }
+    // Even if the input is not known, this is the fault of what opening or reading it gave.
+    ensures refused { IfErr result (λ fault. fault ≢ RunFault.Write → RefusesInput command limit
+        (I.outcomes inputs.now 0) I.File.bytes I.File.is_broken fault) }
+    ensures broken { result ≡ Err RunFault.Write → W.is_broken out.new ≡ true }
+    ensures part { (file : List ℕ) → Give (I.known inputs.now) (file ∷ []) →
+        result ≡ Err RunFault.Write →
+        PrintedPart (ShowsOpened command limit file) (W.taken out.old) (W.taken out.new) }
+    ensures texts_part { result ≡ Err RunFault.Write → PrintedPart
+        (ShowsInput command limit (I.outcomes inputs.now 0) I.File.bytes I.File.is_broken)
+        (W.taken out.old) (W.taken out.new) }
+    ensures untouched { IfErr result (λ fault. (fault ≡ RunFault.Write)
+        ⊎ (out.new ≡ out.old)) }
 {
-    let answer = run_shown_at(alloc, command, input, limit, out);
-    if is_unread(&answer) {
-        return run_shown(alloc, command, whole, limit, out);
-    }
-    answer
+    let shown = Within { command, limit };
+    let text = match shown.text_of_part(alloc, inputs) {
+        Ok(text) => text,
+        Err(AtFault::Of(fault)) => return Err(fault),
+        Err(AtFault::Read) => {
+            let text = shown.text_of_whole(alloc, inputs)?;
+            put_all(out, text.as_bytes())?;
+            return Ok(());
+        }
+    };
+    put_all(out, text.as_bytes())?;
+    Ok(())
 }

@@ -38,7 +38,7 @@ fn bytes_of(
         Ok(file) => read_from(rt, file, max_bytes, said),
         Err(error) => {
             said.keep(Place::List, &error);
-            Err(ProgramFault::Open)
+            Err(RunFault::Open.into())
         }
     }
 }

@@ -23,21 +23,20 @@ mod refusal;
 mod report;
 
 use arguments::arguments;
-use byte_io::{In, Out, put_all};
+use byte_io::put_all;
 use command_line::{Compared, Line, LineFault, Task, USAGE, query_of, read_line};
 use fault_pages::Page;
 use hashes::Hashes;
 use hold::hold;
 use lists::read_list;
 use merge::merge;
-use pdb_commands::{
-    Asked, Found, run_diff, run_diff_members, run_members, run_shown, run_shown_file,
-};
-use program_files::{InputFiles, ProgramFault, Reading, Said, WholeFile, open_within};
+use pdb_commands::{Asked, Found, run_diff, run_diff_members, run_members, run_shown};
+use program_files::{InputFiles, ProgramFault, Said};
 use refusal::{Refusal, quoted, refuse, refuse_line};
 use report::standard_output;
 use run_options::Shown;
 use std::process::ExitCode;
+use std::slice;
 
 /// The exit status of `diff` where the files differ in their types.
 const DIFFERENT: u8 = 3;
@@ -119,8 +118,7 @@ fn tell(
     // Nothing may be refused any more after the text is written.
     let shown = all_quoted(rt, names)?;
     let mut out = standard_output(rt, said);
-    let told = run_members(rt.alloc(), file, &mut asked, &mut out);
-    told.map_err(|fault| ProgramFault::from(fault).uncounted())?;
+    run_members(rt.alloc(), file, &mut asked, &mut out)?;
     if tell_missing(rt, &shown, &asked) {
         Ok(ExitCode::from(MISSING))
     } else {
@@ -134,38 +132,12 @@ fn tell(
 fn show(
     rt: &HostRuntime,
     command: Shown,
-    file: &str,
+    file: &InputFiles<'_, HostRuntime>,
     max_bytes: u32,
     said: &Said,
 ) -> Result<(), ProgramFault> {
     let mut out = standard_output(rt, said);
-    match open_within(rt, file, max_bytes, said)? {
-        Reading::At(input) => {
-            let mut input = input;
-            let mut whole = WholeFile::new(rt, file, said);
-            let shown = run_shown_file(
-                rt.alloc(),
-                command,
-                &mut input,
-                &mut whole,
-                max_bytes,
-                &mut out,
-            );
-            if whole.is_refused() {
-                return Err(ProgramFault::Open);
-            }
-            shown?;
-        }
-        Reading::Whole(input) => {
-            run_shown(
-                rt.alloc(),
-                command,
-                &mut In::new(input),
-                max_bytes,
-                &mut out,
-            )?;
-        }
-    }
+    run_shown(rt.alloc(), command, file, max_bytes, &mut out)?;
     Ok(())
 }
 
@@ -186,7 +158,10 @@ fn run(rt: &HostRuntime, line: &Line, said: &Said) -> Result<ExitCode, ProgramFa
             shown,
             file,
             max_bytes,
-        } => show(rt, *shown, file.as_str(), *max_bytes, said)?,
+        } => {
+            let file = inputs_in(rt, slice::from_ref(file), *max_bytes, said);
+            show(rt, *shown, &file, *max_bytes, said)?;
+        }
         Task::Diff {
             compared,
             files,

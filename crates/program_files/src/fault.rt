@@ -1,13 +1,12 @@
 //! Why the program did not do what its arguments ask for.
 
 ghost use Rattle.std.specs.Prelude.{◌≡◌};
-ghost use Rattle.program_files.specs.Fault.{program_from_input, map_number, program_number, faulty_input, uncounted};
+ghost use Rattle.program_files.specs.Fault.{map_number, program_number, faulty_input};
 ghost use Rattle.program_files.specs.declared.fault.ProgramFault.TheVariants.{Run, Map};
 ghost use Rattle.pdb_commands.specs.declared.fault.RunFault.TheVariants.{Memory, Write};
 
-use byte_io::{InputFault, NotTaken};
+use byte_io::NotTaken;
 use pdb_commands::RunFault;
-use pdb_merge::MergeFault;
 use std::alloc::{AllocError, AllocFailed};
 use thiserror::Error;
 
@@ -40,9 +39,6 @@ pub enum ProgramFault {
     /// The command was refused.
     #[error("{0}")]
     Run(RunFault),
-    /// A file cannot be opened.
-    #[error("40 Open")]
-    Open,
     /// The file to write cannot be created.
     #[error("41 Create")]
     Create,
@@ -58,7 +54,6 @@ impl ProgramFault {
     {
         match self {
             ProgramFault::Run(fault) => fault.number(),
-            ProgramFault::Open => 40,
             ProgramFault::Create => 41,
             ProgramFault::Map(fault) => fault.number(),
         }
@@ -71,21 +66,6 @@ impl ProgramFault {
         match self {
             ProgramFault::Run(RunFault::Merge(fault)) => fault.file(),
             _ => None,
-        }
-    }
-
-    /// The same fault of a command with one input: its text does not count the input.
-    pub fn uncounted(self) -> ProgramFault
-        ensures { result ≡ uncounted self }
-    {
-        match self {
-            ProgramFault::Run(RunFault::Merge(MergeFault::Input { fault, .. })) => {
-                ProgramFault::from(fault)
-            }
-            ProgramFault::Run(RunFault::Merge(MergeFault::Refused { fault, .. })) => {
-                ProgramFault::Run(RunFault::from(fault))
-            }
-            fault => fault,
         }
     }
 }
@@ -103,17 +83,6 @@ impl<T: Drop> From<AllocFailed<T>> for ProgramFault {
 
     fn from(_error: AllocFailed<T>) -> ProgramFault {
         ProgramFault::Run(RunFault::Memory)
-    }
-}
-
-impl From<InputFault> for ProgramFault {
-    ghost from_gives = { λ inner fault. fault ≡ program_from_input inner };
-
-    fn from(fault: InputFault) -> ProgramFault {
-        match fault {
-            InputFault::Open => ProgramFault::Open,
-            InputFault::Read(fault) => ProgramFault::Run(RunFault::from(fault)),
-        }
     }
 }
 

@@ -1,8 +1,9 @@
 //! The files that a merge reads.
 
-ghost use Rattle.std.specs.Prelude.{◌≡◌, ◌↔◌, None, Some, length, map, slice_get, string_bytes, true, IsTrue, IfSome, IfNone, IfOk};
+ghost use Rattle.std.specs.Prelude.{◌≡◌, ◌↔◌, ◌≤◌, None, Some, length, map, slice_get, string_bytes, true, IsTrue, IfSome, IfNone, IfOk};
+ghost use Rattle.program_files.specs.Files.{up_to};
 
-use crate::files::{Reading, open_told, open_within};
+use crate::files::open_within;
 use crate::progress::Progress;
 use crate::said::{Said, Telling};
 use crate::streams::{Giver, StandardStreams};
@@ -85,13 +86,24 @@ impl<'a, R: Files + AllocGlobal> InputFiles<'a, R> {
         Ok(name.as_str())
     }
 
+    /// Opens the file at a position, and tells the length of a regular file.
+    fn open_file(&self, input: usize) -> Result<(Giver<'a, R::File>, Option<u64>), InputFault>
+    where
+        R: StandardStreams,
+        ensures { IfOk result (λ opened. IfSome opened.1 (λ told. told ≤ self.now.max_bytes)) }
+    {
+        open_within(self.rt, self.path(input)?, self.max_bytes, self.said)
+    }
+
     /// Reads a file that is open to its end. `length` is what the system says that the file has.
     fn read_whole<'b, A: Allocator>(
         &self,
         file: Giver<'a, R::File>,
         length: Option<u64>,
         buffer: &'b mut Vec<u8, A>,
-    ) -> Result<&'b [u8], InputFault> {
+    ) -> Result<&'b [u8], InputFault>
+        ensures { IfOk result (λ bytes. length bytes.now ≤ self.now.max_bytes) }
+    {
         let length = u32::try_from(length.unwrap_or(0)).unwrap_or(0) as usize;
         buffer.clear();
         // One allocation serves a whole file, and later files of at most its length. The last byte
@@ -105,7 +117,10 @@ impl<'a, R: Files + AllocGlobal> InputFiles<'a, R> {
 }
 
 impl<'f, R: Files + AllocGlobal + Clock + Eprint + StandardStreams> Inputs for InputFiles<'f, R> {
+    // No contract can say what a file of the system gives.
     ghost known = { λ _. None };
+
+    ghost outcomes = { λ files _. up_to files.max_bytes };
 
     type File = Seeking<Telling<'f, R::File>>;
 
@@ -120,8 +135,8 @@ impl<'f, R: Files + AllocGlobal + Clock + Eprint + StandardStreams> Inputs for I
         input: usize,
         buffer: &'b mut Vec<u8, A>,
     ) -> Result<&'b [u8], InputFault> {
-        let (file, length) = open_told(self.rt, self.path(input)?, self.max_bytes, self.said)?;
-        self.read_whole(Giver::File(file), length, buffer)
+        let (file, length) = self.open_file(input)?;
+        self.read_whole(file, length, buffer)
     }
 
     fn open<'b, A: Allocator>(
@@ -132,19 +147,20 @@ impl<'f, R: Files + AllocGlobal + Clock + Eprint + StandardStreams> Inputs for I
         if let Some(progress) = &self.progress {
             progress.tell(input);
         }
-        match open_within(self.rt, self.path(input)?, self.max_bytes, self.said)? {
-            Reading::At(file) => Ok(Opened::At(file)),
-            Reading::Whole(file) => Ok(Opened::Whole(self.read_whole(file, None, buffer)?)),
+        match self.open_file(input)? {
+            (Giver::File(file), Some(length)) if 0 < length => {
+                Ok(Opened::At(Seeking::new(file, length)))
+            }
+            // Files that the system makes up as they are read have no length.
+            (file, _) => Ok(Opened::Whole(self.read_whole(file, None, buffer)?)),
         }
     }
 
     fn check(&self, input: usize) -> Result<(), InputFault> {
-        match open_within(self.rt, self.path(input)?, self.max_bytes, self.said)? {
+        match self.open_file(input)? {
             // Its types are not needed, so nothing of it is read.
-            Reading::At(_) => Ok(()),
-            Reading::Whole(file) => {
-                skip_all(&mut In::new(file), self.max_bytes).map_err(InputFault::Read)
-            }
+            (Giver::File(_), Some(length)) if 0 < length => Ok(()),
+            (file, _) => skip_all(&mut In::new(file), self.max_bytes).map_err(InputFault::Read),
         }
     }
 }

@@ -1,9 +1,7 @@
 //! The files that the program reads and writes.
 //!
-//! - [`open_within`] opens a file, and tells how it is read ([`Reading`]). A [`WholeFile`] is opened
-//!   at its first read.
-//! - [`InputFiles`] are the inputs of a merge, one of which is open at a time. [`Progress`] tells how
-//!   many of them were read.
+//! - [`InputFiles`] are the inputs of a command, one of which is open at a time: by position, or, where
+//!   that can't be, read to its end. [`Progress`] tells how many of them were read.
 //! - [`NewFile`] is a file that is created at its first write, in the way that `Making` of `run_options`
 //!   says, and [`NewFiles`] are those of a merge.
 //! - [`temporary_file`] says how the file is opened that takes the place of another, and [`Placed`] how
@@ -14,9 +12,8 @@
 //! - [`ProgramFault`] says why the program did not do what it was asked for, and [`MapFault`] why it
 //!   did not write the maps of a merge.
 //!
-//! What is proved: the input at a position has the name at that position. A file that was never
-//! created took nothing, one that could not be opened gives nothing, not even its end, and a file
-//! that breaks stays broken. The number of a fault is the one of its kind (`program_number`). No
+//! What is proved: the input at a position has the name at that position, and no more bytes than the
+//! limit. A file that was never created took nothing, and a file that breaks stays broken. The number of a fault is the one of its kind (`program_number`). No
 //! contract can say what a file of the system gives or takes; the tests of the program show it.
 //!
 //! # Example
@@ -25,10 +22,12 @@
 //! `test_examples`:
 //!
 //! ```
-//! fn a_file_that_is_not_there(rt: HostRuntime) {
+//! fn a_file_that_is_not_there(rt: HostRuntime) -> Result<(), Fail> {
 //!     let said = Said::new();
-//!     let opened = open_within(&rt, "no/such/file.pdb", u32::MAX, &said);
-//!     assert!(rt; matches!(opened, Err(InputFault::Open)));
+//!     let names = [String::from_str(rt.alloc(), "no/such/file.pdb")?];
+//!     let files = InputFiles::new(&rt, &names, u32::MAX, None, &said);
+//!     assert_eq!(rt; files.check(0), Err(InputFault::Open));
+//!     Ok(())
 //! }
 //! ```
 #![tactic(auto)]
@@ -46,7 +45,6 @@ mod streams;
 mod taken;
 
 pub use fault::{MapFault, ProgramFault};
-pub use files::{Reading, WholeFile, open_within};
 pub use inputs::InputFiles;
 pub use new_files::NewFiles;
 pub use output::NewFile;
@@ -54,5 +52,5 @@ pub use progress::Progress;
 pub use said::{Place, Said, Telling};
 pub use same::{FileId, are_file, is_one_of};
 pub use spare::{Placed, temporary_file};
-pub use streams::{Giver, StandardStreams, Stream};
+pub use streams::{StandardStreams, Stream};
 pub use taken::TakenStreams;

@@ -13,9 +13,9 @@
 //! ```
 //! fn types_that_are_asked_for(rt: HostRuntime) -> Result<(), Fail> {
 //!     let file = sample(rt.alloc())?;
-//!     let mut text = Vec::new(rt.alloc());
-//!     let (input, out) = (&mut In::new(file.as_slice()), &mut Out::new(&mut text));
-//!     run_shown(rt.alloc(), Shown::Types, input, u32::MAX, out)?;
+//!     let (files, mut text) = ([file.as_slice()], Vec::new(rt.alloc()));
+//!     let out = &mut Out::new(&mut text);
+//!     run_shown(rt.alloc(), Shown::Types, &files.as_slice(), u32::MAX, out)?;
 //!     assert!(rt; text.starts_with(b"0x1000 "));
 //!     Ok(())
 //! }

@@ -6,7 +6,7 @@ ghost use Rattle.cv_leaves.specs.Named.{named_places};
 
 use crate::orders::names_nodes;
 use byte_fields::{u16_at, u32_at};
-use byte_io::{In, InputFault, Out, put_all};
+use byte_io::{In, InputFault, Inputs, Out, put_all};
 use checked_types::Types;
 use closed_trees::renumber_in_place;
 use command_line::push_paths;
@@ -22,7 +22,7 @@ use packed_texts::PackedTexts;
 use pdb_commands::{run_check, run_shown};
 use pdb_info::{Info, Settings, guid_of};
 use pdb_merge::{Plan, merge};
-use program_files::{Said, open_within};
+use program_files::{InputFiles, Said};
 use record_set::RecordSet;
 use run_options::Shown;
 use std::alloc::{AllocError, Allocator, Global};
@@ -357,9 +357,9 @@ fn the_words_of_a_type(rt: HostRuntime) -> Result<(), Fail> {
 #[test]
 fn types_that_are_asked_for(rt: HostRuntime) -> Result<(), Fail> {
     let file = sample(rt.alloc())?;
-    let mut text = Vec::new(rt.alloc());
-    let (input, out) = (&mut In::new(file.as_slice()), &mut Out::new(&mut text));
-    run_shown(rt.alloc(), Shown::Types, input, u32::MAX, out)?;
+    let (files, mut text) = ([file.as_slice()], Vec::new(rt.alloc()));
+    let out = &mut Out::new(&mut text);
+    run_shown(rt.alloc(), Shown::Types, &files.as_slice(), u32::MAX, out)?;
     assert!(rt; text.starts_with(b"0x1000 "));
     Ok(())
 }
@@ -403,8 +403,10 @@ fn the_paths_of_a_list(rt: HostRuntime) -> Result<(), Fail> {
 
 /// `program_files` opens the files that the program reads.
 #[test]
-fn a_file_that_is_not_there(rt: HostRuntime) {
+fn a_file_that_is_not_there(rt: HostRuntime) -> Result<(), Fail> {
     let said = Said::new();
-    let opened = open_within(&rt, "no/such/file.pdb", u32::MAX, &said);
-    assert!(rt; matches!(opened, Err(InputFault::Open)));
+    let names = [String::from_str(rt.alloc(), "no/such/file.pdb")?];
+    let files = InputFiles::new(&rt, &names, u32::MAX, None, &said);
+    assert_eq!(rt; files.check(0), Err(InputFault::Open));
+    Ok(())
 }

@@ -1,78 +1,115 @@
 //! Commands on a file that is read by position, and whole where a read by position fails.
 
-use byte_io::{In, Out};
-use pdb_commands::{RunFault, run_shown, run_shown_at, run_shown_file};
+ghost use Rattle.std.specs.Prelude.{◌≡◌, None, IfSome, length};
+ghost use Rattle.byte_io.specs.Inputs.{untold};
+
+use byte_io::{InputFault, Inputs, Opened, Out};
+use pdb_commands::{RunFault, run_shown};
 use run_options::Shown;
-use std::alloc::Global;
+use std::alloc::{Allocator, Global};
 use std::test::Fail;
-use test_samples::{Positions, sample};
+use test_samples::{Positions, pdb_with, pointer, sample};
 
-/// What a command gives where the read with a number fails, and whether there was such a read.
-fn given_by_file(
-    alloc: Global,
-    command: Shown,
-    file: &[u8],
-    number: usize,
-) -> (Result<(), RunFault>, Vec<u8>, bool) {
-    let mut input = Positions::new(file, number);
-    let mut text = Vec::new(alloc);
-    let mut out = Out::new(&mut text);
-    let answer = run_shown_file(
-        alloc,
-        command,
-        &mut input,
-        &mut In::new(file),
-        u32::MAX,
-        &mut out,
-    );
-    drop(out);
-    (answer, text, number < input.reads)
+/// One file, of which a read by position fails. It has other bytes where it is read whole, so that
+/// these can be told apart.
+struct Changing<'f> {
+    file: &'f [u8],
+    fails_at: usize,
+    whole: Option<&'f [u8]>,
 }
 
-/// The text of a command that reads by position alone, and no read fails.
-fn text_at(alloc: Global, command: Shown, file: &[u8]) -> (Result<(), RunFault>, Vec<u8>) {
-    let mut input = Positions::new(file, usize::MAX);
+impl<'f> Inputs for Changing<'f> {
+    ghost known = { λ _. None };
+
+    ghost outcomes = { λ _ _. untold };
+
+    type File = Positions<'f>;
+
+    fn count(&self) -> usize {
+        1
+    }
+
+    fn read<'a, A: Allocator>(
+        &'a self,
+        _input: usize,
+        _buffer: &'a mut Vec<u8, A>,
+    ) -> Result<&'a [u8], InputFault> {
+        self.whole.ok_or(InputFault::Open)
+    }
+
+    fn open<'a, A: Allocator>(
+        &'a self,
+        _input: usize,
+        _buffer: &'a mut Vec<u8, A>,
+    ) -> Result<Opened<'a, Positions<'f>>, InputFault> {
+        Ok(Opened::At(Positions::new(self.file, self.fails_at)))
+    }
+
+    fn check(&self, _input: usize) -> Result<(), InputFault> {
+        Ok(())
+    }
+}
+
+/// What a command answers, and what it prints.
+fn given<I: Inputs>(alloc: Global, command: Shown, inputs: &I) -> (Result<(), RunFault>, Vec<u8>)
+    requires { IfSome (I.known inputs.now) (λ each. length each ≡ 1) }
+{
     let mut text = Vec::new(alloc);
     let mut out = Out::new(&mut text);
-    let answer = run_shown_at(alloc, command, &mut input, u32::MAX, &mut out);
+    let answer = run_shown(alloc, command, inputs, u32::MAX, &mut out);
     drop(out);
     (answer, text)
 }
 
-/// The text of a command that reads the whole file.
-fn whole_text(alloc: Global, command: Shown, file: &[u8]) -> (Result<(), RunFault>, Vec<u8>) {
-    let mut text = Vec::new(alloc);
-    let mut out = Out::new(&mut text);
-    let answer = run_shown(alloc, command, &mut In::new(file), u32::MAX, &mut out);
-    drop(out);
-    (answer, text)
-}
+const SHOWN: [Shown; 6] = [
+    Shown::Records,
+    Shown::Record(0x1000),
+    Shown::Types,
+    Shown::Check,
+    Shown::Info,
+    Shown::Streams,
+];
 
 #[test]
 fn after_a_read_that_fails_the_file_is_read_whole(rt: HostRuntime) -> Result<(), Fail> {
-    const SHOWN: [Shown; 6] = [
-        Shown::Records,
-        Shown::Record(0x1000),
-        Shown::Types,
-        Shown::Check,
-        Shown::Info,
-        Shown::Streams,
-    ];
     let file = sample(rt.alloc())?;
+    let other = pdb_with(rt.alloc(), &[&pointer(0x74)])?;
     for command in SHOWN {
-        let (want, whole) = whole_text(rt.alloc(), command, &file);
-        let (given, parts) = text_at(rt.alloc(), command, &file);
-        assert!(rt; want == Ok(()) && given == Ok(()));
-        assert_eq!(rt; parts.as_slice(), whole.as_slice());
-        for number in 0..100usize {
-            let (answer, text, failed) = given_by_file(rt.alloc(), command, &file, number);
-            assert_eq!(rt; answer, Ok(()), "read {number}");
-            assert_eq!(rt; text.as_slice(), whole.as_slice(), "read {number}");
-            if !failed {
-                assert!(rt; 0 < number);
-                break;
+        let (first, text) = given(rt.alloc(), command, &[file.as_slice()].as_slice());
+        let (second, other_text) = given(rt.alloc(), command, &[other.as_slice()].as_slice());
+        assert!(rt; first == Ok(()) && second == Ok(()) && text != other_text);
+        let mut by_whole = 0usize;
+        for fails_at in 0..100usize {
+            let inputs = Changing {
+                file: &file,
+                fails_at,
+                whole: Some(&other),
+            };
+            let (answer, shown) = given(rt.alloc(), command, &inputs);
+            assert_eq!(rt; answer, Ok(()), "read {fails_at}");
+            if shown == other_text {
+                assert_eq!(rt; by_whole, fails_at);
+                by_whole = fails_at.saturating_add(1);
+            } else {
+                assert!(rt; shown == text, "read {fails_at}");
             }
         }
+        assert!(rt; 0 < by_whole && by_whole < 100);
+    }
+    Ok(())
+}
+
+#[test]
+fn a_file_that_is_gone_after_a_read_that_fails_is_refused(rt: HostRuntime) -> Result<(), Fail> {
+    let file = sample(rt.alloc())?;
+    for command in SHOWN {
+        let inputs = Changing {
+            file: &file,
+            fails_at: 0,
+            whole: None,
+        };
+        let (answer, text) = given(rt.alloc(), command, &inputs);
+        assert!(rt; answer == Err(RunFault::Open) && text.is_empty());
     }
     Ok(())
 }
