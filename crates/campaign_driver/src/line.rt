@@ -5,7 +5,7 @@
 //! text. The line of `check`, and of a merge, has the words of the report after these. After
 //! `fault` a line has the text of the fault.
 
-use pdb_commands::RunFault;
+use show_commands::RunFault;
 use std::fmt::Write;
 
 /// The hash of no bytes, and the factor of the hash FNV-1a with 64 bits.

@@ -1,4 +1,4 @@
-//! For the test `tests/campaign`: runs the commands of `pdb_commands` on the files of many cases in
+//! For the test `tests/campaign`: runs the commands of the program on the files of many cases in
 //! one process.
 //!
 //! Standard input has cases, one after the other. All numbers are u32, the lowest byte first. A

@@ -13,12 +13,12 @@ use crate::case::Head;
 use crate::files::Positioned;
 use crate::line::{push_end, push_fault, push_words, push_written};
 use byte_io::{In, Out};
-use pdb_commands::{
-    RunFault, run_check, run_info, run_members, run_merge, run_record, run_records, run_streams,
-    run_types,
-};
+use merge_commands::run_merge;
 use pdb_info::Settings;
 use pdb_merge::MergeFault;
+use show_commands::{
+    RunFault, run_check, run_info, run_members, run_record, run_records, run_streams, run_types,
+};
 use std::alloc::Global;
 use std::hash::RandomState;
 use std::random::RandomSource;

@@ -21,22 +21,22 @@ use Rattle.record_set.specs.RecordSet.{HasNamedPlaces}
 use Rattle.record_set.proofs.PlaceLaws.{places_at}
 use Rattle.cv_leaves.specs.Place.{IsChecked}
 use Rattle.cv_leaves.specs.References.{references}
-use Rattle.closed_trees.specs.Tree.{Tree, nothing, IsTreeAt, IsType, NamesLower}
-use Rattle.closed_trees.specs.Depth.{AreDepths, HasLevels, depth}
-use Rattle.closed_trees.specs.Canon.{position_in, text, texts, Canonical}
-use Rattle.closed_trees.specs.Table.{IsTable, AreNumbered, renumbered}
+use Rattle.type_trees.specs.Tree.{Tree, nothing, IsTreeAt, IsType, NamesLower}
+use Rattle.type_trees.specs.Depth.{AreDepths, HasLevels, depth}
+use Rattle.type_trees.specs.Canon.{position_in, text, texts, Canonical}
+use Rattle.type_trees.specs.Table.{IsTable, AreNumbered, renumbered}
 use Rattle.canonical_list.specs.Links.{NoneFrom}
 use Rattle.canonical_list.specs.declared.row.Row.{Row}
 use Rattle.canonical_list.specs.Rows.{row, positions, AreInOrder, HasHead, HaveHeads}
 use Rattle.canonical_list.specs.Numbers.{AreNumbers}
 use Rattle.canonical_list.specs.Finish.{AtLevel, Numbered, CanRenumber, RowsMade, IsCanonOf}
-use Rattle.closed_trees.proofs.WeightLaws.{weight-none, weight_of_texts}
-use Rattle.closed_trees.proofs.RenumberLaws.{renumbered_long}
-use Rattle.closed_trees.proofs.NextLaws.{HoldsBelow, in_range, table_weighs_all}
+use Rattle.type_trees.proofs.WeightLaws.{weight-none, weight_of_texts}
+use Rattle.type_trees.proofs.RenumberLaws.{renumbered_long}
+use Rattle.type_trees.proofs.NextLaws.{HoldsBelow, in_range, table_weighs_all}
 use Rattle.canonical_list.proofs.LinkLaws.{bound}
 use Rattle.canonical_list.proofs.RowLaws.{rows_continue, numbers_continue, AreRows, LevelOf, Numbers}
-use Rattle.closed_trees.proofs.ReadLaws.{canonical_reads_back, weight-many}
-use Rattle.closed_trees.proofs.SameLaws.{get_or-position_in, position_in-lt-length}
+use Rattle.type_trees.proofs.ReadLaws.{canonical_reads_back, weight-many}
+use Rattle.type_trees.proofs.SameLaws.{get_or-position_in, position_in-lt-length}
 use Rattle.tpi_records.specs.Header.{first_index}
 
 -- `out` is the canonical list of those types of r that are less deep than d, and f gives the position of each in it

@@ -11,19 +11,19 @@ use Rattle.std.proofs.lemmas.List.Elements.{Contains-get_or}
 use Rattle.std.proofs.lemmas.Map.Lookups.{exact_bytes}
 use Rattle.std.proofs.Math.ListN.{get_or-append}
 use Rattle.cv_leaves.specs.References.{references}
-use Rattle.closed_trees.specs.Tree.{Tree, Branches, tree, no_branch, simple, branch, nothing, branches_of, trees_in, IsClosed, IsTreeAt, AreBranches}
-use Rattle.closed_trees.specs.Depth.{depth, depth_over}
-use Rattle.closed_trees.specs.Canon.{position_in, text, Canonical, texts, HoldsBranches}
-use Rattle.closed_trees.specs.Table.{IsTable, renumbered}
+use Rattle.type_trees.specs.Tree.{Tree, Branches, tree, no_branch, simple, branch, nothing, branches_of, trees_in, IsClosed, IsTreeAt, AreBranches}
+use Rattle.type_trees.specs.Depth.{depth, depth_over}
+use Rattle.type_trees.specs.Canon.{position_in, text, Canonical, texts, HoldsBranches}
+use Rattle.type_trees.specs.Table.{IsTable, renumbered}
 use Rattle.canonical_list.specs.Rows.{row}
-use Rattle.closed_trees.proofs.TreeLaws.{one, standing_is_closed}
-use Rattle.closed_trees.proofs.SameLaws.{position_in-get_or, position_in-lt-length}
-use Rattle.closed_trees.proofs.TextLaws.{texts_differ}
-use Rattle.closed_trees.proofs.ReadLaws.{few, holds, text-at}
-use Rattle.closed_trees.proofs.LevelLaws.{text-more}
-use Rattle.closed_trees.proofs.CanonLaws.{position_in-below}
-use Rattle.closed_trees.proofs.TableLaws.{table_is_set, branches_stand, renumbered_is_text, EachNamed}
-use Rattle.closed_trees.proofs.NextLaws.{HoldsBelow, trees_of_table, next_level, branches_less_deep, all_held, IsLevelOf}
+use Rattle.type_trees.proofs.TreeLaws.{one, standing_is_closed}
+use Rattle.type_trees.proofs.SameLaws.{position_in-get_or, position_in-lt-length}
+use Rattle.type_trees.proofs.TextLaws.{texts_differ}
+use Rattle.type_trees.proofs.ReadLaws.{few, holds, text-at}
+use Rattle.type_trees.proofs.LevelLaws.{text-more}
+use Rattle.type_trees.proofs.CanonLaws.{position_in-below}
+use Rattle.type_trees.proofs.TableLaws.{table_is_set, branches_stand, renumbered_is_text, EachNamed}
+use Rattle.type_trees.proofs.NextLaws.{HoldsBelow, trees_of_table, next_level, branches_less_deep, all_held, IsLevelOf}
 use Rattle.tpi_records.specs.Header.{first_index}
 use Rattle.std.specs.Prelude.{suc}
 

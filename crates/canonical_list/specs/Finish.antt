@@ -5,9 +5,9 @@ use Rattle.tpi_records.specs.Records.{IsRecord}
 use Rattle.cv_leaves.specs.Place.{IsChecked}
 use Rattle.cv_leaves.specs.References.{references}
 use Rattle.cv_leaves.specs.Named.{named_places}
-use Rattle.closed_trees.specs.Tree.{Tree}
-use Rattle.closed_trees.specs.Canon.{texts, Canonical}
-use Rattle.closed_trees.specs.Table.{IsTable, AreNumbered}
+use Rattle.type_trees.specs.Tree.{Tree}
+use Rattle.type_trees.specs.Canon.{texts, Canonical}
+use Rattle.type_trees.specs.Table.{IsTable, AreNumbered}
 use Rattle.canonical_list.specs.Rows.{row}
 
 -- ps are the positions that have this depth, each once and in any order

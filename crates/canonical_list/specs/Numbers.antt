@@ -1,6 +1,6 @@
 -- The numbers of types: the positions of their trees in a table.
 use Rattle.std.specs.Prelude.{ℕ, ◌≡◌, List, length, get_or}
-use Rattle.closed_trees.specs.Tree.{Tree, IsTreeAt}
+use Rattle.type_trees.specs.Tree.{Tree, IsTreeAt}
 
 -- each record has a number: the position in the table at which its tree is
 pub record AreNumbers (records table : List (List ℕ)) (numbers : List ℕ) : Type 0 where

@@ -5,7 +5,7 @@ use Rattle.std.specs.List.{All, Contains}
 use Rattle.std.specs.Ordering.{nat_cmp}
 use Rattle.std.specs.declared.cmp.Ordering.TheVariants.{Greater}
 use Rattle.byte_fields.specs.Bytes.{AreBytes}
-use Rattle.closed_trees.specs.Table.{renumbered}
+use Rattle.type_trees.specs.Table.{renumbered}
 use Rattle.canonical_list.specs.declared.row.Row.{Row}
 
 -- the row of the record at i: the record, renumbered by f

@@ -2,7 +2,7 @@
 
 ghost use Rattle.std.specs.Prelude.{◌≡◌, ◌+◌, ◌<◌, ◌^◌, length, get_or, IfOk, IfSome, IfNone};
 ghost use Rattle.canonical_list.specs.Links.{NoneFrom};
-ghost use Rattle.closed_trees.specs.Depth.{AreBelow};
+ghost use Rattle.type_trees.specs.Depth.{AreBelow};
 
 use std::alloc::{AllocError, Allocator, Global};
 use std::marker::Model;

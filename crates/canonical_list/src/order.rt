@@ -10,9 +10,9 @@ ghost use Rattle.std.specs.List.{All, concat};
 ghost use Rattle.std.specs.List.Sorted.{IsPermutation};
 ghost use Rattle.packed_texts.specs.PackedTexts.{texts_at, IsOrder};
 ghost use Rattle.record_set.specs.RecordSet.{HasNamedPlaces};
-ghost use Rattle.closed_trees.specs.Depth.{HasDepths, AreBelow};
-ghost use Rattle.closed_trees.specs.Tree.{IsType};
-ghost use Rattle.closed_trees.specs.Table.{IsTable, renumbered};
+ghost use Rattle.type_trees.specs.Depth.{HasDepths, AreBelow};
+ghost use Rattle.type_trees.specs.Tree.{IsType};
+ghost use Rattle.type_trees.specs.Table.{IsTable, renumbered};
 ghost use Rattle.canonical_list.specs.Rows.{positions, row_bytes, AreInOrder, HaveHeads};
 ghost use Rattle.canonical_list.specs.Numbers.{AreNumbers};
 ghost use Rattle.canonical_list.specs.Finish.{AtLevel, Numbered, CanRenumber, RowsMade, IsCanonOf};
@@ -20,10 +20,10 @@ ghost use Rattle.canonical_list.specs.Finish.{AtLevel, Numbered, CanRenumber, Ro
 use crate::levels::Levels;
 use crate::row::Row;
 use crate::sort::{ROUNDS, sort_rows};
-use closed_trees::{levels_of, renumber_in_place};
 use packed_texts::PackedTexts;
 use record_set::PlaceLists;
 use std::alloc::{AllocError, Allocator, Global};
+use type_trees::{levels_of, renumber_in_place};
 
 /// Makes a record its row.
 fn put_row<A: Allocator>(

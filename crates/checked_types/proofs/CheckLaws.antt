@@ -12,8 +12,8 @@ use Rattle.tpi_records.specs.Records.{IsRecord}
 use Rattle.cv_leaves.proofs.FoundLaws.{places_found}
 use Rattle.cv_leaves.proofs.HoldLaws.{checks_hold}
 use Rattle.cv_leaves.specs.References.{reference_at, references}
-use Rattle.closed_trees.specs.Tree.{IsRanked, NamesLower}
-use Rattle.closed_trees.specs.Types.{AreTypes, NamesThere}
+use Rattle.type_trees.specs.Tree.{IsRanked, NamesLower}
+use Rattle.type_trees.specs.Types.{AreTypes, NamesThere}
 use Rattle.checked_types.specs.Check.{AllNameThere, leaf_check, reference_check, reference_checks, type_checks, type_checks_from, checks_of}
 use Rattle.checked_types.specs.declared.fault.RecordFault.{RecordFault}
 use Rattle.checked_types.specs.declared.fault.RecordFault.TheVariants as fault

@@ -7,7 +7,7 @@ use Rattle.topological_order.proofs.OrderLaws.{names_inside, ranked_uncaught}
 use Rattle.topological_order.proofs.CycleLaws as graph
 use Rattle.checked_types.specs.Graph.{graph_of}
 use Rattle.checked_types.specs.Laws.{OneCycle, CyclicTypesHaveNoRank}
-use Rattle.closed_trees.specs.Types.{AreTypes}
+use Rattle.type_trees.specs.Types.{AreTypes}
 use Rattle.checked_types.specs.Check.{HasTypeFault, IsCycleFault}
 use Rattle.checked_types.specs.declared.fault.RecordFault.TheVariants as inner
 use Rattle.checked_types.specs.declared.fault.TypeFault.{TypeFault}

@@ -8,12 +8,12 @@ use Rattle.tpi_records.specs.Records.{IsRecord}
 use Rattle.topological_order.specs.Order.{IsOrder}
 use Rattle.cv_leaves.specs.References.{reference_at, references}
 use Rattle.tpi_records.specs.Header.{first_index}
-use Rattle.closed_trees.specs.Tree.{IsRanked}
+use Rattle.type_trees.specs.Tree.{IsRanked}
 use Rattle.checked_types.specs.Graph.{graph_of}
-use Rattle.closed_trees.specs.Types.{NamesThere}
+use Rattle.type_trees.specs.Types.{NamesThere}
 use Rattle.checked_types.specs.Check.{checks_of}
-use Rattle.closed_trees.specs.Depth.{height, depth_above, AreBelow}
-use Rattle.closed_trees.proofs.DepthLaws.{above_step}
+use Rattle.type_trees.specs.Depth.{height, depth_above, AreBelow}
+use Rattle.type_trees.proofs.DepthLaws.{above_step}
 use Rattle.checked_types.proofs.CheckLaws.{LowerFrom, lower_ranked, passed_checked}
 use Rattle.checked_types.proofs.OrderLaws.{stand_in_order}
 use Rattle.checked_types.specs.Measured.{AreMeasured, StoresDepth}

@@ -12,11 +12,11 @@ use Rattle.topological_order.specs.Order.{IsOrder}
 use Rattle.topological_order.proofs.WalkLaws.{none_in}
 use Rattle.topological_order.proofs.OrderLaws.{in_cons, in_head, in_tail, names_inside, orders_rank}
 use Rattle.cv_leaves.specs.References.{reference_at, references}
-use Rattle.closed_trees.specs.Tree.{IsRanked, NamesLower}
+use Rattle.type_trees.specs.Tree.{IsRanked, NamesLower}
 use Rattle.checked_types.specs.Graph.{positions_in, named_by, graph_of}
-use Rattle.closed_trees.specs.Types.{NamesThere}
+use Rattle.type_trees.specs.Types.{NamesThere}
 use Rattle.checked_types.specs.Check.{AllNameThere}
-use Rattle.closed_trees.proofs.TreeLaws.{at_position}
+use Rattle.type_trees.proofs.TreeLaws.{at_position}
 use Rattle.tpi_records.specs.Header.{first_index}
 
 -- ---- The positions that references name

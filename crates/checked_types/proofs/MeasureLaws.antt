@@ -7,13 +7,13 @@ use Rattle.std.proofs.lemmas.List.Elements.{All-contains, Contains-push_cases, C
 use Rattle.topological_order.specs.Order.{IsOrder}
 use Rattle.topological_order.proofs.WalkLaws.{none_in}
 use Rattle.cv_leaves.specs.References.{references}
-use Rattle.closed_trees.specs.Tree.{Tree, IsTreeAt}
+use Rattle.type_trees.specs.Tree.{Tree, IsTreeAt}
 use Rattle.checked_types.specs.Graph.{graph_of}
-use Rattle.closed_trees.specs.Types.{NamesThere}
-use Rattle.closed_trees.specs.Depth.{depth, depth_above, AreDepths, AreBelow}
+use Rattle.type_trees.specs.Types.{NamesThere}
+use Rattle.type_trees.specs.Depth.{depth, depth_above, AreDepths, AreBelow}
 use Rattle.checked_types.proofs.GraphLaws.{many_nodes}
 use Rattle.checked_types.proofs.OrderLaws.{NamesDone, order_short, next_in_order}
-use Rattle.closed_trees.proofs.DepthLaws.{Gives, depth_of_record}
+use Rattle.type_trees.proofs.DepthLaws.{Gives, depth_of_record}
 use Rattle.tpi_records.specs.Header.{first_index}
 
 -- the depths of the trees at these positions

@@ -16,14 +16,14 @@ use Rattle.tpi_records.specs.Records.{IsRecord}
 use Rattle.topological_order.specs.Graph.{Names}
 use Rattle.topological_order.specs.Order.{IsOrder}
 use Rattle.cv_leaves.specs.References.{references}
-use Rattle.closed_trees.specs.Tree.{IsRanked}
-use Rattle.closed_trees.specs.Types.{AreTypes}
+use Rattle.type_trees.specs.Tree.{IsRanked}
+use Rattle.type_trees.specs.Types.{AreTypes}
 use Rattle.checked_types.specs.Check.{checks_of}
 use Rattle.checked_types.specs.Graph.{graph_of}
 use Rattle.checked_types.specs.Order.{positions_left, EndsAt}
 use Rattle.checked_types.proofs.CheckLaws.{passed_checked, passed_there}
 use Rattle.checked_types.proofs.GraphLaws.{named_at, many_nodes, each_named, ranked_graph, order_ranks}
-use Rattle.closed_trees.proofs.WeightLaws.{sum_grows}
+use Rattle.type_trees.proofs.WeightLaws.{sum_grows}
 use Rattle.tpi_records.specs.Header.{first_index}
 
 -- ---- What is left

@@ -12,7 +12,7 @@ use Rattle.checked_types.specs.declared.fault.RecordFault.TheVariants as inner
 use Rattle.checked_types.specs.declared.fault.TypeFault.{TypeFault}
 use Rattle.checked_types.specs.declared.fault.TypeFault.TheVariants as fault
 use Rattle.tpi_records.specs.Header.{first_index}
-use Rattle.closed_trees.specs.Types.{NamesThere}
+use Rattle.type_trees.specs.Types.{NamesThere}
 
 -- each reference of these records is simple or names one of this number of records
 abbrev pub AllNameThere : ℕ → List (List ℕ) → Type 0

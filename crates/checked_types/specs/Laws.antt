@@ -1,6 +1,6 @@
 -- Laws of the types of records that lead into a cycle.
 use Rattle.std.specs.Prelude.{ℕ, ◌≡◌, List}
-use Rattle.closed_trees.specs.Tree.{IsRanked}
+use Rattle.type_trees.specs.Tree.{IsRanked}
 use Rattle.checked_types.specs.Check.{IsCycle}
 
 -- records have at most one list of those that lead into a cycle

@@ -1,8 +1,8 @@
 -- Types whose depths are known.
 use Rattle.std.specs.Prelude.{ℕ, ◌≡◌, ◌<◌, ◌^◌, List, length, set}
 use Rattle.topological_order.specs.Order.{IsOrder}
-use Rattle.closed_trees.specs.Types.{AreTypes}
-use Rattle.closed_trees.specs.Depth.{AreBelow, AreDepths}
+use Rattle.type_trees.specs.Types.{AreTypes}
+use Rattle.type_trees.specs.Depth.{AreBelow, AreDepths}
 use Rattle.checked_types.specs.Graph.{graph_of}
 
 -- the records are types, each comes in the order after those that it names,

@@ -6,14 +6,14 @@ ghost use Rattle.tpi_records.specs.Records.{IsRecord};
 ghost use Rattle.cv_leaves.specs.Checks.{places_of};
 ghost use Rattle.cv_leaves.specs.Place.{IsChecked};
 ghost use Rattle.cv_leaves.specs.References.{references};
-ghost use Rattle.closed_trees.specs.Types.{NamesThere};
+ghost use Rattle.type_trees.specs.Types.{NamesThere};
 ghost use Rattle.checked_types.specs.Check.{reference_checks, type_checks};
-ghost use Rattle.closed_trees.specs.Depth.{height, depth_above, AreBelow};
+ghost use Rattle.type_trees.specs.Depth.{height, depth_above, AreBelow};
 
 use crate::fault::RecordFault;
-use closed_trees::height;
 use cv_leaves::{check, places, ref_at};
 use tpi_records::FIRST_INDEX;
+use type_trees::height;
 
 /// The greater of a depth and the height of a reference. `None` where the depth is not known, or
 /// where the reference is not below `known`, the type index after those with known depths.

@@ -8,7 +8,7 @@
 //!   [`Types::in_order`] lists them so that each comes after those that it names.
 //!
 //! What is proved: records are accepted exactly where they make types (`AreTypes` of
-//! `closed_trees`: each record is whole and has places, and some rank makes each record higher
+//! `type_trees`: each record is whole and has places, and some rank makes each record higher
 //! than those that it names), unless this runs out of memory. A refusal names the first check that
 //! fails, and for a cycle exactly the records that lead into one (`IsCycle`). Each record that is
 //! lent is whole and has places. Each depth is that of the tree at that position.

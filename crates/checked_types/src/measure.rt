@@ -2,16 +2,16 @@
 
 ghost use Rattle.std.specs.Prelude.{◌≡◌, ◌^◌, length, IfOk};
 ghost use Rattle.topological_order.specs.Order.{IsOrder};
-ghost use Rattle.closed_trees.specs.Types.{AreTypes};
-ghost use Rattle.closed_trees.specs.Depth.{AreBelow, AreDepths};
+ghost use Rattle.type_trees.specs.Types.{AreTypes};
+ghost use Rattle.type_trees.specs.Depth.{AreBelow, AreDepths};
 ghost use Rattle.checked_types.specs.Graph.{graph_of};
 ghost use Rattle.checked_types.specs.Order.{order_list};
 
 use crate::order::{Order, record_at};
-use closed_trees::depth_of;
 use cv_leaves::list_places;
 use std::alloc::{AllocError, Allocator};
 use tpi_records::Records;
+use type_trees::depth_of;
 
 /// The depth of each record. All depths are allocated at once.
 ///

@@ -6,10 +6,10 @@ ghost use Rattle.byte_fields.specs.Check.{Makes};
 ghost use Rattle.tpi_records.specs.Records.{IsRecord};
 ghost use Rattle.cv_leaves.specs.Place.{IsChecked};
 ghost use Rattle.topological_order.specs.Order.{IsOrder};
-ghost use Rattle.closed_trees.specs.Tree.{Tree, IsTreeAt, IsRanked};
+ghost use Rattle.type_trees.specs.Tree.{Tree, IsTreeAt, IsRanked};
 ghost use Rattle.checked_types.specs.Graph.{graph_of};
-ghost use Rattle.closed_trees.specs.Depth.{depth, AreBelow, HasLevels};
-ghost use Rattle.closed_trees.specs.Types.{AreTypes};
+ghost use Rattle.type_trees.specs.Depth.{depth, AreBelow, HasLevels};
+ghost use Rattle.type_trees.specs.Types.{AreTypes};
 ghost use Rattle.checked_types.specs.Check.{checks_of, IsTypeFault};
 ghost use Rattle.checked_types.specs.Measured.{AreMeasured, StoresDepth};
 
@@ -17,10 +17,10 @@ use crate::check::check_record;
 use crate::fault::{RecordFault, TypeFault};
 use crate::measure::measure;
 use crate::order::{InOrder, Order, arrange};
-use closed_trees::levels_of;
 use std::alloc::{AllocError, Allocator, Global};
 use std::marker::Model;
 use tpi_records::{Iter, RecordIndex, Records};
+use type_trees::levels_of;
 
 /// The type records of a file. Each is whole and has places, and no record leads into a cycle of
 /// references.

@@ -1,8 +1,8 @@
 -- A type index as an argument of the command line.
 use Rattle.std.specs.Prelude.{ℕ, ◌≡◌, ◌≤◌, List, ◌++◌, length, codes}
 use Rattle.std.specs.Str.Parse.{IsNumeral, digits_value}
-use Rattle.type_texts.specs.declared.asked.Query.{Query}
-use Rattle.type_texts.specs.declared.asked.Query.TheVariants.{Index, Name}
+use Rattle.type_expressions.specs.declared.asked.Query.{Query}
+use Rattle.type_expressions.specs.declared.asked.Query.TheVariants.{Index, Name}
 
 -- the argument is an index of this value: 0x and 1 to 8 hexadecimal digits of either case
 abbrev pub IsIndexArgument : List ℕ → ℕ → Type 0

@@ -3,7 +3,7 @@
 ghost use Rattle.std.specs.Prelude.{IfSome, IfNone, ℕ};
 ghost use Rattle.command_line.specs.Index.{AsksFor, IsIndexArgument};
 
-use type_texts::Query;
+use type_expressions::Query;
 
 /// The type index that an argument is: `0x` and 1 to 8 hexadecimal digits of either case, and
 /// nothing else. `None` for any other argument. This does not allocate.

@@ -7,7 +7,7 @@ use crate::index::read_index;
 use crate::names;
 use crate::words::{Kind, ShownCommand, What, command_named, program};
 use clap::ArgMatches;
-use fault_pages::{Page, last, page_of};
+use error_help::{Page, last, page_of};
 use output_words::push_quoted;
 use pdb_info::Settings;
 use run_options::{GuidChoice, Making, OnRefused, Scope, Shown};

@@ -2,7 +2,7 @@
 
 use crate::names;
 use clap::{Arg, ArgAction, Command};
-use fault_pages::last;
+use error_help::last;
 use run_options::Shown;
 use std::alloc::{AllocError, Global};
 

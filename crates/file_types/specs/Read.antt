@@ -10,7 +10,7 @@ use Rattle.msf_superblock.specs.declared.fault.MsfFault.TheVariants as msf
 use Rattle.msf_streams.specs.Streams.{WasRead, stream_contents}
 use Rattle.pdb_info.specs.declared.fault.InfoFault.TheVariants.{InfoShort}
 use Rattle.tpi_records.specs.Records.{HasRecords, IsFirstFault}
-use Rattle.closed_trees.specs.Types.{AreTypes}
+use Rattle.type_trees.specs.Types.{AreTypes}
 use Rattle.checked_types.specs.Check.{HasTypeFault}
 use Rattle.file_types.specs.declared.fault.PdbFault.{PdbFault}
 use Rattle.file_types.specs.declared.fault.PdbFault.TheVariants as fault

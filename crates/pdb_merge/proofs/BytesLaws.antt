@@ -12,10 +12,10 @@ use Rattle.pdb_info.specs.Settings.{SettingsView, AreSettings}
 use Rattle.pdb_info.specs.Written.{info_contents}
 use Rattle.tpi_records.specs.Records.{HasRecords}
 use Rattle.tpi_records.specs.Written.{header_numbers, header_bytes}
-use Rattle.closed_trees.specs.Tree.{Tree, tree, nothing, IsTreeAt, blank_of, branches_of}
-use Rattle.closed_trees.specs.Canon.{numbers, text}
+use Rattle.type_trees.specs.Tree.{Tree, tree, nothing, IsTreeAt, blank_of, branches_of}
+use Rattle.type_trees.specs.Canon.{numbers, text}
 use Rattle.canonical_list.specs.Finish.{IsCanonOf}
-use Rattle.closed_trees.proofs.TreeLaws.{at_position}
+use Rattle.type_trees.proofs.TreeLaws.{at_position}
 use Rattle.file_types.specs.Read.{IsAccepted}
 use Rattle.pdb_merge.specs.Union.{HasType}
 use Rattle.pdb_merge.specs.Merged.{type_stream, merged_contents, merged_file}

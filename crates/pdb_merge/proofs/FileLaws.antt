@@ -3,12 +3,12 @@ use Rattle.std.proofs.Common.{◌≡◌, ◌↔◌, ℕ, subst, List, [], ◌∷
 use Rattle.std.specs.Prelude.{Option, Result, Ok, Err, IfErr}
 use Rattle.std.specs.List.{concat}
 use Rattle.pdb_info.specs.Settings.{SettingsView, AreSettings, record_limit}
-use Rattle.closed_trees.specs.Tree.{Tree, IsType}
-use Rattle.closed_trees.specs.Canon.{texts}
+use Rattle.type_trees.specs.Tree.{Tree, IsType}
+use Rattle.type_trees.specs.Canon.{texts}
 use Rattle.canonical_list.specs.Finish.{IsCanonOf}
 use Rattle.file_types.specs.Read.{IsAccepted}
-use Rattle.closed_trees.proofs.WeightLaws.{weight_of_texts}
-use Rattle.closed_trees.proofs.CanonLaws.{one_canonical_list}
+use Rattle.type_trees.proofs.WeightLaws.{weight_of_texts}
+use Rattle.type_trees.proofs.CanonLaws.{one_canonical_list}
 use Rattle.pdb_merge.specs.Union.{HasType, FileHas, SameTypes, Weighs, Within}
 use Rattle.pdb_merge.specs.Laws.{MergedReadsBack, OneMergedFile, MergedHas, MergedFilesDiffer, MergedAgain, EarlierMerge}
 use Rattle.pdb_merge.proofs.UnionLaws.{types_of_first, types_of_both, within_same, one_accepted}

@@ -3,7 +3,7 @@ use Rattle.std.proofs.Common.{◌≡◌, ◌+◌, ◌-◌, ℕ, suc, List, [], �
 use Rattle.std.proofs.lemmas.Bool.{cases_lt}
 use Rattle.std.proofs.lemmas.List.{get_or_append_left, get_or-append-add, get_or-drop, get_or-map, length-map, ext_get_or}
 use Rattle.canonical_list.specs.Numbers.{AreNumbers}
-use Rattle.closed_trees.proofs.TreeLaws.{tree_there}
+use Rattle.type_trees.proofs.TreeLaws.{tree_there}
 use Rattle.type_table.specs.Maps.{followed_by}
 use Rattle.type_table.proofs.MapLaws.{numbers_follow}
 use Rattle.file_types.specs.Read.{IsAccepted}

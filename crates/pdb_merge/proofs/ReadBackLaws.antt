@@ -12,13 +12,13 @@ use Rattle.tpi_records.specs.Records.{IsRecord, HasRecords}
 use Rattle.tpi_records.specs.Written.{header_bytes}
 use Rattle.tpi_records.proofs.WrittenLaws.{heads_records}
 use Rattle.tpi_records.proofs.CutLaws.{many_bytes}
-use Rattle.closed_trees.specs.Tree.{Tree, IsType, nothing, IsTreeAt, tree}
-use Rattle.closed_trees.specs.Canon.{text, texts, weight, Canonical}
+use Rattle.type_trees.specs.Tree.{Tree, IsType, nothing, IsTreeAt, tree}
+use Rattle.type_trees.specs.Canon.{text, texts, weight, Canonical}
 use Rattle.canonical_list.specs.Finish.{IsCanonOf}
 use Rattle.file_types.specs.Read.{IsAccepted}
-use Rattle.closed_trees.specs.Types.{AreTypes}
-use Rattle.closed_trees.proofs.ReadLaws.{canonical_reads_back}
-use Rattle.closed_trees.proofs.WeightLaws.{weight_of_texts, weight_grows}
+use Rattle.type_trees.specs.Types.{AreTypes}
+use Rattle.type_trees.proofs.ReadLaws.{canonical_reads_back}
+use Rattle.type_trees.proofs.WeightLaws.{weight_of_texts, weight_grows}
 use Rattle.cv_leaves.specs.Place.{IsChecked}
 use Rattle.pdb_merge.specs.Union.{HasType, Within}
 use Rattle.pdb_merge.specs.Merged.{StandOnce, type_stream, merged_contents, merged_file}

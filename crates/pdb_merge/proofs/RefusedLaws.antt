@@ -1,8 +1,8 @@
 -- The first fault of texts, where the bytes of a file need not be known.
 use Rattle.std.proofs.Common.{◌≡◌, ◌⊎◌, ℕ, ◌<◌, List, refl, inl, inr}
-use Rattle.closed_trees.specs.Tree.{Tree}
-use Rattle.closed_trees.specs.Canon.{weight}
-use Rattle.closed_trees.specs.Table.{IsUnion}
+use Rattle.type_trees.specs.Tree.{Tree}
+use Rattle.type_trees.specs.Canon.{weight}
+use Rattle.type_trees.specs.Table.{IsUnion}
 use Rattle.type_table.specs.declared.fault.JoinFault.{JoinFault}
 use Rattle.type_table.specs.declared.fault.JoinFault.TheVariants as join
 use Rattle.file_types.specs.Read.{HasFaultOfTypes, HasTypes, ListsStream}

@@ -11,8 +11,8 @@ use Rattle.byte_io.specs.declared.inputs.InputFault.{InputFault}
 use Rattle.byte_io.specs.declared.inputs.InputFault.TheVariants as inputs
 use Rattle.byte_io.specs.declared.input.ReadFault.TheVariants as reads
 use Rattle.canonical_list.specs.Finish.{IsCanonOf}
-use Rattle.closed_trees.specs.Tree.{Tree, IsType}
-use Rattle.closed_trees.proofs.WeightLaws.{weight_grows}
+use Rattle.type_trees.specs.Tree.{Tree, IsType}
+use Rattle.type_trees.proofs.WeightLaws.{weight_grows}
 use Rattle.file_types.specs.Read.{IsAccepted, HasPdbFault}
 use Rattle.file_types.specs.declared.fault.PdbFault.TheVariants as pdb
 use Rattle.file_types.proofs.ReadLaws.{accepted_unrefused}

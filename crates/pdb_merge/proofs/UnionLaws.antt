@@ -5,10 +5,10 @@ use Rattle.std.specs.List.{Contains}
 use Rattle.std.proofs.lemmas.Bool.{cases_lt}
 use Rattle.std.proofs.lemmas.List.{get_or_default}
 use Rattle.std.proofs.lemmas.List.Elements.{Contains-get_or}
-use Rattle.closed_trees.specs.Tree.{Tree, tree, IsType}
-use Rattle.closed_trees.specs.Canon.{weight}
-use Rattle.closed_trees.specs.Table.{IsUnion}
-use Rattle.closed_trees.proofs.WeightLaws.{weight-none, weight_grows}
+use Rattle.type_trees.specs.Tree.{Tree, tree, IsType}
+use Rattle.type_trees.specs.Canon.{weight}
+use Rattle.type_trees.specs.Table.{IsUnion}
+use Rattle.type_trees.proofs.WeightLaws.{weight-none, weight_grows}
 use Rattle.file_types.specs.Read.{IsAccepted}
 use Rattle.byte_io.specs.Inputs.{Give}
 use Rattle.byte_io.specs.declared.inputs.InputFault.{InputFault}

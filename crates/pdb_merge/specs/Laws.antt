@@ -2,7 +2,7 @@
 use Rattle.std.specs.Prelude.{ℕ, ◌≡◌, ◌≢◌, ◌<◌, ◌⊎◌, ◌↔◌, List, [], ◌∷◌, ◌++◌, length, map, drop, get_or}
 use Rattle.std.specs.List.{Contains}
 use Rattle.pdb_info.specs.Settings.{SettingsView, AreSettings, record_limit}
-use Rattle.closed_trees.specs.Tree.{Tree}
+use Rattle.type_trees.specs.Tree.{Tree}
 use Rattle.file_types.specs.Read.{IsAccepted}
 use Rattle.pdb_merge.specs.Union.{FileHas, HasTypeBelow, HasType, SameFiles, SameTypes, Weighs, Within, CanMerge, IsMergeFault}
 use Rattle.canonical_list.specs.Finish.{IsCanonOf}

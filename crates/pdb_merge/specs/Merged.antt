@@ -7,7 +7,7 @@ use Rattle.msf_streams.specs.Put.{AppendsPart}
 use Rattle.pdb_info.specs.Settings.{SettingsView, record_limit}
 use Rattle.pdb_info.specs.Written.{info_contents}
 use Rattle.tpi_records.specs.Written.{header_bytes}
-use Rattle.closed_trees.specs.Tree.{Tree, IsTreeAt, IsType}
+use Rattle.type_trees.specs.Tree.{Tree, IsTreeAt, IsType}
 use Rattle.canonical_list.specs.Finish.{IsCanonOf}
 use Rattle.file_types.specs.Read.{IsAccepted}
 use Rattle.pdb_merge.specs.Union.{HasType, SameTypes, Weighs, CanMerge}

@@ -1,6 +1,6 @@
 -- A merge in progress.
 use Rattle.std.specs.Prelude.{ℕ, ◌≡◌, ◌<◌, ◌⊎◌, ◌↔◌, List, [], Option, length, get_or}
-use Rattle.closed_trees.specs.Tree.{Tree, IsType}
+use Rattle.type_trees.specs.Tree.{Tree, IsType}
 use Rattle.canonical_list.specs.Numbers.{AreNumbers}
 use Rattle.type_table.specs.Maps.{IsMapped}
 use Rattle.type_table.specs.Merge.{StartsWith}

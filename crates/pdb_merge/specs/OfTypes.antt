@@ -1,7 +1,7 @@
 -- Files whose GUID is made of their types.
 use Rattle.std.specs.Prelude.{ℕ, ◌≡◌, List}
 use Rattle.pdb_info.specs.Settings.{SettingsView}
-use Rattle.closed_trees.specs.Tree.{Tree}
+use Rattle.type_trees.specs.Tree.{Tree}
 use Rattle.canonical_list.specs.Finish.{IsCanonOf}
 use Rattle.pdb_merge.specs.Union.{HasType, SameTypes}
 use Rattle.pdb_merge.specs.Merged.{merged_file, IsFileOf}

@@ -3,7 +3,7 @@ use Rattle.std.specs.Prelude.{ℕ, ◌≡◌, ◌≢◌, ◌<◌, ◌⊎◌, ◌
 use Rattle.std.specs.List.{All, AllPairs, Contains}
 use Rattle.byte_io.specs.Inputs.{CanRead, Give}
 use Rattle.byte_io.specs.declared.inputs.InputFault.{InputFault}
-use Rattle.closed_trees.specs.Tree.{IsType}
+use Rattle.type_trees.specs.Tree.{IsType}
 use Rattle.file_types.specs.Read.{IsAccepted, HasPdbFault}
 use Rattle.file_types.specs.declared.fault.PdbFault.TheVariants as fault
 use Rattle.pdb_merge.specs.Fault.{NamesFault}

@@ -3,8 +3,8 @@ use Rattle.std.specs.Prelude.{ℕ, ◌≡◌, ◌≢◌, ◌+◌, ◌<◌, ◌�
 use Rattle.std.specs.List.{AllPairs, Contains}
 use Rattle.byte_io.specs.Inputs.{CanRead, IsFirstUnread}
 use Rattle.byte_io.specs.declared.inputs.InputFault.{InputFault}
-use Rattle.closed_trees.specs.Tree.{Tree, IsType}
-use Rattle.closed_trees.specs.Canon.{weight}
+use Rattle.type_trees.specs.Tree.{Tree, IsType}
+use Rattle.type_trees.specs.Canon.{weight}
 use Rattle.file_types.specs.Read.{IsAccepted, HasTypes, HasFaultOfTypes, HasPdbFault}
 use Rattle.pdb_merge.specs.declared.fault.AddFault.{AddFault}
 use Rattle.pdb_merge.specs.declared.fault.AddFault.TheVariants as add

@@ -4,7 +4,7 @@ ghost use Rattle.std.specs.Prelude.{◌≡◌, ◌↔◌, ◌<◌, ◌≤◌, �
 ghost use Rattle.std.specs.List.{concat};
 ghost use Rattle.byte_io.specs.Inputs.{CanRead, Give};
 ghost use Rattle.canonical_list.specs.Finish.{IsCanonOf};
-ghost use Rattle.closed_trees.specs.Tree.{IsType};
+ghost use Rattle.type_trees.specs.Tree.{IsType};
 ghost use Rattle.pdb_info.specs.Settings.{record_limit};
 ghost use Rattle.pdb_merge.specs.Merging.{AddsFile};
 ghost use Rattle.pdb_merge.specs.Own.{IsOwnFault, OwnNamesFault, ReadsTo};

@@ -1,7 +1,7 @@
 //! The types of the files that a merge has taken so far.
 
 ghost use Rattle.std.specs.Prelude.{◌≡◌, [], OnOk, IfOk, IfErr, IfSome};
-ghost use Rattle.closed_trees.specs.Tree.{IsType};
+ghost use Rattle.type_trees.specs.Tree.{IsType};
 ghost use Rattle.canonical_list.specs.Finish.{IsCanonOf};
 ghost use Rattle.pdb_merge.specs.Fault.{AddNamesFault};
 ghost use Rattle.pdb_merge.specs.Union.{Within, IsAddFaultOfStream};

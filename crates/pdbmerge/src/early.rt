@@ -1,7 +1,7 @@
 //! What is refused of a merge before anything is read or written.
 
 use command_line::Merging;
-use program_files::{FileId, MapFault, Place, ProgramFault, Said, TakenStreams, is_one_of};
+use host_files::{FileId, MapFault, Place, ProgramFault, Said, TakenStreams, is_one_of};
 use run_options::Making;
 use std::fs;
 use std::io::{Error, ErrorKind};

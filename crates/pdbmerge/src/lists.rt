@@ -3,8 +3,8 @@
 use crate::refusal::Refusal;
 use byte_io::{In, read_all};
 use command_line::{LineFault, ListFault, Merging, PathList, WrongWord, push_paths};
-use pdb_commands::RunFault;
-use program_files::{Place, ProgramFault, Said, Stream, Telling};
+use host_files::{Place, ProgramFault, Said, Stream, Telling};
+use show_commands::RunFault;
 use std::fs;
 use std::io::Read;
 use std::rt::HostRuntime;

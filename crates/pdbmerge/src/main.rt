@@ -5,8 +5,8 @@
 //! the list of more inputs, `early` refuses files that can't be written, and `report` prints the report
 //! on it. `hashes` makes the hashes of records. `hold` keeps files off the
 //! numbers of the standard streams, and `refusal` prints why a command was refused.
-//! The arguments are read by `command_line`, files are opened and created by `program_files`, and
-//! the commands are those of `pdb_commands`. This module joins these to the system: arguments, the
+//! The arguments are read by `command_line`, files are opened and created by `host_files`, and
+//! the commands are those of `show_commands` and `merge_commands`. This module joins these to the system: arguments, the
 //! standard streams and the exit status.
 //!
 //! Each step that keeps large values has a frame of its own (`inline(never)`), so that the stack has few
@@ -25,16 +25,17 @@ mod report;
 use arguments::arguments;
 use byte_io::put_all;
 use command_line::{Compared, Line, LineFault, Task, USAGE, query_of, read_line};
-use fault_pages::Page;
+use error_help::Page;
 use hashes::Hashes;
 use hold::hold;
+use host_files::{InputFiles, ProgramFault, Said};
 use lists::read_list;
 use merge::merge;
-use pdb_commands::{Asked, Found, run_diff, run_diff_members, run_members, run_shown};
-use program_files::{InputFiles, ProgramFault, Said};
+use merge_commands::{run_diff, run_diff_members};
 use refusal::{Refusal, quoted, refuse, refuse_line};
 use report::standard_output;
 use run_options::Shown;
+use show_commands::{Asked, Found, run_members, run_shown};
 use std::process::ExitCode;
 use std::slice;
 

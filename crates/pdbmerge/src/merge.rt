@@ -6,13 +6,14 @@ use crate::refusal::{quoted, taken_by};
 use crate::report::{REPORT_LENGTH, print};
 use byte_io::{Out, Sink};
 use command_line::Merging;
-use pdb_commands::{RunFault, run_plan};
-use pdb_merge::{KeepMaps, LeftOut, NoMaps, Plan, TypeMaps};
-use program_files::{
+use host_files::{
     FileId, InputFiles, NewFile, NewFiles, Placed, ProgramFault, Progress, Said, TakenStreams,
     are_file,
 };
+use merge_commands::run_plan;
+use pdb_merge::{KeepMaps, LeftOut, NoMaps, Plan, TypeMaps};
 use run_options::OnRefused;
+use show_commands::RunFault;
 use std::alloc::AllocError;
 use std::process::ExitCode;
 use std::rt::HostRuntime;

@@ -1,9 +1,9 @@
 //! What the program says of a refusal.
 
 use command_line::{Line, LineFault, Merging, Task};
+use host_files::{Place, ProgramFault, Said, TakenStreams};
 use output_words::push_quoted;
-use pdb_commands::RunFault;
-use program_files::{Place, ProgramFault, Said, TakenStreams};
+use show_commands::RunFault;
 use std::alloc::AllocError;
 use std::io::{self, Eprint, Print};
 use std::process::ExitCode;

@@ -1,7 +1,7 @@
 //! The report of a merge.
 
 use byte_io::{Out, put_all};
-use program_files::{Place, ProgramFault, Said, Stream, TakenStreams, Telling};
+use host_files::{Place, ProgramFault, Said, Stream, TakenStreams, Telling};
 use std::io::{Printer, writer};
 use std::rt::HostRuntime;
 

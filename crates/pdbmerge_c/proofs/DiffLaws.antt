@@ -1,8 +1,8 @@
 -- There are no rows exactly where both lists have the same types.
 use Rattle.std.proofs.Common.{◌≡◌, ◌<◌, ◌+◌, ◌↔◌, ℕ, zero, suc, List, [], ◌∷◌, ◌++◌, length, get_or, refl, sym, ◌∙◌, arith}
-use Rattle.closed_trees.specs.Tree.{Tree, IsType}
-use Rattle.closed_trees.specs.Types.{AreTypes}
-use Rattle.closed_trees.proofs.TreeLaws.{tree_there}
+use Rattle.type_trees.specs.Tree.{Tree, IsType}
+use Rattle.type_trees.specs.Types.{AreTypes}
+use Rattle.type_trees.proofs.TreeLaws.{tree_there}
 use Rattle.type_difference.specs.Difference.{IsLacked, IsOrigin, HasStanding, HaveStandings}
 use Rattle.type_difference.specs.declared.standing.Standing.{Standing}
 use Rattle.type_difference.specs.declared.standing.Standing.TheVariants.{Shared, Again, Follows, Origin}

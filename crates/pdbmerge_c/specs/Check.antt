@@ -4,7 +4,7 @@ use Rattle.std.specs.List.{concat}
 use Rattle.std.specs.declared.alloc.Global.{Global}
 use Rattle.byte_fields.specs.Check.{first_failing}
 use Rattle.msf_blocks.specs.Layout.{layout_checks}
-use Rattle.closed_trees.specs.Depth.{HasLevels}
+use Rattle.type_trees.specs.Depth.{HasLevels}
 use Rattle.file_types.specs.Fault.{pdb_number}
 use Rattle.file_types.specs.Read.{IsAccepted, HasPdbFault}
 use Rattle.file_types.specs.declared.fault.PdbFault.{PdbFault}

@@ -1,7 +1,7 @@
 -- The types that only one of two files has.
 use Rattle.std.specs.Prelude.{ℕ, ◌≡◌, ◌↔◌, ◌+◌, List, [], ◌∷◌, ◌++◌}
 use Rattle.tpi_records.specs.Header.{first_index}
-use Rattle.closed_trees.specs.Tree.{Tree, IsType}
+use Rattle.type_trees.specs.Tree.{Tree, IsType}
 use Rattle.type_difference.specs.Difference.{HaveStandings}
 use Rattle.type_difference.specs.declared.standing.Standing.{Standing}
 use Rattle.type_difference.specs.declared.standing.Standing.TheVariants.{Shared, Again, Follows, Origin}

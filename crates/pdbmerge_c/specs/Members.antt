@@ -2,12 +2,12 @@
 use Rattle.std.specs.Prelude.{ℕ, ◌≡◌, List, map}
 use Rattle.std.specs.Borrow.{Bor}
 use Rattle.std.specs.List.{concat}
-use Rattle.closed_trees.specs.Tree.{Tree}
+use Rattle.type_trees.specs.Tree.{Tree}
 use Rattle.file_types.specs.Read.{IsAccepted}
-use Rattle.type_texts.specs.Asked.{AreTrees, answered, shown_texts}
-use Rattle.type_texts.specs.declared.asked.Asked.{Asked}
-use Rattle.type_texts.specs.declared.asked.Found.TheVariants.{Nothing}
-use Rattle.type_texts.specs.declared.asked.Query.TheVariants.{Name}
+use Rattle.type_expressions.specs.Asked.{AreTrees, answered, shown_texts}
+use Rattle.type_expressions.specs.declared.asked.Asked.{Asked}
+use Rattle.type_expressions.specs.declared.asked.Found.TheVariants.{Nothing}
+use Rattle.type_expressions.specs.declared.asked.Query.TheVariants.{Name}
 
 -- what is asked for by a name, before it is looked for
 abbrev pub asked_by : Bor (List ℕ) → Asked

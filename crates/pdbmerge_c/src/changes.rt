@@ -1,9 +1,9 @@
 //! What changed between the definitions of two files.
 
 ghost use Rattle.std.specs.Prelude.{◌≡◌, ◌⊎◌, ℕ, List, IfOk, IfErr};
-ghost use Rattle.closed_trees.specs.Tree.{Tree};
+ghost use Rattle.type_trees.specs.Tree.{Tree};
 ghost use Rattle.file_types.specs.Read.{IsAccepted};
-ghost use Rattle.type_texts.specs.Asked.{AreTrees};
+ghost use Rattle.type_expressions.specs.Asked.{AreTrees};
 ghost use Rattle.type_changes.specs.Changes.{changes_text};
 ghost use Rattle.type_changes.specs.Definition.{definitions};
 ghost use Rattle.pdb_merge.specs.declared.fault.MergeFault.{MergeFault};

@@ -1,7 +1,7 @@
 //! The maps of files, as they are copied.
 
 ghost use Rattle.std.specs.Prelude.{◌≡◌, ◌+◌, ◌^◌, ◌++◌, [], length, map, OnOk, IfOk};
-ghost use Rattle.closed_trees.specs.Depth.{AreBelow};
+ghost use Rattle.type_trees.specs.Depth.{AreBelow};
 ghost use Rattle.pdbmerge_c.specs.MergeMap.{indices_of};
 
 use pdb_merge::TypeMaps;

@@ -2,9 +2,9 @@
 
 ghost use Rattle.std.specs.Prelude.{◌≡◌, ◌⊎◌, ◌++◌, ℕ, List, map, OnOk, IfOk, IfErr};
 ghost use Rattle.std.specs.List.{concat};
-ghost use Rattle.closed_trees.specs.Tree.{Tree};
+ghost use Rattle.type_trees.specs.Tree.{Tree};
 ghost use Rattle.file_types.specs.Read.{IsAccepted};
-ghost use Rattle.type_texts.specs.Asked.{AreTrees, answered, shown_texts};
+ghost use Rattle.type_expressions.specs.Asked.{AreTrees, answered, shown_texts};
 ghost use Rattle.pdbmerge_c.specs.Check.{IsFaultOfFile, RefusesCheck};
 ghost use Rattle.pdbmerge_c.specs.Given.{Copies};
 ghost use Rattle.pdbmerge_c.specs.Members.{AreMembers, asked_by};
@@ -14,7 +14,7 @@ use crate::give::give;
 use checked_types::Types;
 use file_types::{Buffer, PdbFault, read_types};
 use std::alloc::{AllocError, Global};
-use type_texts::{Asked, Query, find_asked, push_definitions};
+use type_expressions::{Asked, Query, find_asked, push_definitions};
 
 /// Appends what is asked for by names.
 fn push_asked<'a>(asked: &mut Vec<Asked<'a>>, names: &[&'a [u8]]) -> Result<(), AllocError>

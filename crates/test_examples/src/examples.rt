@@ -8,23 +8,23 @@ use crate::orders::names_nodes;
 use byte_fields::{u16_at, u32_at};
 use byte_io::{In, InputFault, Inputs, Out, put_all};
 use checked_types::Types;
-use closed_trees::renumber_in_place;
 use command_line::push_paths;
-use command_texts::push_checked;
 use cv_leaves::{list_places, places, ref_at, type_name};
-use fault_pages::page_of;
+use error_help::page_of;
 use file_types::{Buffer, read_stream, read_types};
+use host_files::{InputFiles, Said};
+use merge_commands::run_diff;
 use msf_blocks::Layout;
 use msf_streams::{gather, pieces};
 use msf_superblock::{Superblock, blocks_for};
+use output_lines::push_checked;
 use output_words::{push_named, push_quoted};
 use packed_texts::PackedTexts;
-use pdb_commands::{run_check, run_shown};
 use pdb_info::{Info, Settings, guid_of};
 use pdb_merge::{Plan, merge};
-use program_files::{InputFiles, Said};
 use record_set::RecordSet;
-use run_options::Shown;
+use run_options::{Scope, Shown};
+use show_commands::{run_check, run_shown};
 use std::alloc::{AllocError, Allocator, Global};
 use std::hash::BuildHasher;
 use std::test::Fail;
@@ -34,8 +34,9 @@ use topological_order::{Graph, topological_order};
 use tpi_records::{Records, tpi_header_bytes};
 use type_changes::push_changes;
 use type_difference::{Standing, compare};
+use type_expressions::push_type;
 use type_table::{Canon, NoMaps, Table};
-use type_texts::push_type;
+use type_trees::renumber_in_place;
 
 /// `byte_fields` reads little-endian numbers.
 #[test]
@@ -163,7 +164,7 @@ fn the_references_of_a_record(rt: HostRuntime) -> Result<(), Fail> {
     Ok(())
 }
 
-/// `closed_trees` makes a record name the same types by other type indices.
+/// `type_trees` makes a record name the same types by other type indices.
 #[test]
 fn a_record_that_is_renumbered(rt: HostRuntime) -> Result<(), Fail> {
     let file = sample(rt.alloc())?;
@@ -322,7 +323,7 @@ fn a_merge_of_two_files(rt: HostRuntime) -> Result<(), Fail> {
     Ok(())
 }
 
-/// `command_texts` makes the lines that commands print.
+/// `output_lines` makes the lines that commands print.
 #[test]
 fn lines_of_a_check(rt: HostRuntime) -> Result<(), Fail> {
     let mut text = String::new(rt.alloc());
@@ -341,7 +342,7 @@ fn lines_of_a_text(rt: HostRuntime) -> Result<(), Fail> {
     Ok(())
 }
 
-/// `type_texts` tells what a type is.
+/// `type_expressions` tells what a type is.
 #[test]
 fn the_words_of_a_type(rt: HostRuntime) -> Result<(), Fail> {
     let file = sample(rt.alloc())?;
@@ -364,7 +365,7 @@ fn types_that_are_asked_for(rt: HostRuntime) -> Result<(), Fail> {
     Ok(())
 }
 
-/// `pdb_commands` runs a command on bytes.
+/// `show_commands` runs a command on bytes.
 #[test]
 fn a_check_of_a_file(rt: HostRuntime) -> Result<(), Fail> {
     let file = sample(rt.alloc())?;
@@ -382,7 +383,18 @@ fn a_check_of_a_file(rt: HostRuntime) -> Result<(), Fail> {
     Ok(())
 }
 
-/// `fault_pages` says what a fault means.
+/// `merge_commands` compares two files.
+#[test]
+fn a_file_and_itself(rt: HostRuntime) -> Result<(), Fail> {
+    let file = sample(rt.alloc())?;
+    let (files, mut text) = ([file.as_slice(), &file], Vec::new(rt.alloc()));
+    let out = &mut Out::new(&mut text);
+    let same = run_diff(rt.alloc(), &files.as_slice(), Scope::All, out, folding())?;
+    assert!(rt; same && text.is_empty());
+    Ok(())
+}
+
+/// `error_help` says what a fault means.
 #[test]
 fn the_page_of_a_fault(rt: HostRuntime) -> Result<(), Fail> {
     let page = page_of(37).ok_or("no such fault")?;
@@ -401,7 +413,7 @@ fn the_paths_of_a_list(rt: HostRuntime) -> Result<(), Fail> {
     Ok(())
 }
 
-/// `program_files` opens the files that the program reads.
+/// `host_files` opens the files that the program reads.
 #[test]
 fn a_file_that_is_not_there(rt: HostRuntime) -> Result<(), Fail> {
     let said = Said::new();

@@ -4,8 +4,8 @@ ghost use Rattle.std.specs.Prelude.{◌≡◌, None, IfSome, length};
 ghost use Rattle.byte_io.specs.Inputs.{untold};
 
 use byte_io::{InputFault, Inputs, Opened, Out};
-use pdb_commands::{RunFault, run_shown};
 use run_options::Shown;
+use show_commands::{RunFault, run_shown};
 use std::alloc::{Allocator, Global};
 use std::test::Fail;
 use test_samples::{Positions, pdb_with, pointer, sample};

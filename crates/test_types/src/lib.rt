@@ -1,4 +1,4 @@
-//! Tests of `type_table` and `type_texts`, while memory is refused.
+//! Tests of `type_table` and `type_expressions`, while memory is refused.
 //!
 //! They say what no clause says, at public calls. What a run of the program shows is in `tests/rows`.
 #![tactic(auto)]

@@ -3,7 +3,7 @@
 use super::calls::types_of;
 use std::test::Fail;
 use test_samples::{refusals, stream_with};
-use type_texts::{Asked, Query, find_asked, push_definitions};
+use type_expressions::{Asked, Query, find_asked, push_definitions};
 
 /// A declaration, a method list, a list of one member, a list of one of each kind that goes on in it,
 /// a class, a list of the least and the greatest values, an enumeration, and a union.

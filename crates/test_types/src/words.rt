@@ -5,7 +5,7 @@ use checked_types::Types;
 use std::alloc::{AllocError, Allocator};
 use std::test::Fail;
 use test_samples::{refusals, stream_with};
-use type_texts::push_type;
+use type_expressions::push_type;
 
 /// Records of several kinds. Each names earlier ones.
 const RECORDS: [&[u8]; 8] = [

@@ -2,7 +2,7 @@
 
 ghost use Rattle.std.specs.Prelude.{◌≡◌, ◌⊎◌, ◌↔◌, ◌+◌, ◌*◌, ◌/◌, ◌^◌, ◌<◌, ◌≤◌, IsTrue, option_map, slice_get, length, drop, [], List, ℕ, IfOk, IfErr, IfSome};
 ghost use Rattle.std.specs.List.{AllByRecursion, concat};
-ghost use Rattle.tpi_records.specs.Records.{IsRecord, IsFramed, IsFirstFault, HasRecords, records_in, starts_for};
+ghost use Rattle.tpi_records.specs.Records.{IsRecord, IsFramed, IsFirstFault, HasRecords, records_in};
 
 use crate::cursor::Cursor;
 use crate::fault::TpiFault;
@@ -97,14 +97,6 @@ impl<'a, A: Allocator> Records<'a, A> {
         ensures { result ≡ length (concat self.now) }
     {
         self.bytes.len() as u32
-    }
-
-    /// How many starts are kept, each in four bytes: those of records 0, 64, 128 and so on.
-    pub fn starts_len(&self) -> usize
-        ensures value { result ≡ starts_for (length self.now) }
-        ensures few { result ≤ length (concat self.now) / 256 + 1 }
-    {
-        self.starts.len()
     }
 
     /// Whether there are no records.

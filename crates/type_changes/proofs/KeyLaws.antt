@@ -13,8 +13,8 @@ use Rattle.cv_leaves.specs.Numeric.{has_numeric, numeric_end, numeric_len}
 use Rattle.cv_leaves.specs.Place.{IsChecked}
 use Rattle.cv_leaves.specs.References.{blanked}
 use Rattle.cv_leaves.proofs.FilledLaws.{blanked_kind, blanked_len}
-use Rattle.type_texts.proofs.BlankLaws.{body_len, name_same, same_named, same_rest}
-use Rattle.type_texts.proofs.DefinitionLaws.{Defines, properties_same}
+use Rattle.type_expressions.proofs.BlankLaws.{body_len, name_same, same_named, same_rest}
+use Rattle.type_expressions.proofs.DefinitionLaws.{Defines, properties_same}
 use Rattle.type_changes.specs.Definition.{behind_numeric, has_unique_name, key_of, known_by, name_place, unique_name}
 
 -- a record and its blank have the same bytes from here on

@@ -9,11 +9,11 @@ use Rattle.std.proofs.Math.Seq.{drop-append_seam, take-append_seam}
 use Rattle.cv_leaves.specs.Checks.{kind_of}
 use Rattle.cv_leaves.specs.Place.{IsChecked}
 use Rattle.cv_leaves.specs.References.{blanked}
-use Rattle.closed_trees.specs.Tree.{Tree, tree, nothing, blank_of, IsTreeAt}
-use Rattle.type_texts.specs.Asked.{AreTrees}
-use Rattle.type_texts.specs.Definition.{defined_words, definition_text, is_definition, only_declares, parts_of, title_of, definition_size, end_of_head, members_text}
-use Rattle.type_texts.proofs.DefinitionLaws.{Defines, defines, properties_same, tree_undefined}
-use Rattle.type_texts.specs.declared.definition.Parts.{Parts}
+use Rattle.type_trees.specs.Tree.{Tree, tree, nothing, blank_of, IsTreeAt}
+use Rattle.type_expressions.specs.Asked.{AreTrees}
+use Rattle.type_expressions.specs.Definition.{defined_words, definition_text, is_definition, only_declares, parts_of, title_of, definition_size, end_of_head, members_text}
+use Rattle.type_expressions.proofs.DefinitionLaws.{Defines, defines, properties_same, tree_undefined}
+use Rattle.type_expressions.specs.declared.definition.Parts.{Parts}
 use Rattle.type_changes.specs.Definition.{Definition, defined_by, definition_of, definitions, is_whole, key_of}
 use Rattle.type_changes.specs.Seen.{IsInside, seen_at}
 use Rattle.type_changes.proofs.KeyLaws.{key_same}

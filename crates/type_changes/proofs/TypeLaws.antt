@@ -7,17 +7,17 @@ use Rattle.std.proofs.lemmas.List.Elements.{Contains-append_cases, Contains-appe
 use Rattle.std.proofs.lemmas.Map.Views.{list_any-from_Contains}
 use Rattle.cv_leaves.specs.Checks.{kind_of}
 use Rattle.cv_leaves.specs.Place.{IsChecked}
-use Rattle.closed_trees.specs.Tree.{Tree, tree, nothing, blank_of, IsTreeAt, IsType}
-use Rattle.closed_trees.specs.Types.{AreTypes}
-use Rattle.closed_trees.proofs.TreeLaws.{at_position, one}
+use Rattle.type_trees.specs.Tree.{Tree, tree, nothing, blank_of, IsTreeAt, IsType}
+use Rattle.type_trees.specs.Types.{AreTypes}
+use Rattle.type_trees.proofs.TreeLaws.{at_position, one}
 use Rattle.type_difference.specs.Difference.{HasStanding, HaveStandings}
 use Rattle.type_difference.specs.declared.standing.Standing.{Standing}
 use Rattle.type_difference.specs.declared.standing.Standing.TheVariants.{Shared}
-use Rattle.type_texts.specs.Asked.{AreTrees}
-use Rattle.type_texts.specs.Definition.{defined_words, is_definition}
-use Rattle.type_texts.proofs.AskedLaws.{all_trees}
-use Rattle.type_texts.proofs.DefinitionLaws.{defines, tree_undefined}
-use Rattle.type_texts.proofs.LinesLaws.{stands_inside}
+use Rattle.type_expressions.specs.Asked.{AreTrees}
+use Rattle.type_expressions.specs.Definition.{defined_words, is_definition}
+use Rattle.type_expressions.proofs.AskedLaws.{all_trees}
+use Rattle.type_expressions.proofs.DefinitionLaws.{defines, tree_undefined}
+use Rattle.type_expressions.proofs.LinesLaws.{stands_inside}
 use Rattle.type_changes.specs.Changes.{changes_text}
 use Rattle.type_changes.specs.Definition.{Definition, defined_by, definition_of, definitions, is_whole, key_of}
 use Rattle.type_changes.specs.Lone.{has}

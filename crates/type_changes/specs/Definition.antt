@@ -5,9 +5,9 @@ use Rattle.byte_fields.specs.Name.{name_at}
 use Rattle.cv_leaves.specs.Checks.{kind_of, body_of}
 use Rattle.cv_leaves.specs.Name.{name_of}
 use Rattle.cv_leaves.specs.Numeric.{has_numeric, numeric_end}
-use Rattle.closed_trees.specs.Tree.{Tree, blank_of}
-use Rattle.type_texts.specs.Definition.{is_definition, only_declares, title_of, definition_size, members_text}
-use Rattle.type_texts.specs.Field.{number_in}
+use Rattle.type_trees.specs.Tree.{Tree, blank_of}
+use Rattle.type_expressions.specs.Definition.{is_definition, only_declares, title_of, definition_size, members_text}
+use Rattle.type_expressions.specs.Field.{number_in}
 
 -- what a definition is known by: the kind of its record, and its unique name,
 -- or its name where it has none

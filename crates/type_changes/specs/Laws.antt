@@ -1,8 +1,8 @@
 -- Laws of what changed between two lists of definitions.
 use Rattle.std.specs.Prelude.{ℕ, ◌≡◌, ◌↔◌, ◌⊎◌, List, [], ◌++◌, codes}
 use Rattle.std.specs.List.{Contains}
-use Rattle.closed_trees.specs.Tree.{Tree, IsType}
-use Rattle.type_texts.specs.Asked.{AreTrees}
+use Rattle.type_trees.specs.Tree.{Tree, IsType}
+use Rattle.type_expressions.specs.Asked.{AreTrees}
 use Rattle.type_changes.specs.Definition.{Definition, definitions}
 use Rattle.type_changes.specs.Lone.{lone}
 use Rattle.type_changes.specs.Changes.{changed, changes_text, gone_text, whole}

@@ -1,8 +1,8 @@
 -- What a text tells of two lists of types.
 use Rattle.std.specs.Prelude.{ℕ, ◌≡◌, ◌↔◌, List, []}
 use Rattle.std.specs.List.{Contains}
-use Rattle.closed_trees.specs.Tree.{Tree, IsType}
-use Rattle.type_texts.specs.Asked.{AreTrees}
+use Rattle.type_trees.specs.Tree.{Tree, IsType}
+use Rattle.type_expressions.specs.Asked.{AreTrees}
 use Rattle.type_changes.specs.Changes.{changes_text}
 use Rattle.type_changes.specs.Definition.{Definition, definitions}
 

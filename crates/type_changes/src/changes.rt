@@ -2,8 +2,8 @@
 
 ghost use Rattle.std.specs.Prelude.{◌≡◌, ◌++◌, List, map, option_map, OnOk};
 ghost use Rattle.std.specs.List.{flat_map};
-ghost use Rattle.closed_trees.specs.Tree.{Tree};
-ghost use Rattle.type_texts.specs.Asked.{AreTrees};
+ghost use Rattle.type_trees.specs.Tree.{Tree};
+ghost use Rattle.type_expressions.specs.Asked.{AreTrees};
 ghost use Rattle.type_changes.specs.Changes.{changed, changed_size, changes_between, changes_text, come_text, gone_text, successor, whole};
 ghost use Rattle.type_changes.specs.Definition.{Definition, definitions};
 ghost use Rattle.type_changes.specs.Seen.{AreSoles, seen, seen_key};

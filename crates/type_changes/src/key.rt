@@ -40,7 +40,7 @@ fn name_place(record: &[u8]) -> Option<usize>
 }
 
 /// Whether a definition has a unique name: bit 9 of its properties.
-#[tactic(auto, unfolding(crate::specs::Definition::has_unique_name, type_texts::specs::Field::number_in))]
+#[tactic(auto, unfolding(crate::specs::Definition::has_unique_name, type_expressions::specs::Field::number_in))]
 fn has_unique_name(record: &[u8]) -> bool
     requires { 4 ≤ length «record».now }
     ensures { result ≡ has_unique_name «record».now }

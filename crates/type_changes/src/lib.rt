@@ -4,7 +4,7 @@
 //! went or changed, and in which members, such as
 //! `~ structure "Address" size 8 -> 16` and `  -   0 member "ip" unsigned int`. A definition is
 //! known by its [`Key`]: what it defines, and its unique name, or its name where it has none. What
-//! is compared is the key and the text, which `type_texts` makes. So nothing is shown of two builds
+//! is compared is the key and the text, which `type_expressions` makes. So nothing is shown of two builds
 //! of one source that differ in what no text tells.
 //!
 //! What is proved: nothing is shown exactly where both lists have the same definitions

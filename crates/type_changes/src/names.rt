@@ -2,9 +2,9 @@
 
 ghost use Rattle.std.specs.Prelude.{◌≡◌, ◌≢◌, ◌<◌, ℕ, List, [], OnOk, IfOk, length, get_or};
 ghost use Rattle.std.specs.List.{Contains};
-ghost use Rattle.closed_trees.specs.Tree.{Tree};
-ghost use Rattle.closed_trees.specs.Types.{AreTypes};
-ghost use Rattle.type_texts.specs.Asked.{AreTrees};
+ghost use Rattle.type_trees.specs.Tree.{Tree};
+ghost use Rattle.type_trees.specs.Types.{AreTypes};
+ghost use Rattle.type_expressions.specs.Asked.{AreTrees};
 ghost use Rattle.type_changes.specs.Definition.{definitions, key_of};
 ghost use Rattle.type_changes.specs.Seen.{AreNoted};
 

@@ -2,9 +2,9 @@
 
 ghost use Rattle.std.specs.Prelude.{◌≡◌, ◌++◌, ℕ, List, map, filter, IfOk, OnOk, length};
 ghost use Rattle.std.specs.List.{AllByRecursion};
-ghost use Rattle.closed_trees.specs.Tree.{Tree, IsTreeAt};
-ghost use Rattle.type_texts.specs.Asked.{AreTrees};
-ghost use Rattle.type_texts.specs.Spans.{AreListed};
+ghost use Rattle.type_trees.specs.Tree.{Tree, IsTreeAt};
+ghost use Rattle.type_expressions.specs.Asked.{AreTrees};
+ghost use Rattle.type_expressions.specs.Spans.{AreListed};
 ghost use Rattle.type_changes.specs.Definition.{defined_by, definitions};
 ghost use Rattle.type_changes.specs.Lone.{HaveLone};
 ghost use Rattle.type_changes.specs.Seen.{IsInside, is_noted, seen, seen_at};
@@ -15,7 +15,7 @@ use crate::told::Told;
 use checked_types::Types;
 use std::alloc::{AllocError, Allocator};
 use std::hash::BuildHasher;
-use type_texts::{Lists, Parts, only_declares, push_definition};
+use type_expressions::{Lists, Parts, only_declares, push_definition};
 
 /// Where a definition stands in a text: the name by which it is known, and its text behind that.
 #[derive(Clone, Copy, Debug)]

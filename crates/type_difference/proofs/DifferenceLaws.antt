@@ -7,18 +7,18 @@ use Rattle.std.specs.List.{AllByRecursion, Contains}
 use Rattle.cv_leaves.specs.Checks.{places_of}
 use Rattle.cv_leaves.specs.References.{reference_at, references}
 use Rattle.topological_order.proofs.WalkLaws.{none_in}
-use Rattle.closed_trees.specs.Tree.{Tree, Branches, tree, no_branch, simple, branch, branches_of, trees_in, IsTreeAt, AreBranches, IsType, NamesLower}
-use Rattle.closed_trees.specs.Types.{AreTypes, NamesThere}
-use Rattle.closed_trees.specs.Table.{IsTable}
+use Rattle.type_trees.specs.Tree.{Tree, Branches, tree, no_branch, simple, branch, branches_of, trees_in, IsTreeAt, AreBranches, IsType, NamesLower}
+use Rattle.type_trees.specs.Types.{AreTypes, NamesThere}
+use Rattle.type_trees.specs.Table.{IsTable}
 use Rattle.canonical_list.specs.Numbers.{AreNumbers}
 use Rattle.type_difference.specs.Marks.{TellApart, IsMarked, AreMarks, MarkTypesOf, NamesMarked, IsStandingBy}
 use Rattle.type_difference.specs.Difference.{IsLacked, IsOrigin, HasStanding, DifferenceBegins}
 use Rattle.type_difference.specs.declared.standing.Standing.{Standing}
 use Rattle.type_difference.specs.declared.standing.Standing.TheVariants.{Shared, Again, Follows, Origin}
-use Rattle.closed_trees.proofs.TreeLaws.{one, tree_there, branches_are_types}
-use Rattle.closed_trees.proofs.SameLaws.{same_or_not, unlike}
-use Rattle.closed_trees.proofs.TableLaws.{table_is_set}
-use Rattle.closed_trees.proofs.NextLaws.{in_range}
+use Rattle.type_trees.proofs.TreeLaws.{one, tree_there, branches_are_types}
+use Rattle.type_trees.proofs.SameLaws.{same_or_not, unlike}
+use Rattle.type_trees.proofs.TableLaws.{table_is_set}
+use Rattle.type_trees.proofs.NextLaws.{in_range}
 use Rattle.tpi_records.specs.Header.{first_index}
 
 -- ---- Numbers

@@ -2,8 +2,8 @@
 -- Each record of a list is of one type, the tree at its position.
 use Rattle.std.specs.Prelude.{ℕ, ◌≡◌, ◌<◌, ◌≤◌, List, length, get_or}
 use Rattle.std.specs.List.{AllByRecursion}
-use Rattle.closed_trees.specs.Tree.{Tree, IsTreeAt, IsType, branches_of, trees_in}
-use Rattle.closed_trees.specs.Types.{AreTypes}
+use Rattle.type_trees.specs.Tree.{Tree, IsTreeAt, IsType, branches_of, trees_in}
+use Rattle.type_trees.specs.Types.{AreTypes}
 use Rattle.type_difference.specs.declared.standing.Standing.{Standing}
 use Rattle.type_difference.specs.declared.standing.Standing.TheVariants.{Shared, Again, Follows, Origin}
 

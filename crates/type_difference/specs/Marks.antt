@@ -2,7 +2,7 @@
 use Rattle.std.specs.Prelude.{ℕ, Bool, true, false, ◌≡◌, ◌-◌, ◌<◌, ◌⊎◌, ◌↔◌, List, length, get_or}
 use Rattle.std.specs.List.{AllByRecursion, Contains}
 use Rattle.cv_leaves.specs.References.{references}
-use Rattle.closed_trees.specs.Tree.{Tree, IsTreeAt, IsType}
+use Rattle.type_trees.specs.Tree.{Tree, IsTreeAt, IsType}
 use Rattle.type_difference.specs.declared.standing.Standing.{Standing}
 use Rattle.type_difference.specs.declared.standing.Standing.TheVariants.{Shared, Again, Follows, Origin}
 use Rattle.tpi_records.specs.Header.{first_index}

@@ -5,7 +5,7 @@
 //! that only numbers are compared.
 
 ghost use Rattle.std.specs.Prelude.{ℕ, List, IfOk, length};
-ghost use Rattle.closed_trees.specs.Depth.{AreBelow};
+ghost use Rattle.type_trees.specs.Depth.{AreBelow};
 ghost use Rattle.type_difference.specs.Difference.{HaveStandings};
 ghost use Rattle.type_difference.specs.Marks.{TellApart, MarkTypesOf};
 

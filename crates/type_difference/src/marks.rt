@@ -5,8 +5,8 @@ ghost use Rattle.std.specs.List.{AllByRecursion};
 ghost use Rattle.tpi_records.specs.Records.{IsRecord};
 ghost use Rattle.cv_leaves.specs.Place.{IsChecked};
 ghost use Rattle.cv_leaves.specs.References.{references};
-ghost use Rattle.closed_trees.specs.Types.{NamesThere};
-ghost use Rattle.closed_trees.specs.Depth.{AreBelow};
+ghost use Rattle.type_trees.specs.Types.{NamesThere};
+ghost use Rattle.type_trees.specs.Depth.{AreBelow};
 ghost use Rattle.type_difference.specs.Marks.{AreMarks, NamesMarked, IsStandingBy};
 
 use crate::standing::Standing;

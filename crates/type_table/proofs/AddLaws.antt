@@ -10,22 +10,22 @@ use Rattle.tpi_records.specs.Records.{IsRecord}
 use Rattle.cv_leaves.specs.Place.{IsChecked}
 use Rattle.text_set.specs.TextSet.{Holds}
 use Rattle.cv_leaves.specs.References.{references, blanked, filled}
-use Rattle.closed_trees.specs.Tree.{Tree, Branches, tree, no_branch, simple, branch, nothing, IsTreeAt, AreBranches, IsType, IsRanked, NamesLower}
-use Rattle.closed_trees.specs.Canon.{weight}
+use Rattle.type_trees.specs.Tree.{Tree, Branches, tree, no_branch, simple, branch, nothing, IsTreeAt, AreBranches, IsType, IsRanked, NamesLower}
+use Rattle.type_trees.specs.Canon.{weight}
 use Rattle.byte_fields.specs.Bytes.{AreBytes}
-use Rattle.closed_trees.specs.Table.{IsTable, IsUnion, renumber, renumbered}
+use Rattle.type_trees.specs.Table.{IsTable, IsUnion, renumber, renumbered}
 use Rattle.canonical_list.specs.Numbers.{AreNumbers}
 use Rattle.type_table.specs.Maps.{with_map}
 use Rattle.type_table.specs.Merge.{StartsWith, IsAdded, IsAddedWithin}
 use Rattle.type_table.specs.declared.fault.JoinFault.TheVariants as JoinFault
 use Rattle.text_set.proofs.TextSetLaws.{four_each}
 use Rattle.cv_leaves.proofs.FilledLaws.{filled_checked, filled_framed, filled_read}
-use Rattle.closed_trees.proofs.TreeLaws.{one}
-use Rattle.closed_trees.proofs.WeightLaws.{concat_push}
+use Rattle.type_trees.proofs.TreeLaws.{one}
+use Rattle.type_trees.proofs.WeightLaws.{concat_push}
 use Rattle.checked_types.proofs.OrderLaws.{NamesDone}
-use Rattle.closed_trees.proofs.TableLaws.{stands_still, renumbered_stands, renumber-each, renumber-none, renumber-simple, renumber-named, EachNamed}
+use Rattle.type_trees.proofs.TableLaws.{stands_still, renumbered_stands, renumber-each, renumber-none, renumber-simple, renumber-named, EachNamed}
 use Rattle.type_table.proofs.PushLaws.{table_grows}
-use Rattle.closed_trees.proofs.NextLaws.{in_range, trees_of_table, table_weight, apart_of_table}
+use Rattle.type_trees.proofs.NextLaws.{in_range, trees_of_table, table_weight, apart_of_table}
 use Rattle.tpi_records.specs.Header.{first_index}
 
 -- `after` is a table that begins with `before` and also has the types of the records that are done, and f gives the position of each of these in it

@@ -6,16 +6,16 @@ use Rattle.std.proofs.lemmas.List.{take_more, get_or-take, length-take-le, get_o
 use Rattle.std.specs.List.{All, AllPairs, concat}
 use Rattle.packed_texts.specs.PackedTexts.{texts_at}
 use Rattle.text_set.specs.TextSet.{Holds}
-use Rattle.closed_trees.specs.Tree.{Tree, nothing, IsType}
-use Rattle.closed_trees.specs.Canon.{text, texts, Canonical}
+use Rattle.type_trees.specs.Tree.{Tree, nothing, IsType}
+use Rattle.type_trees.specs.Canon.{text, texts, Canonical}
 use Rattle.byte_fields.specs.Bytes.{AreBytes}
-use Rattle.closed_trees.specs.Table.{IsTable}
+use Rattle.type_trees.specs.Table.{IsTable}
 use Rattle.canonical_list.specs.Finish.{IsCanon, IsCanonOf}
 use Rattle.type_table.proofs.AddLaws.{starts_same}
 use Rattle.canonical_list.proofs.FinishLaws.{nothing_listed}
-use Rattle.closed_trees.proofs.ReadLaws.{few, holds, canonical_reads_back}
-use Rattle.closed_trees.proofs.TextLaws.{texts_differ}
-use Rattle.closed_trees.proofs.WeightLaws.{weight_of_texts}
+use Rattle.type_trees.proofs.ReadLaws.{few, holds, canonical_reads_back}
+use Rattle.type_trees.proofs.TextLaws.{texts_differ}
+use Rattle.type_trees.proofs.WeightLaws.{weight_of_texts}
 
 pub no_canon : IsCanon []
 no_canon = record { trees = []; canonical = nothing_listed.0; are = refl; table = nothing_listed.3 }

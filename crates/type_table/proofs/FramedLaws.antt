@@ -10,13 +10,13 @@ use Rattle.tpi_records.specs.Records.{IsRecord, Begins, BeginsWith}
 use Rattle.tpi_records.proofs.FramingLaws.{begins_next}
 use Rattle.cv_leaves.specs.Place.{IsChecked}
 use Rattle.cv_leaves.specs.References.{references}
-use Rattle.closed_trees.specs.Tree.{IsRanked}
-use Rattle.closed_trees.specs.Types.{AreTypes, NamesThere}
-use Rattle.closed_trees.specs.Table.{IsTable, renumbered}
-use Rattle.closed_trees.proofs.NextLaws.{in_range}
-use Rattle.closed_trees.proofs.TreeLaws.{tree_there}
-use Rattle.closed_trees.proofs.TableLaws.{stands_still}
-use Rattle.closed_trees.proofs.RenumberLaws.{renumbered_long}
+use Rattle.type_trees.specs.Tree.{IsRanked}
+use Rattle.type_trees.specs.Types.{AreTypes, NamesThere}
+use Rattle.type_trees.specs.Table.{IsTable, renumbered}
+use Rattle.type_trees.proofs.NextLaws.{in_range}
+use Rattle.type_trees.proofs.TreeLaws.{tree_there}
+use Rattle.type_trees.proofs.TableLaws.{stands_still}
+use Rattle.type_trees.proofs.RenumberLaws.{renumbered_long}
 use Rattle.checked_types.proofs.CheckLaws.{by_position, lower_names}
 use Rattle.checked_types.proofs.OrderLaws.{NamesDone}
 use Rattle.type_table.specs.Merge.{IsPut, AreFramedAdded}

@@ -15,13 +15,13 @@ use Rattle.cv_leaves.proofs.PlaceLaws.{ends_behind}
 use Rattle.cv_leaves.proofs.FillLaws.{fits}
 use Rattle.cv_leaves.proofs.FilledLaws.{own_places, filled_checked, filled_places, filled_twice, fill_blanked, own_fill, reference_each}
 use Rattle.tpi_records.specs.Header.{first_index}
-use Rattle.closed_trees.specs.Types.{NamesThere}
+use Rattle.type_trees.specs.Types.{NamesThere}
 use Rattle.tpi_records.specs.Records.{IsRecord}
 use Rattle.cv_leaves.specs.Named.{named_among, named_places}
-use Rattle.closed_trees.specs.Table.{IsTable, renumber, renumber_one, renumbered}
-use Rattle.closed_trees.proofs.RenumberLaws.{simple_number}
+use Rattle.type_trees.specs.Table.{IsTable, renumber, renumber_one, renumbered}
+use Rattle.type_trees.proofs.RenumberLaws.{simple_number}
 use Rattle.cv_leaves.proofs.ListLaws.{named-none}
-use Rattle.closed_trees.proofs.NamedLaws.{named-simple, named-kept, named_apart}
+use Rattle.type_trees.proofs.NamedLaws.{named-simple, named-kept, named_apart}
 
 -- ---- agreement outside the places
 

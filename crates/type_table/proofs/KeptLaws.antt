@@ -1,11 +1,11 @@
 -- How the depths of a table are kept as records come.
 use Rattle.std.proofs.Common.{◌≡◌, ◌≤◌, ◌<◌, ◌^◌, ℕ, List, [], ◌∷◌, ◌++◌, length, drop, get_or, sym, subst, arith}
 use Rattle.cv_leaves.specs.References.{references}
-use Rattle.closed_trees.specs.Tree.{IsTreeAt, IsRanked}
-use Rattle.closed_trees.specs.Depth.{depth_above, KnowsDepths, HasDepths, AreBelow}
+use Rattle.type_trees.specs.Tree.{IsTreeAt, IsRanked}
+use Rattle.type_trees.specs.Depth.{depth_above, KnowsDepths, HasDepths, AreBelow}
 use Rattle.type_table.specs.Merge.{StartsWith}
-use Rattle.closed_trees.specs.Table.{IsTable}
-use Rattle.closed_trees.proofs.DepthLaws.{depths_more, bounded_more}
+use Rattle.type_trees.specs.Table.{IsTable}
+use Rattle.type_trees.proofs.DepthLaws.{depths_more, bounded_more}
 use Rattle.type_table.proofs.AddLaws.{starts_whole, stands_within}
 
 -- no depths are the depths of the first none

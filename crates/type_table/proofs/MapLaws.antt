@@ -4,11 +4,11 @@ use Rattle.std.proofs.lemmas.Bool.{cases_lt}
 use Rattle.std.proofs.lemmas.List.{get_or-set_same, get_or-set_other, get_or-map, get_or_past, get_or_append_left, length-map, ext_get_or}
 use Rattle.std.proofs.Math.Seq.{get_or-append_seam}
 use Rattle.canonical_list.specs.Numbers.{AreNumbers}
-use Rattle.closed_trees.specs.Tree.{IsTreeAt, IsRanked}
-use Rattle.closed_trees.specs.Depth.{AreBelow}
-use Rattle.closed_trees.proofs.TreeLaws.{tree_there}
-use Rattle.closed_trees.proofs.NextLaws.{in_range}
-use Rattle.closed_trees.proofs.TableLaws.{stands_still}
+use Rattle.type_trees.specs.Tree.{IsTreeAt, IsRanked}
+use Rattle.type_trees.specs.Depth.{AreBelow}
+use Rattle.type_trees.proofs.TreeLaws.{tree_there}
+use Rattle.type_trees.proofs.NextLaws.{in_range}
+use Rattle.type_trees.proofs.TableLaws.{stands_still}
 use Rattle.type_table.specs.Maps.{IsMap, followed_by}
 use Rattle.type_table.specs.Merge.{StartsWith, IsAdded}
 use Rattle.type_table.proofs.AddLaws.{starts_whole}

@@ -10,11 +10,11 @@ use Rattle.tpi_records.specs.Header.{first_index}
 use Rattle.tpi_records.specs.Records.{IsRecord}
 use Rattle.cv_leaves.specs.Place.{IsChecked}
 use Rattle.cv_leaves.specs.References.{references}
-use Rattle.closed_trees.specs.Types.{AreTypes}
-use Rattle.closed_trees.specs.Table.{IsTable, AreNumbered, renumbered}
-use Rattle.closed_trees.proofs.TreeLaws.{at_position, tree_there}
-use Rattle.closed_trees.proofs.RenumberLaws.{renumbered_long}
-use Rattle.closed_trees.proofs.NextLaws.{in_range}
+use Rattle.type_trees.specs.Types.{AreTypes}
+use Rattle.type_trees.specs.Table.{IsTable, AreNumbered, renumbered}
+use Rattle.type_trees.proofs.TreeLaws.{at_position, tree_there}
+use Rattle.type_trees.proofs.RenumberLaws.{renumbered_long}
+use Rattle.type_trees.proofs.NextLaws.{in_range}
 use Rattle.checked_types.specs.Graph.{graph_of}
 use Rattle.checked_types.proofs.OrderLaws.{NamesDone, next_in_order, order_lists, order_weighs}
 use Rattle.type_table.specs.Merge.{IsPut, IsAdded}

@@ -9,9 +9,9 @@ use Rattle.std.proofs.Math.Seq.{get_or-append_seam}
 use Rattle.cv_leaves.specs.References.{references}
 use Rattle.cv_leaves.specs.Place.{IsChecked}
 use Rattle.tpi_records.specs.Records.{IsRecord}
-use Rattle.closed_trees.specs.Tree.{NamesLower}
+use Rattle.type_trees.specs.Tree.{NamesLower}
 use Rattle.byte_fields.specs.Bytes.{AreBytes}
-use Rattle.closed_trees.specs.Table.{IsTable}
+use Rattle.type_trees.specs.Table.{IsTable}
 use Rattle.tpi_records.specs.Header.{first_index}
 use Rattle.canonical_list.proofs.FinishLaws.{nothing_listed}
 

@@ -1,6 +1,6 @@
 -- The maps of inputs: the number of each of their records.
 use Rattle.std.specs.Prelude.{ℕ, ◌≡◌, ◌<◌, ◌^◌, List, [], ◌∷◌, ◌++◌, Option, Some, None, length, map, get_or}
-use Rattle.closed_trees.specs.Depth.{AreBelow}
+use Rattle.type_trees.specs.Depth.{AreBelow}
 use Rattle.canonical_list.specs.Numbers.{AreNumbers}
 
 -- this can be the map of an input: it is not too long, and its numbers are not too great

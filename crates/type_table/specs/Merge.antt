@@ -9,10 +9,10 @@ use Rattle.tpi_records.specs.Records.{Begins, HasRecords}
 use Rattle.cv_leaves.specs.Place.{IsChecked}
 use Rattle.cv_leaves.specs.References.{references}
 use Rattle.cv_leaves.specs.Named.{named_places}
-use Rattle.closed_trees.specs.Tree.{Tree, IsType}
-use Rattle.closed_trees.specs.Types.{AreTypes, NamesThere}
-use Rattle.closed_trees.specs.Table.{IsTable, IsUnion, renumbered}
-use Rattle.closed_trees.specs.Canon.{weight}
+use Rattle.type_trees.specs.Tree.{Tree, IsType}
+use Rattle.type_trees.specs.Types.{AreTypes, NamesThere}
+use Rattle.type_trees.specs.Table.{IsTable, IsUnion, renumbered}
+use Rattle.type_trees.specs.Canon.{weight}
 
 -- the list begins with `front`
 abbrev pub StartsWith : {A : Type 0} → List A → List A → Type 0

@@ -11,20 +11,20 @@ ghost use Rattle.tpi_records.specs.Records.{IsRecord};
 ghost use Rattle.cv_leaves.specs.Place.{IsChecked};
 ghost use Rattle.cv_leaves.specs.References.{references};
 ghost use Rattle.byte_fields.specs.Bytes.{AreBytes};
-ghost use Rattle.closed_trees.specs.Table.{IsTable, AreNumbered};
-ghost use Rattle.closed_trees.specs.Types.{AreTypes};
+ghost use Rattle.type_trees.specs.Table.{IsTable, AreNumbered};
+ghost use Rattle.type_trees.specs.Types.{AreTypes};
 ghost use Rattle.type_table.specs.Merge.{StartsWith, IsPut, IsAdded, AreFramedAdded};
 ghost use Rattle.canonical_list.specs.Numbers.{AreNumbers};
 
 use crate::becomes::is_at;
 use checked_types::{Types, record_at};
-use closed_trees::renumber_in_place;
 use cv_leaves::list_places;
 use record_set::RecordSet;
 use std::alloc::{AllocError, Allocator};
 use std::hash::BuildHasher;
 use text_set::Change;
 use tpi_records::{FIRST_INDEX, first_record};
+use type_trees::renumber_in_place;
 
 /// Each number of a `&[u8]` is a byte. This function does nothing: its contract is the fact.
 pub fn are_bytes(text: &[u8])
@@ -46,7 +46,7 @@ impl Change for Renumbering<'_> {
     ghost use Rattle.cv_leaves.specs.Place.{IsChecked};
     ghost use Rattle.cv_leaves.specs.References.{references};
     ghost use Rattle.cv_leaves.specs.Named.{named_places};
-    ghost use Rattle.closed_trees.specs.Table.{AreNumbered};
+    ghost use Rattle.type_trees.specs.Table.{AreNumbered};
     ghost use Rattle.type_table.specs.Merge.{IsRenumbered};
 
     ghost takes = { λ change r.
@@ -114,7 +114,7 @@ impl<A: Allocator> Workspace<A> {
 /// where the record is looked for first. Unless a position is returned, the set stays as it was.
 // Two loops call this for each record, and one of them is seldom used.
 #[inline(always)]
-#[tactic(auto, using(closed_trees::proofs::RenumberLaws::padded_record, closed_trees::proofs::RenumberLaws::long_record, closed_trees::proofs::RenumberLaws::renumbered_long, closed_trees::proofs::NamedLaws::listed_short))]
+#[tactic(auto, using(type_trees::proofs::RenumberLaws::padded_record, type_trees::proofs::RenumberLaws::long_record, type_trees::proofs::RenumberLaws::renumbered_long, type_trees::proofs::NamedLaws::listed_short))]
 fn put_record<S: BuildHasher, A: Allocator>(
     records: &mut RecordSet<S, A>,
     places: &mut Vec<u16, A>,

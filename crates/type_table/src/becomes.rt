@@ -10,15 +10,15 @@ ghost use Rattle.tpi_records.specs.Records.{IsRecord};
 ghost use Rattle.cv_leaves.specs.Place.{IsChecked};
 ghost use Rattle.cv_leaves.specs.References.{reference_at, references};
 ghost use Rattle.byte_fields.specs.Bytes.{AreBytes};
-ghost use Rattle.closed_trees.specs.Types.{NamesThere};
+ghost use Rattle.type_trees.specs.Types.{NamesThere};
 ghost use Rattle.cv_leaves.specs.Named.{named_places};
-ghost use Rattle.closed_trees.specs.Table.{IsTable, renumber_one, renumbered};
+ghost use Rattle.type_trees.specs.Table.{IsTable, renumber_one, renumbered};
 
-use closed_trees::number_for;
 use cv_leaves::ref_at;
 use record_set::RecordSet;
 use std::alloc::Allocator;
 use std::hash::BuildHasher;
+use type_trees::number_for;
 
 /// Whether two slices have the same bytes from one offset to another.
 fn same_part(one: &[u8], other: &[u8], from: usize, to: usize) -> bool

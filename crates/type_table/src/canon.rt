@@ -4,9 +4,9 @@ ghost use Rattle.std.specs.Prelude.{◌≡◌, ◌⊎◌, ◌↔◌, ◌<◌, �
 ghost use Rattle.std.specs.List.{concat};
 ghost use Rattle.tpi_records.specs.Records.{IsRecord};
 ghost use Rattle.cv_leaves.specs.Place.{IsChecked};
-ghost use Rattle.closed_trees.specs.Tree.{Tree, IsType};
-ghost use Rattle.closed_trees.specs.Canon.{weight};
-ghost use Rattle.closed_trees.specs.Table.{IsUnion};
+ghost use Rattle.type_trees.specs.Tree.{Tree, IsType};
+ghost use Rattle.type_trees.specs.Canon.{weight};
+ghost use Rattle.type_trees.specs.Table.{IsUnion};
 ghost use Rattle.canonical_list.specs.Finish.{IsCanon, IsCanonOf};
 
 use crate::canon_records::CanonRecords;

@@ -12,7 +12,7 @@
 //! What is proved: a table and a canonical list hold exactly the types that were put into them. A
 //! union that is refused as too large has more bytes than the limit, and the fault has their
 //! number. [`Table::add_stream`] adds only records that make types (`AreTypes` of
-//! `closed_trees`).
+//! `type_trees`).
 //!
 //! # Example
 //!

@@ -1,7 +1,7 @@
 //! The maps of inputs: where each of their records went.
 
 ghost use Rattle.std.specs.Prelude.{◌≡◌, ◌↔◌, ◌<◌, ◌^◌, IsTrue, [], ℕ, List, Option, Some, None, length, get_or, IfOk, IfErr, IfSome};
-ghost use Rattle.closed_trees.specs.Depth.{AreBelow};
+ghost use Rattle.type_trees.specs.Depth.{AreBelow};
 ghost use Rattle.type_table.specs.Maps.{IsMap, kept_maps, with_map, followed_by, maps_followed_by};
 
 use std::alloc::{AllocError, Allocator, Global};

@@ -2,8 +2,8 @@
 
 ghost use Rattle.std.specs.Prelude.{◌+◌, ◌^◌, ◌<◌, length, IfOk};
 ghost use Rattle.std.specs.List.{concat};
-ghost use Rattle.closed_trees.specs.Table.{IsTable};
-ghost use Rattle.closed_trees.specs.Types.{AreTypes};
+ghost use Rattle.type_trees.specs.Table.{IsTable};
+ghost use Rattle.type_trees.specs.Types.{AreTypes};
 ghost use Rattle.type_table.specs.Merge.{StartsWith, IsAdded};
 ghost use Rattle.canonical_list.specs.Numbers.{AreNumbers};
 

@@ -2,11 +2,11 @@
 
 ghost use Rattle.std.specs.Prelude.{◌≡◌, ◌⊎◌, ◌↔◌, ◌+◌, ◌-◌, ◌^◌, ◌<◌, ◌≤◌, [], ℕ, List, IsTrue, length, take, OnOk, IfOk, IfErr};
 ghost use Rattle.std.specs.List.{concat};
-ghost use Rattle.closed_trees.specs.Tree.{Tree, IsType};
-ghost use Rattle.closed_trees.specs.Canon.{weight};
-ghost use Rattle.closed_trees.specs.Depth.{HasDepths};
+ghost use Rattle.type_trees.specs.Tree.{Tree, IsType};
+ghost use Rattle.type_trees.specs.Canon.{weight};
+ghost use Rattle.type_trees.specs.Depth.{HasDepths};
 ghost use Rattle.record_set.specs.RecordSet.{HasNamedPlaces};
-ghost use Rattle.closed_trees.specs.Table.{IsTable, IsUnion};
+ghost use Rattle.type_trees.specs.Table.{IsTable, IsUnion};
 ghost use Rattle.type_table.specs.MeasuredTable.{IsMeasuredTable};
 ghost use Rattle.packed_texts.specs.PackedTexts.{texts_at, IsOrder};
 ghost use Rattle.type_table.specs.Maps.{AreFollowed};

@@ -1,14 +1,14 @@
 //! The depths of the records of a table, which are kept as the records come.
 
 ghost use Rattle.std.specs.Prelude.{◌≤◌, ◌<◌, ◌^◌, length, IfOk};
-ghost use Rattle.closed_trees.specs.Depth.{KnowsDepths, HasDepths};
+ghost use Rattle.type_trees.specs.Depth.{KnowsDepths, HasDepths};
 ghost use Rattle.type_table.specs.Merge.{StartsWith};
-ghost use Rattle.closed_trees.specs.Table.{IsTable};
+ghost use Rattle.type_trees.specs.Table.{IsTable};
 
-use closed_trees::depth_of;
 use record_set::RecordSet;
 use std::alloc::{AllocError, Allocator};
 use std::hash::BuildHasher;
+use type_trees::depth_of;
 
 /// Appends the depths of the records that came after the last one that was measured.
 ///

@@ -1,8 +1,8 @@
 use Rattle.std.proofs.Common.{◌≡◌, ℕ, ap, arith, length, get_or, replicate, rules}
 use Rattle.std.proofs.lemmas.List.{length-map, length-replicate, with_items_is}
-use Rattle.closed_trees.specs.Depth.{HasLevels}
-use Rattle.closed_trees.proofs.TreeLaws.{tree_there}
-use Rattle.closed_trees.proofs.DepthLaws.{levels_counted}
+use Rattle.type_trees.specs.Depth.{HasLevels}
+use Rattle.type_trees.proofs.TreeLaws.{tree_there}
+use Rattle.type_trees.proofs.DepthLaws.{levels_counted}
 use Rattle.canonical_list.specs.Rows.{positions}
 use Rattle.canonical_list.specs.Finish.{AtLevel}
 use Rattle.canonical_list.proofs.LinkLaws.{zeros_small}

@@ -1,7 +1,7 @@
 use Rattle.std.proofs.Common.{◌≡◌, ◌∙◌, ℕ, [], ap, get_or, length, set}
 use Rattle.packed_texts.proofs.WrittenLaws.{written_text}
-use Rattle.closed_trees.specs.Table.{renumbered}
-use Rattle.closed_trees.proofs.RenumberLaws.{renumbered_long}
+use Rattle.type_trees.specs.Table.{renumbered}
+use Rattle.type_trees.proofs.RenumberLaws.{renumbered_long}
 use Rattle.canonical_list.proofs.order.put_row.Goals as goal
 
 pub returns : goal.returns

@@ -1,9 +1,9 @@
 use Rattle.std.proofs.Common.{◌≡◌, ◌∷◌, ◌∙◌, ◌+◌, ◌<◌, ◌≤◌, length, ap, arith, sym, rules}
 use Rattle.byte_fields.specs.Check.{first_failing}
 use Rattle.checked_types.specs.Check.{reference_checks}
-use Rattle.closed_trees.proofs.WalkLaws.{own_fit, each_other}
+use Rattle.type_trees.proofs.WalkLaws.{own_fit, each_other}
 use Rattle.checked_types.proofs.CheckLaws.{own_references, reference_fails, reference_held}
-use Rattle.closed_trees.proofs.DepthLaws.{above_all, above_whole}
+use Rattle.type_trees.proofs.DepthLaws.{above_all, above_whole}
 use Rattle.checked_types.proofs.DeepLaws.{deep_more, if_some}
 use Rattle.checked_types.proofs.check.check_references.Goals as goal
 use Rattle.tpi_records.specs.Header.{first_index}

@@ -3,9 +3,9 @@ use Rattle.std.specs.List.{concat}
 use Rattle.std.proofs.lemmas.List.{length_push, take_all, map_more}
 use Rattle.cv_leaves.specs.Place.{IsChecked}
 use Rattle.checked_types.specs.Graph.{named_by}
-use Rattle.closed_trees.proofs.TreeLaws.{at_position}
-use Rattle.closed_trees.proofs.DepthLaws.{next_record, all_records}
-use Rattle.closed_trees.proofs.WeightLaws.{concat_push}
+use Rattle.type_trees.proofs.TreeLaws.{at_position}
+use Rattle.type_trees.proofs.DepthLaws.{next_record, all_records}
+use Rattle.type_trees.proofs.WeightLaws.{concat_push}
 use Rattle.checked_types.proofs.GraphLaws.{still_short}
 use Rattle.checked_types.proofs.graph.graph_of.Goals as goal
 

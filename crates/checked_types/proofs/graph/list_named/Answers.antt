@@ -1,7 +1,7 @@
 use Rattle.std.proofs.Common.{◌≡◌, ◌≤◌, ◌+◌, ◌<◌, ◌∷◌, [], ◌∙◌, arith, length, rules, inl, inr}
 use Rattle.std.proofs.lemmas.Bool.{cases_lt}
 use Rattle.cv_leaves.specs.References.{reference_at}
-use Rattle.closed_trees.proofs.WalkLaws.{own_fit, each_other}
+use Rattle.type_trees.proofs.WalkLaws.{own_fit, each_other}
 use Rattle.checked_types.proofs.GraphLaws.{named_all, named_simple, named_more, named_whole}
 use Rattle.checked_types.proofs.graph.list_named.Goals as goal
 use Rattle.tpi_records.specs.Header.{first_index}

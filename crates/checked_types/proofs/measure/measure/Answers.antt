@@ -1,9 +1,9 @@
 use Rattle.std.proofs.Common.{◌≡◌, [], length, replicate, get_or, ◌∙◌, arith, rules}
 use Rattle.cv_leaves.specs.Place.{IsChecked}
 use Rattle.cv_leaves.specs.References.{references}
-use Rattle.closed_trees.specs.Depth.{depth_above}
+use Rattle.type_trees.specs.Depth.{depth_above}
 use Rattle.checked_types.specs.Order.{order_list}
-use Rattle.closed_trees.proofs.TreeLaws.{at_position}
+use Rattle.type_trees.proofs.TreeLaws.{at_position}
 use Rattle.checked_types.proofs.MeasureLaws.{measuring_starts, measuring_inside, measuring_names, measuring_small, measuring_more, all_measured}
 use Rattle.checked_types.proofs.measure.measure.Goals as goal
 

@@ -1,12 +1,12 @@
 use Rattle.std.proofs.Common.{◌≡◌, ◌≤◌, ◌∷◌, ◌∙◌, ◌<◌, ℕ, get_or, sym, ap, arith, length, rules}
 use Rattle.cv_leaves.specs.References.{references}
-use Rattle.closed_trees.specs.Depth.{depth_above, AreBelow}
-use Rattle.closed_trees.specs.Types.{NamesThere}
+use Rattle.type_trees.specs.Depth.{depth_above, AreBelow}
+use Rattle.type_trees.specs.Types.{NamesThere}
 use Rattle.std.proofs.lemmas.Result.{err_from_is_err_and}
 use Rattle.tpi_records.specs.Records.{IsRecord}
 use Rattle.cv_leaves.proofs.TestLaws.{and_both}
 use Rattle.checked_types.proofs.CheckLaws.{record_held, record_fails, no_records}
-use Rattle.closed_trees.proofs.WalkLaws.{each_other}
+use Rattle.type_trees.proofs.WalkLaws.{each_other}
 use Rattle.checked_types.proofs.DeepLaws.{next_left, walk_more, low_more, walk_ends, walk_measured}
 use Rattle.checked_types.proofs.types.check_all.Goals as goal
 

@@ -3,7 +3,7 @@ use Rattle.std.specs.List.{AllByRecursion}
 use Rattle.byte_fields.specs.Check.{first_failing}
 use Rattle.tpi_records.specs.Records.{IsRecord}
 use Rattle.checked_types.specs.Check.{type_checks_from, checks_of}
-use Rattle.closed_trees.specs.Depth.{AreBelow}
+use Rattle.type_trees.specs.Depth.{AreBelow}
 use Rattle.checked_types.proofs.DeepLaws.{IsWalked}
 use Rattle.checked_types.proofs.types.check_all.Given as goal
 

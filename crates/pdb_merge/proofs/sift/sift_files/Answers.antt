@@ -1,6 +1,6 @@
 use Rattle.std.proofs.Common.{◌≡◌, ◌∙◌, ◌≤◌, [], refl, arith}
 use Rattle.std.proofs.lemmas.Result.{err_from_is_err_and}
-use Rattle.closed_trees.specs.Tree.{IsType}
+use Rattle.type_trees.specs.Tree.{IsType}
 use Rattle.pdb_info.specs.Settings.{record_limit}
 use Rattle.pdb_merge.proofs.InputLaws.{every_read, take_given}
 use Rattle.pdb_merge.proofs.ReadBackLaws.{canon_within}

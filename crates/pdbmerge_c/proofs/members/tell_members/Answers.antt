@@ -1,7 +1,7 @@
 use Rattle.std.proofs.Common.{inr, refl}
 use Rattle.std.proofs.lemmas.Result.{err_from_is_err_and}
 use Rattle.msf_blocks.proofs.FoundLaws.{layout_holds}
-use Rattle.type_texts.proofs.AskedLaws.{all_trees}
+use Rattle.type_expressions.proofs.AskedLaws.{all_trees}
 use Rattle.pdbmerge_c.proofs.members.tell_members.Goals as goal
 
 pub returns-in_err-types-clause-found : goal.returns-in_err-types-clause-found

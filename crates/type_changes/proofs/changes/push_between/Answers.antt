@@ -1,5 +1,5 @@
 use Rattle.std.proofs.Common.{map}
-use Rattle.type_texts.proofs.TellLaws.{on_ok}
+use Rattle.type_expressions.proofs.TellLaws.{on_ok}
 use Rattle.type_changes.specs.Seen.{seen}
 use Rattle.type_changes.proofs.ChangeLaws.{both_shown}
 use Rattle.type_changes.proofs.changes.push_between.Goals as goal

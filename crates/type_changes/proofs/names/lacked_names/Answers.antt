@@ -1,5 +1,5 @@
 use Rattle.std.proofs.Common.{List, ℕ}
-use Rattle.closed_trees.specs.Types.{AreTypes}
+use Rattle.type_trees.specs.Types.{AreTypes}
 use Rattle.type_changes.proofs.TypeLaws.{lacked_noted}
 use Rattle.type_changes.proofs.names.lacked_names.Goals as goal
 

@@ -4,7 +4,7 @@ use Rattle.std.specs.List.{Contains}
 use Rattle.indexmap.proofs.CallerLemmas.{Contains-insert_key}
 use Rattle.std.proofs.lemmas.Bool.{eqb-true}
 use Rattle.type_difference.specs.declared.standing.Standing.TheVariants.{Shared}
-use Rattle.type_texts.proofs.AskedLaws.{next_checked}
+use Rattle.type_expressions.proofs.AskedLaws.{next_checked}
 use Rattle.type_changes.specs.Definition.{Key, key_of}
 use Rattle.type_changes.proofs.NameLaws.{kept_insert, next_holds}
 use Rattle.type_changes.proofs.names.note_lacked.Goals as goal

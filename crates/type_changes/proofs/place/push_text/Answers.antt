@@ -2,10 +2,10 @@ use Rattle.std.proofs.Common.{rules, ◌≡◌, ◌∷◌, ◌++◌, ◌∙◌, 
 use Rattle.std.specs.Prelude.{Some, None, nat_eq, slice_get}
 use Rattle.std.specs.List.{list_any}
 use Rattle.std.proofs.lemmas.List.{append-nil, append_assoc, length-append}
-use Rattle.type_texts.specs.Definition.{definition_text, only_declares}
-use Rattle.type_texts.proofs.BranchLaws.{got, gone}
-use Rattle.type_texts.proofs.LinesLaws.{stands_inside}
-use Rattle.type_texts.proofs.SpanLaws.{spans_grow}
+use Rattle.type_expressions.specs.Definition.{definition_text, only_declares}
+use Rattle.type_expressions.proofs.BranchLaws.{got, gone}
+use Rattle.type_expressions.proofs.LinesLaws.{stands_inside}
+use Rattle.type_expressions.proofs.SpanLaws.{spans_grow}
 use Rattle.type_changes.specs.Definition.{Definition, Key, key_of}
 use Rattle.type_changes.specs.Seen.{is_noted, seen_at}
 use Rattle.type_changes.specs.declared.place.Place.{Place}

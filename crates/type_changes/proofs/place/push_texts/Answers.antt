@@ -1,7 +1,7 @@
 use Rattle.std.proofs.Common.{◌<◌, ◌∙◌, ◌++◌, List, ℕ, length, get_or, arith, ap}
 use Rattle.std.proofs.lemmas.List.{append_assoc}
-use Rattle.closed_trees.specs.Tree.{nothing}
-use Rattle.closed_trees.proofs.TreeLaws.{tree_there}
+use Rattle.type_trees.specs.Tree.{nothing}
+use Rattle.type_trees.proofs.TreeLaws.{tree_there}
 use Rattle.type_changes.proofs.PlaceLaws.{told_next, told_ends}
 use Rattle.type_changes.proofs.place.push_texts.Goals as goal
 

@@ -1,8 +1,8 @@
 use Rattle.std.proofs.Common.{◌≡◌, ◌++◌, ℕ, List, map, filter, drop, length}
 use Rattle.std.specs.List.{AllByRecursion}
-use Rattle.closed_trees.specs.Tree.{Tree}
-use Rattle.type_texts.specs.Asked.{AreTrees}
-use Rattle.type_texts.specs.Spans.{AreListed}
+use Rattle.type_trees.specs.Tree.{Tree}
+use Rattle.type_expressions.specs.Asked.{AreTrees}
+use Rattle.type_expressions.specs.Spans.{AreListed}
 use Rattle.type_changes.specs.Definition.{definitions}
 use Rattle.type_changes.specs.Seen.{IsInside, is_noted, seen_at}
 use Rattle.type_changes.proofs.place.push_texts.Given as goal

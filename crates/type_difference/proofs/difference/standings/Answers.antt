@@ -1,6 +1,6 @@
 use Rattle.std.proofs.Common.{◌≡◌, ◌+◌, ◌<◌, ◌∷◌, ◌++◌, [], ◌∙◌, ℕ, get_or, ap, arith, length, refl, rules}
 use Rattle.std.proofs.lemmas.List.{length-set, length-append}
-use Rattle.closed_trees.proofs.DepthLaws.{next_record, all_records}
+use Rattle.type_trees.proofs.DepthLaws.{next_record, all_records}
 use Rattle.type_difference.proofs.DifferenceLaws.{marks_more, standing_is, standings_more, names_there}
 use Rattle.type_difference.proofs.difference.standings.Goals as goal
 

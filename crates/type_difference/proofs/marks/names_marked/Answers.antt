@@ -1,6 +1,6 @@
 use Rattle.std.proofs.Common.{◌≡◌, ◌+◌, ◌<◌, ◌∙◌, length, rules}
 use Rattle.type_difference.specs.Marks.{NamesMarked}
-use Rattle.closed_trees.proofs.WalkLaws.{own_fit}
+use Rattle.type_trees.proofs.WalkLaws.{own_fit}
 use Rattle.type_difference.proofs.DifferenceLaws.{all_left}
 use Rattle.tpi_records.specs.Header.{first_index}
 use Rattle.type_difference.proofs.marks.names_marked.Goals as goal

@@ -2,7 +2,7 @@ use Rattle.std.proofs.Common.{◌≤◌, ◌+◌, map, length}
 use Rattle.std.specs.Prelude.{◌↔◌}
 use Rattle.std.specs.List.{AllByRecursion}
 use Rattle.cv_leaves.specs.References.{reference_at, references}
-use Rattle.closed_trees.specs.Types.{NamesThere}
+use Rattle.type_trees.specs.Types.{NamesThere}
 use Rattle.type_difference.specs.Marks.{NamesMarked}
 use Rattle.type_difference.proofs.marks.names_marked.Given as goal
 

@@ -1,7 +1,7 @@
 use Rattle.std.proofs.Common.{◌≡◌, ◌∙◌, ℕ, List, [], length, replicate, get_or, ap, subst, arith}
 use Rattle.cv_leaves.specs.Place.{IsChecked}
 use Rattle.cv_leaves.specs.References.{references}
-use Rattle.closed_trees.specs.Table.{AreNumbered}
+use Rattle.type_trees.specs.Table.{AreNumbered}
 use Rattle.type_table.specs.Merge.{IsPut}
 use Rattle.type_table.proofs.OrderedLaws.{all_zeros, adding_starts, adding_next, adding_checked, adding_numbered, adding_few, adding_more, all_added, added_numbers}
 use Rattle.type_table.proofs.adding.add_in_order.Goals as goal

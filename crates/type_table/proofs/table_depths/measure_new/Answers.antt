@@ -1,6 +1,6 @@
 use Rattle.std.proofs.Common.{◌≡◌, [], ◌∷◌, ◌≤◌, ◌+◌, get_or, length, arith, rules, length-append}
 use Rattle.cv_leaves.specs.References.{references}
-use Rattle.closed_trees.specs.Depth.{depth_above}
+use Rattle.type_trees.specs.Depth.{depth_above}
 use Rattle.type_table.proofs.AddLaws.{starts_same, starts_more}
 use Rattle.checked_types.proofs.CheckLaws.{names_lower}
 use Rattle.type_table.proofs.KeptLaws.{knows_more, depths_below}

@@ -1,5 +1,5 @@
 use Rattle.std.proofs.Common.{◌≡◌, length}
-use Rattle.closed_trees.specs.Depth.{KnowsDepths}
+use Rattle.type_trees.specs.Depth.{KnowsDepths}
 use Rattle.type_table.specs.Merge.{StartsWith}
 use Rattle.type_table.proofs.table_depths.measure_new.Given as goal
 

@@ -1,5 +1,5 @@
-use Rattle.closed_trees.proofs.TreeLaws.{tree_there}
-use Rattle.closed_trees.proofs.DepthLaws.{levels_counted}
+use Rattle.type_trees.proofs.TreeLaws.{tree_there}
+use Rattle.type_trees.proofs.DepthLaws.{levels_counted}
 use Rattle.checked_types.proofs.types.Types.levels.Goals as goal
 
 pub levels_of-requires : goal.levels_of-requires

@@ -2,7 +2,7 @@ use Rattle.std.proofs.Common.{◌≡◌, ◌∙◌, ◌+◌, ◌≤◌, [], get_
 use Rattle.type_table.proofs.CanonTableLaws.{taken_more, next_fits, canon_short, whole_taken}
 use Rattle.canonical_list.proofs.FinishLaws.{table_small}
 use Rattle.cv_leaves.specs.Place.{IsChecked}
-use Rattle.closed_trees.proofs.NamedLaws.{listed_short}
+use Rattle.type_trees.proofs.NamedLaws.{listed_short}
 use Rattle.type_table.proofs.KeptLaws.{knows_none}
 use Rattle.type_table.proofs.table.Table.from_canon.Goals as goal
 

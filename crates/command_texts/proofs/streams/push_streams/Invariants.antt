@@ -1,6 +1,0 @@
-use Rattle.std.proofs.Common.{◌≡◌, ◌++◌, drop, string_bytes}
-use Rattle.command_texts.specs.Streams.{stream_lines}
-use Rattle.command_texts.proofs.streams.push_streams.Given as goal
-
-abbrev pub invariant-loop-s : goal.invariant-loop-s
-invariant-loop-s g l = string_bytes l.text ++ stream_lines l.s (drop l.s l.layout.streams) ≡ string_bytes l.initial.text ++ stream_lines 0 l.layout.streams

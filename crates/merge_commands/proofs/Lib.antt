@@ -1,0 +1,5 @@
+pub mod ChangesLaws
+pub mod DifferenceLaws
+pub mod MapsLaws
+pub mod MergeLaws
+pub mod PlanLaws

@@ -1,0 +1,39 @@
+use Rattle.std.proofs.Common.{◌∙◌, sym}
+use Rattle.std.proofs.lemmas.Result.{err_from_is_err_and}
+use Rattle.type_changes.proofs.TypeLaws.{tells_changes}
+use Rattle.merge_commands.proofs.ChangesLaws.{shows_changes}
+use Rattle.merge_commands.proofs.DifferenceLaws.{both_read, one_accepted_before, refuses_inside, of_reading}
+use Rattle.merge_commands.proofs.changes.changes_text.Goals as goal
+
+pub returns-in_err-second-clause-own : goal.returns-in_err-second-clause-own
+returns-in_err-second-clause-own g c =
+    let known = g.I.Inputs.known c.args.inputs.now in
+    let p = err_from_is_err_and c.from_residual-in_err-second.result c.from_residual-in_err-second.ensures.1 in
+    let refuses = c.in_err-second.ensures.refuses (one_accepted_before known c.in_ok-first.first c.in_ok-first.ensures.value) in
+    rw (p.1, p.2) (of_reading c.in_err-second.field-0.0 refuses.named)
+
+pub returns-in_err-second-clause-refuses : goal.returns-in_err-second-clause-refuses
+returns-in_err-second-clause-refuses g c =
+    let known = g.I.Inputs.known c.args.inputs.now in
+    let p = err_from_is_err_and c.from_residual-in_err-second.result c.from_residual-in_err-second.ensures.1 in
+    let refuses = c.in_err-second.ensures.refuses (one_accepted_before known c.in_ok-first.first c.in_ok-first.ensures.value) in
+    rw p.1 (λ inner is. refuses_inside known c.in_err-second.field-0.0 inner refuses (sym p.2 ∙ is))
+
+pub returns-in_err-push_changes-clause-own : goal.returns-in_err-push_changes-clause-own
+returns-in_err-push_changes-clause-own g c =
+    let p = err_from_is_err_and c.from_residual-in_err-push_changes.result c.from_residual-in_err-push_changes.ensures.1 in
+    rw (p.1, p.2) (tt, λ is. cc)
+
+pub returns-clause-value : goal.returns-clause-value
+returns-clause-value g c =
+    let known = g.I.Inputs.known c.args.inputs.now in
+    let types = rw c.first.view_is at c.first.invariant.measured.types in
+    let other_types = rw c.second.view_is at c.second.invariant.measured.types in
+    let records = c.in_ok-first.first in
+    let others = c.in_ok-second.second in
+    let text = c.push_changes.new.text.items in
+    shows_changes known records others text types other_types c.in_ok-first.ensures.value c.in_ok-second.ensures.value
+    (tells_changes records others text types other_types (rw (c.new-text.ensures.items, c.index.ensures, c.index-2.ensures) at c.in_ok-push_changes.ensures))
+
+pub returns-clause-read : goal.returns-clause-read
+returns-clause-read g c = both_read (g.I.Inputs.known c.args.inputs.now) c.requires c.in_ok-second.ensures.read

@@ -1,0 +1,4 @@
+pub mod Changes
+pub mod Difference
+pub mod Merge
+pub mod Plan

@@ -1,0 +1,11 @@
+pub mod Check
+pub mod Fault
+pub mod Info
+pub mod Known
+pub mod Members
+pub mod Record
+pub mod Records
+pub mod Show
+pub mod Shown
+pub mod Streams
+pub mod Types

@@ -1,9 +1,0 @@
-use Rattle.std.proofs.Common.{◌≡◌, ◌++◌, List, take, drop, map}
-use Rattle.closed_trees.specs.Tree.{Tree}
-use Rattle.type_texts.specs.Asked.{AreTrees, answered}
-use Rattle.type_texts.proofs.definitions.find_asked.Given as goal
-
-abbrev pub invariant-loop-k : goal.invariant-loop-k
-invariant-loop-k g l = record {
-  so_far : (trees : List Tree) → AreTrees l.types trees → l.asked ≡ map (answered trees) (take l.k l.fn.asked) ++ drop l.k l.fn.asked;
-}

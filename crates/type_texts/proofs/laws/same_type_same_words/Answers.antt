@@ -1,5 +1,0 @@
-use Rattle.type_texts.proofs.TellLaws.{same_type_same_words as law}
-use Rattle.type_texts.proofs.laws.same_type_same_words.Goals as goal
-
-pub returns : goal.returns
-returns c = law
