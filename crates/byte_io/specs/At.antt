@@ -71,12 +71,7 @@ abbrev pub IfOf : {F : Type 0} → (F → Type 0) → AtFault F → Type 0
 IfOf P at.Read = Unit {0}
 IfOf P (at.Of fault) = P fault
 
--- the fault of what was read, as another fault
-abbrev pub map_of : {F G : Type 0} → (F → G) → AtFault F → AtFault G
-map_of other at.Read = at.Read
-map_of other (at.Of fault) = at.Of (other fault)
-
--- the same, with a fault of what was read that is made of this one
+-- a read that failed as well, or a fault of what was read that is made of this one
 abbrev pub WidensTo : {F G : Type 0} → (F → G → Type 0) → AtFault F → AtFault G → Type 0
 WidensTo gives at.Read wide = wide ≡ at.Read
 WidensTo {G = G} gives (at.Of fault) wide = (other : G) × gives fault other × (wide ≡ at.Of other)

@@ -22,7 +22,8 @@
 //!     let mut table = Table::with_hasher(rt.alloc(), folding());
 //!     table.add(rt.alloc(), &types, 1000)?;
 //!     drop(types);
-//!     let Ok(stream) = read_stream(rt.alloc(), &mut file.as_slice(), &mut buffer) else {
+//!     let mut input = file.as_slice();
+//!     let Ok(stream) = read_stream_within(rt.alloc(), &mut input, u32::MAX, &mut buffer) else {
 //!         return Err("no stream".into());
 //!     };
 //!     // each record names only earlier ones, so the records can be added as they stand

@@ -43,15 +43,17 @@ fn layout_within<R: ReadAt, A: Allocator + Copy>(
     }
 }
 
-/// Reads stream 2 of a file on the way to its types, as [`read_stream`] does, unless its
-/// directory or its stream 2 has more than `limit` bytes. Either may list a block many times, so it
-/// may be far longer than its file. `u32::MAX` is no limit.
+/// Reads stream 2 of a file on the way to its types, unless its directory or its stream 2 has more
+/// than `limit` bytes. Either may list a block many times, so it may be far longer than its file.
+/// `u32::MAX` is no limit. [`check_types`](crate::check_types) makes types of the stream: its bytes
+/// are not checked yet, but a file without the header of stream 1 is refused.
 ///
 /// `TooLong` comes for the directory after the faults of the superblock and before all others, and
 /// for stream 2 where the container is sound, before any fault of its streams. Nothing is reserved
-/// for the part then. The other faults are those of [`read_stream`].
-///
-/// [`read_stream`]: crate::read_stream
+/// for the part then. The other faults are those of [`read_types`](crate::read_types) that come before
+/// those of the bytes of stream 2, in the same order, and `AtFault::Read` where a read failed.
+/// `Memory` comes only where the container has no fault. The old bytes of the buffer have no effect.
+/// After a fault the buffer may be used again.
 pub fn read_stream_within<'a, 'b: 'a, R: Lend<'b>, A: Allocator + Copy>(
     alloc: A,
     input: &mut R,

@@ -68,8 +68,7 @@ impl<A: Allocator + Copy> Buffer<A> {
     {
         match contents_at(input, layout, TPI_STREAM, &mut self.bytes) {
             Ok(stream) => Ok(stream),
-            Err(AtFault::Of(fault)) => Err(AtFault::Of(PdbFault::from(fault))),
-            Err(AtFault::Read) => Err(AtFault::Read),
+            Err(fault) => Err(fault.widen()),
         }
     }
 
@@ -88,8 +87,7 @@ impl<A: Allocator + Copy> Buffer<A> {
     {
         match gather_at(input, layout, TPI_STREAM, &mut self.bytes) {
             Ok(stream) => Ok(stream),
-            Err(AtFault::Of(fault)) => Err(AtFault::Of(PdbFault::from(fault))),
-            Err(AtFault::Read) => Err(AtFault::Read),
+            Err(fault) => Err(fault.widen()),
         }
     }
 }

@@ -11,8 +11,8 @@
 //!   same buffer for the next file.
 //! - [`read_records_of`] and [`read_types_of`] read the type records and the types where the layout
 //!   of the file was read before.
-//! - [`read_stream`] reads stream 2 on the way to the types, and [`check_types`] makes types of it.
-//!   [`read_stream_within`] holds the directory and the stream against a limit.
+//! - [`read_stream_within`] reads stream 2 on the way to the types, and holds the directory and the
+//!   stream against a limit. [`check_types`] makes types of it.
 //! - [`PdbFault`] is the first fault on the way.
 //!
 //! What is proved: a file is read exactly if it is accepted (`IsAccepted` of `specs/Read`), unless
@@ -44,4 +44,4 @@ mod read;
 pub use bounded::read_stream_within;
 pub use buffer::Buffer;
 pub use fault::PdbFault;
-pub use read::{check_types, read_records_of, read_stream, read_types, read_types_of};
+pub use read::{check_types, read_records_of, read_types, read_types_of};

@@ -104,7 +104,7 @@ fn stream_of<'a, R: ReadAt, A: Allocator + Copy>(
 /// The faults are those of [`read_types`] that come before those of the bytes of stream 2, in the
 /// same order, and `AtFault::Read` where a read failed. `Memory` comes only where the container has
 /// no fault. The old bytes of the buffer have no effect. After a fault the buffer may be used again.
-pub fn read_stream<'a, 'b: 'a, R: Lend<'b>, A: Allocator + Copy>(
+fn read_stream<'a, 'b: 'a, R: Lend<'b>, A: Allocator + Copy>(
     alloc: A,
     input: &mut R,
     buffer: &'a mut Buffer<A>,

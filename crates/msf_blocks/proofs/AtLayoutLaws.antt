@@ -8,7 +8,7 @@ use Rattle.msf_blocks.proofs.LayoutLaws.{superblock_fault}
 use Rattle.msf_superblock.specs.Superblock.{Fields, IsSuperblock, superblock_checks}
 use Rattle.byte_io.specs.declared.limited.Limited.{Limited}
 use Rattle.byte_io.specs.declared.limited.Limited.TheVariants as within
-use Rattle.byte_io.specs.At.{map_of, Bytes, IfKnown, IfOf}
+use Rattle.byte_io.specs.At.{WidensTo, Bytes, IfKnown, IfOf}
 use Rattle.byte_io.specs.declared.at.AtFault.{AtFault}
 use Rattle.byte_io.specs.declared.at.AtFault.TheVariants as at
 use Rattle.msf_blocks.specs.Layout.{LayoutView, HasLayout, HasLongDirectory, HasWithinFault, layout_checks}
@@ -29,9 +29,9 @@ layout_wants bytes (Err (at.Of fault)) small first = λ file is layout has. elim
 -- ---- with a limit on the directory
 
 -- what holds of each fault of a container holds of it as a fault within a limit
-pub of_within : (P : MsfFault → Type 0) (Q : Limited MsfFault → Type 0) (fault : AtFault MsfFault) → ((inner : MsfFault) → P inner → Q (within.Of inner)) → IfOf P fault → IfOf Q (map_of within.Of fault)
-of_within P Q at.Read each is = tt
-of_within P Q (at.Of inner) each is = each inner is
+pub of_within : (P : MsfFault → Type 0) (Q : Limited MsfFault → Type 0) (fault : AtFault MsfFault) (wide : AtFault (Limited MsfFault)) → WidensTo (λ inner other. other ≡ within.Of inner) fault wide → ((inner : MsfFault) → P inner → Q (within.Of inner)) → IfOf P fault → IfOf Q wide
+of_within P Q at.Read wide widens each is = rw widens tt
+of_within P Q (at.Of inner) wide (other, gives, made) each is = rw (made, gives) (each inner is)
 
 -- a superblock with a fault says nothing of the directory
 pub within_superblock : (limit : ℕ) (file : List ℕ) (fault : MsfFault) → first_failing (superblock_checks file) ≡ Some fault → HasWithinFault limit file (within.Of fault)

@@ -4,7 +4,7 @@ ghost use Rattle.std.specs.Prelude.{true, false, ◌≡◌, ◌≤◌, ◌<◌, 
 ghost use Rattle.byte_fields.specs.Bytes.{AreBytes};
 ghost use Rattle.byte_fields.specs.Number.{nth_u32};
 ghost use Rattle.byte_fields.specs.Check.{Refuses, first_failing};
-ghost use Rattle.byte_io.specs.At.{IfKnown, IfOf, Reads, map_of};
+ghost use Rattle.byte_io.specs.At.{IfKnown, IfOf, Reads};
 ghost use Rattle.msf_superblock.specs.Superblock.{HasFront, HoldsBlocks, IsFit};
 ghost use Rattle.msf_blocks.specs.Directory.{list_start, listed_below, bytes_of};
 ghost use Rattle.msf_blocks.specs.Layout.{LayoutView, HasLayout, HasTexts, HasWithinFault, ListsLongStream, TextsRefuse, TextsRefuseWithin, IsLayout, block_of, layout_checks};
@@ -112,16 +112,6 @@ impl<A: Allocator + Copy> Layout<A> {
     }
 }
 
-/// A fault of a container whose directory is not too long.
-fn within(fault: AtFault<MsfFault>) -> AtFault<Limited<MsfFault>>
-    ensures { result ≡ map_of Limited.Of fault }
-{
-    match fault {
-        AtFault::Read => AtFault::Read,
-        AtFault::Of(fault) => AtFault::Of(Limited::Of(fault)),
-    }
-}
-
 /// Reads the layout of a container by position, whose superblock was read.
 fn layout_behind<R: ReadAt, A: Allocator + Copy>(
     alloc: A,
@@ -208,14 +198,14 @@ impl<A: Allocator + Copy> Layout<A> {
     {
         let superblock = match Superblock::read_at(input) {
             Ok(superblock) => superblock,
-            Err(fault) => return Err(within(fault)),
+            Err(fault) => return Err(fault.widen()),
         };
         if limit < superblock.directory_bytes() {
             return Err(AtFault::Of(Limited::TooLong));
         }
         match layout_behind(alloc, input, superblock) {
             Ok(layout) => Ok(layout),
-            Err(fault) => Err(within(fault)),
+            Err(fault) => Err(fault.widen()),
         }
     }
 }

@@ -11,7 +11,7 @@ use checked_types::Types;
 use command_line::push_paths;
 use cv_leaves::{list_places, places, ref_at, type_name};
 use error_help::page_of;
-use file_types::{Buffer, read_stream, read_types};
+use file_types::{Buffer, read_stream_within, read_types};
 use host_files::{InputFiles, Said};
 use merge_commands::run_diff;
 use msf_blocks::Layout;
@@ -225,7 +225,8 @@ fn types_in_canonical_order(rt: HostRuntime) -> Result<(), Fail> {
     let mut table = Table::with_hasher(rt.alloc(), folding());
     table.add(rt.alloc(), &types, 1000)?;
     drop(types);
-    let Ok(stream) = read_stream(rt.alloc(), &mut file.as_slice(), &mut buffer) else {
+    let mut input = file.as_slice();
+    let Ok(stream) = read_stream_within(rt.alloc(), &mut input, u32::MAX, &mut buffer) else {
         return Err("no stream".into());
     };
     // each record names only earlier ones, so the records can be added as they stand

@@ -5,7 +5,7 @@ use Rattle.msf_blocks.proofs.layout.Layout.read_within.Goals as goal
 
 pub returns-in-Err-clause-first : goal.returns-in-Err-clause-first
 returns-in-Err-clause-first g c =
-    rw c.within.ensures (of_within _ _ c.in-Err.fault (λ inner first file known. within_superblock c.args.limit file inner (first file known)) c.in-Err.ensures.first)
+    of_within _ _ c.in-Err.fault c.widen.result c.widen.ensures (λ inner first file known. within_superblock c.args.limit file inner (first file known)) c.in-Err.ensures.first
 
 pub returns-in-Ok-layout_behind-clause-value : goal.returns-in-Ok-layout_behind-clause-value
 returns-in-Ok-layout_behind-clause-value g c = λ file known. layout_known file _ (rw (c.read_at.ensures.reads.keeps ∙ known) at c.in-Ok-layout_behind.ensures.texts)
@@ -14,10 +14,9 @@ pub returns-in-Err-layout_behind-clause-first : goal.returns-in-Err-layout_behin
 returns-in-Err-layout_behind-clause-first g c =
     let s = c.in-Ok.ensures in
     let short : c.in-Ok.superblock.directory_bytes ≤ c.args.limit = omega (arith, c.if-limit-directory_bytes.false, c.directory_bytes.ensures.value) in
-    rw c.within-in-Err-layout_behind.ensures
-    (of_within _ _ c.in-Err-layout_behind.fault (λ inner refused file known. (short_directory c.args.limit file c.in-Ok.superblock (s.value file known) short, fault_known file inner (rw (s.reads.keeps ∙ known) at refused)))
-    c.in-Err-layout_behind.ensures.refused)
+    of_within _ _ c.in-Err-layout_behind.fault c.widen-in-Err-layout_behind.result c.widen-in-Err-layout_behind.ensures (λ inner refused file known. (short_directory c.args.limit file c.in-Ok.superblock (s.value file known) short, fault_known file inner (rw (s.reads.keeps ∙ known) at refused)))
+    c.in-Err-layout_behind.ensures.refused
 
 pub returns-in-Err-layout_behind-clause-refused : goal.returns-in-Err-layout_behind-clause-refused
 returns-in-Err-layout_behind-clause-refused g c =
-    rw c.within-in-Err-layout_behind.ensures (of_within _ _ c.in-Err-layout_behind.fault (λ inner refused. rw c.read_at.ensures.reads.keeps at refused) c.in-Err-layout_behind.ensures.refused)
+    of_within _ _ c.in-Err-layout_behind.fault c.widen-in-Err-layout_behind.result c.widen-in-Err-layout_behind.ensures (λ inner refused. rw c.read_at.ensures.reads.keeps at refused) c.in-Err-layout_behind.ensures.refused
