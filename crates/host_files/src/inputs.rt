@@ -95,16 +95,16 @@ impl<'a, R: Files + AllocGlobal> InputFiles<'a, R> {
         open_within(self.rt, self.path(input)?, self.max_bytes, self.said)
     }
 
-    /// Reads a file that is open to its end. `length` is what the system says that the file has.
+    /// Reads a file that is open to its end. `told` is how many bytes the system says that it has.
     fn read_whole<'b, A: Allocator>(
         &self,
         file: Giver<'a, R::File>,
-        length: Option<u64>,
+        told: Option<u64>,
         buffer: &'b mut Vec<u8, A>,
     ) -> Result<&'b [u8], InputFault>
         ensures { IfOk result (λ bytes. length bytes.now ≤ self.now.max_bytes) }
     {
-        let length = u32::try_from(length.unwrap_or(0)).unwrap_or(0) as usize;
+        let length = u32::try_from(told.unwrap_or(0)).unwrap_or(0) as usize;
         buffer.clear();
         // One allocation serves a whole file, and later files of at most its length. The last byte
         // is room in which the end of the file is seen.

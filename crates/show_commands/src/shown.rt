@@ -233,6 +233,7 @@ pub fn run_shown<I: Inputs, W: Sink, A: Allocator + Copy>(
         ⊎ (out.new ≡ out.old)) }
 {
     let shown = Within { command, limit };
+    // Each path puts its own text, so that a clause speaks of the bytes that it is of.
     let text = match shown.text_of_part(alloc, inputs) {
         Ok(text) => text,
         Err(AtFault::Of(fault)) => return Err(fault),

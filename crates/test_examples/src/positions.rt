@@ -6,12 +6,13 @@ ghost use Rattle.byte_io.specs.Inputs.{untold};
 use byte_io::{InputFault, Inputs, Opened, Out};
 use run_options::Shown;
 use show_commands::{RunFault, run_shown};
-use std::alloc::{Allocator, Global};
+use std::alloc::{AllocError, Allocator, Global};
 use std::test::Fail;
-use test_samples::{Positions, pdb_with, pointer, sample};
+use test_samples::{Positions, pdb_with, pointer, put, sample};
 
 /// One file, of which a read by position fails. It has other bytes where it is read whole, so that
 /// these can be told apart.
+#[derive(Drop)]
 struct Changing<'f> {
     file: &'f [u8],
     fails_at: usize,
@@ -61,6 +62,23 @@ fn given<I: Inputs>(alloc: Global, command: Shown, inputs: &I) -> (Result<(), Ru
     (answer, text)
 }
 
+/// A file that differs from the sample in all that a command shows: in its records, its streams and its
+/// age.
+fn other_file(alloc: Global) -> Result<Vec<u8>, AllocError> {
+    let mut file = pdb_with(alloc, &[&pointer(0x40)])?;
+    for at in 0..file.len() {
+        let is_header = match file.get(at..) {
+            // the version, the signature and the age
+            Some(rest) => rest.starts_with(b"\x94\x2e\x31\x01\0\0\0\0\x01"),
+            None => false,
+        };
+        if is_header {
+            put(&mut file, at.saturating_add(8), &[7]);
+        }
+    }
+    Ok(file)
+}
+
 const SHOWN: [Shown; 6] = [
     Shown::Records,
     Shown::Record(0x1000),
@@ -73,7 +91,7 @@ const SHOWN: [Shown; 6] = [
 #[test]
 fn after_a_read_that_fails_the_file_is_read_whole(rt: HostRuntime) -> Result<(), Fail> {
     let file = sample(rt.alloc())?;
-    let other = pdb_with(rt.alloc(), &[&pointer(0x74)])?;
+    let other = other_file(rt.alloc())?;
     for command in SHOWN {
         let (first, text) = given(rt.alloc(), command, &[file.as_slice()].as_slice());
         let (second, other_text) = given(rt.alloc(), command, &[other.as_slice()].as_slice());
