@@ -5,11 +5,16 @@ from small_files import CLASS, DECLARED, ENUMERATION, INTERFACE, STRUCTURE, UNIO
 
 # The names of simple types, by their kinds.
 SIMPLE = {
-    0x00: 'no type', 0x03: 'void', 0x07: 'type not translated', 0x08: 'HRESULT', 0x10: 'signed char', 0x11: 'short',
-    0x12: 'long', 0x13: '__int64', 0x14: '__int128', 0x20: 'unsigned char', 0x21: 'unsigned short',
-    0x22: 'unsigned long', 0x23: 'unsigned __int64', 0x24: 'unsigned __int128', 0x30: 'bool', 0x31: '__bool16',
-    0x32: '__bool32', 0x33: '__bool64', 0x40: 'float', 0x41: 'double', 0x42: 'long double', 0x43: '__float128',
-    0x46: '__half', 0x68: '__int8', 0x69: 'unsigned __int8', 0x70: 'char', 0x71: 'wchar_t', 0x72: '__int16',
+    0x00: 'no type', 0x01: 'absolute symbol', 0x02: 'segment', 0x03: 'void', 0x04: 'currency',
+    0x05: 'near BASIC string', 0x06: 'far BASIC string', 0x07: 'type not translated', 0x08: 'HRESULT',
+    0x10: 'signed char', 0x11: 'short', 0x12: 'long', 0x13: '__int64', 0x14: '__int128', 0x20: 'unsigned char',
+    0x21: 'unsigned short', 0x22: 'unsigned long', 0x23: 'unsigned __int64', 0x24: 'unsigned __int128', 0x30: 'bool',
+    0x31: '__bool16', 0x32: '__bool32', 0x33: '__bool64', 0x34: '__bool128', 0x40: 'float', 0x41: 'double',
+    0x42: 'long double', 0x43: '__float128', 0x44: '__float48', 0x45: 'float of less precision', 0x46: '__half',
+    0x50: 'complex float', 0x51: 'complex double', 0x52: 'complex long double', 0x53: 'complex __float128',
+    0x54: 'complex __float48', 0x55: 'complex float of less precision', 0x56: 'complex __half', 0x60: 'bit',
+    0x61: 'Pascal char', 0x62: '__bool32ff', 0x68: '__int8', 0x69: 'unsigned __int8', 0x70: 'char',
+    0x71: 'wchar_t', 0x72: '__int16',
     0x73: 'unsigned __int16', 0x74: 'int', 0x75: 'unsigned int', 0x76: 'int64_t', 0x77: 'uint64_t',
     0x78: 'int128_t', 0x79: 'uint128_t', 0x7A: 'char16_t', 0x7B: 'char32_t', 0x7C: 'char8_t',
 }
@@ -21,7 +26,12 @@ NUMERIC = {0x8000: 'b', 0x8001: 'h', 0x8002: 'H', 0x8003: 'i', 0x8004: 'I', 0x80
 ACCESS = {1: 'private ', 2: 'protected '}
 METHODS = {1: 'virtual method', 2: 'static method', 3: 'friend method', 4: 'new virtual method',
            5: 'pure virtual method', 6: 'new pure virtual method'}
-POINTERS = {1: 'reference to ', 2: 'pointer to member of ', 3: 'pointer to method of ', 4: 'rvalue reference to '}
+POINTERS = {0: 'pointer to ', 1: 'reference to ', 2: 'pointer to member of ', 3: 'pointer to method of ', 4: 'rvalue reference to '}
+# The words before the name of a simple type, by its mode.
+MODES = ('', 'near pointer to ', 'far pointer to ', 'huge pointer to ', 'pointer to ', 'far pointer of 48 bits to ', 'pointer to ',
+         'pointer of 128 bits to ')
+# The bits of the attributes of a pointer that are told.
+FLAGS = {10: 'const ', 9: 'volatile ', 11: 'unaligned ', 12: 'restrict '}
 # How deep an expression is told, and how many bytes it has at most.
 DEEP, LONG = 8, 400
 
@@ -136,7 +146,8 @@ class Expression:
             self.tell_parts(body, deep, ''.join(word * (flags >> bit & 1) for bit, word in enumerate(('const ', 'volatile ', 'unaligned '))), 0)
         elif kind == 0x1002:
             mode = flags >> 5 & 7
-            self.put('const ' * (flags >> 10 & 1) + 'volatile ' * (flags >> 9 & 1) + POINTERS.get(mode, 'pointer to '))
+            said = ''.join(word for bit, word in FLAGS.items() if flags >> bit & 1)
+            self.put(said + POINTERS.get(mode, f'pointer of mode {mode} to '))
             self.tell_parts(body, deep, *([8, ', ', 0] if mode in (2, 3) else [0]))
         elif kind == 0x1008:
             self.tell_parts(body, deep, 'function ', 8, ' giving ', 0)
@@ -159,9 +170,11 @@ class Expression:
 def simple(index):
     """The words of a simple type."""
     name, mode = SIMPLE.get(index % 256), index // 256
-    if name is None:
+    if index == 0x103:
+        return 'nullptr_t'
+    if name is None or mode >= len(MODES):
         return f'0x{index:03x}'
-    return {0: '', 4: 'pointer to ', 6: 'pointer to '}.get(mode, 'far pointer to ') + name
+    return MODES[mode] + name
 
 
 def introduces(attributes):

@@ -24,18 +24,22 @@ modifier_words body =
 -- the words of a mode of pointers
 unfoldable pub pointer_mode_words : ℕ → List ℕ
 pointer_mode_words mode =
-    if mode == 1 then codes "reference to "
+    if mode == 0 then codes "pointer to "
+    else if mode == 1 then codes "reference to "
     else if mode == 2 then codes "pointer to member of "
     else if mode == 3 then codes "pointer to method of "
     else if mode == 4 then codes "rvalue reference to "
-    else codes "pointer to "
+    else if mode == 5 then codes "pointer of mode 5 to "
+    else if mode == 6 then codes "pointer of mode 6 to "
+    else codes "pointer of mode 7 to "
 
--- the words of a pointer: bit 9 of its attributes is volatile, bit 10 const;
--- bits 5 to 7 are its mode
+-- the words of a pointer: bit 9 of its attributes is volatile, bit 10 const, bit 11 unaligned and
+-- bit 12 restrict; bits 5 to 7 are its mode
 unfoldable pub pointer_words : List ℕ → List ℕ
 pointer_words body =
     let flags = number_in 4 body 4 in
     if_bit (flags / 1024) (codes "const ") ++ if_bit (flags / 512) (codes "volatile ")
+    ++ if_bit (flags / 2048) (codes "unaligned ") ++ if_bit (flags / 4096) (codes "restrict ")
     ++ pointer_mode_words (flags / 32 % 8)
 
 -- the bits of a bit field: which is the first, and which is the last

@@ -1,10 +1,13 @@
 //! The names of simple types.
 
 ghost use Rattle.std.specs.Prelude.{◌≡◌, ◌≤◌, ◌<◌, ◌++◌, OnOk, option_map, length, take};
-ghost use Rattle.type_expressions.specs.Simple.{simple_name, simple_mode_words, simple_words};
+ghost use Rattle.type_expressions.specs.Simple.{simple_name, simple_mode_words, simple_parts, simple_words};
 
 use output_words::bounded::{digit, push};
 use std::alloc::{AllocError, Allocator};
+
+/// The type of `nullptr`.
+const NULLPTR: u32 = 0x103;
 
 /// The name of a kind of simple type.
 #[tactic(auto, unfolding(crate::specs::Simple::simple_name))]
@@ -13,7 +16,12 @@ fn simple_name(kind: u8) -> Option<&'static str>
 {
     Some(match kind {
         0x00 => "no type",
+        0x01 => "absolute symbol",
+        0x02 => "segment",
         0x03 => "void",
+        0x04 => "currency",
+        0x05 => "near BASIC string",
+        0x06 => "far BASIC string",
         0x07 => "type not translated",
         0x08 => "HRESULT",
         0x10 => "signed char",
@@ -30,11 +38,24 @@ fn simple_name(kind: u8) -> Option<&'static str>
         0x31 => "__bool16",
         0x32 => "__bool32",
         0x33 => "__bool64",
+        0x34 => "__bool128",
         0x40 => "float",
         0x41 => "double",
         0x42 => "long double",
         0x43 => "__float128",
+        0x44 => "__float48",
+        0x45 => "float of less precision",
         0x46 => "__half",
+        0x50 => "complex float",
+        0x51 => "complex double",
+        0x52 => "complex long double",
+        0x53 => "complex __float128",
+        0x54 => "complex __float48",
+        0x55 => "complex float of less precision",
+        0x56 => "complex __half",
+        0x60 => "bit",
+        0x61 => "Pascal char",
+        0x62 => "__bool32ff",
         0x68 => "__int8",
         0x69 => "unsigned __int8",
         0x70 => "char",
@@ -56,18 +77,38 @@ fn simple_name(kind: u8) -> Option<&'static str>
 
 /// The words before the name of a simple type, by its mode.
 #[tactic(auto, unfolding(crate::specs::Simple::simple_mode_words))]
-fn simple_mode_words(mode: u32) -> &'static str
-    ensures { result.now ≡ simple_mode_words mode }
+fn simple_mode_words(mode: u32) -> Option<&'static str>
+    ensures { option_map (λ words. words.now) result ≡ simple_mode_words mode }
 {
-    match mode {
+    Some(match mode {
         0 => "",
+        1 => "near pointer to ",
+        2 => "far pointer to ",
+        3 => "huge pointer to ",
+        5 => "far pointer of 48 bits to ",
+        7 => "pointer of 128 bits to ",
         4 | 6 => "pointer to ",
-        _ => "far pointer to ",
-    }
+        _ => return None,
+    })
 }
 
-/// Appends the words of a simple type: its name, or its number where the table lacks its kind.
-/// `nothing` stands for no type.
+/// The words of a simple type, but for its number where the tables lack it: those before its name,
+/// and its name.
+#[tactic(auto, unfolding(crate::specs::Simple::simple_parts))]
+fn simple_parts(index: u32) -> Option<(&'static str, &'static str)>
+    ensures { option_map (λ parts. (parts.0.now, parts.1.now)) result ≡ simple_parts index }
+{
+    if index == NULLPTR {
+        return Some(("", "nullptr_t"));
+    }
+    Some((
+        simple_mode_words(index / 256)?,
+        simple_name((index % 256) as u8)?,
+    ))
+}
+
+/// Appends the words of a simple type: its name, or its number where the tables lack its kind or its
+/// mode. `nothing` stands for no type.
 #[tactic(auto, using(output_words::proofs::TakeLaws::take_more), unfolding(crate::specs::Simple::simple_words, crate::specs::Simple::simple_text))]
 pub fn push_simple<A: Allocator>(
     text: &mut Vec<u8, A>,
@@ -84,9 +125,9 @@ pub fn push_simple<A: Allocator>(
     if index == 0 {
         return push(text, end, nothing);
     }
-    match simple_name((index % 256) as u8) {
-        Some(name) => {
-            push(text, end, simple_mode_words(index / 256).as_bytes())?;
+    match simple_parts(index) {
+        Some((mode, name)) => {
+            push(text, end, mode.as_bytes())?;
             push(text, end, name.as_bytes())
         }
         None => push(

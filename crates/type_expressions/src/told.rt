@@ -52,11 +52,15 @@ fn pointer_mode_words(mode: u32) -> &'static str
     ensures { result.now ≡ pointer_mode_words mode }
 {
     match mode {
+        0 => "pointer to ",
         1 => "reference to ",
         2 => "pointer to member of ",
         3 => "pointer to method of ",
         4 => "rvalue reference to ",
-        _ => "pointer to ",
+        5 => "pointer of mode 5 to ",
+        6 => "pointer of mode 6 to ",
+        // A mode has three bits.
+        _ => "pointer of mode 7 to ",
     }
 }
 
@@ -75,6 +79,8 @@ pub fn push_pointer<A: Allocator>(
     let flags = u32_in(body, 4);
     push_if(text, end, flags / 1024, b"const ")?;
     push_if(text, end, flags / 512, b"volatile ")?;
+    push_if(text, end, flags / 2048, b"unaligned ")?;
+    push_if(text, end, flags / 4096, b"restrict ")?;
     push(text, end, pointer_mode_words(flags / 32 % 8).as_bytes())
 }
 
